@@ -1,0 +1,19 @@
+//! The types that every crate speaks: sites, virtual machines, events and answers, calls and replies,
+//! the rows of tables, and the ranges that each keeps.
+#![tactic(auto)]
+
+pub mod call;
+pub mod config;
+pub mod event;
+pub mod level;
+pub mod rows;
+pub mod table;
+pub mod vm;
+
+pub use call::{Call, Line, PageState, Reply, Said, Stand, Sum};
+pub use config::{CALLERS, Config, MAX_FRAMES, MAX_NODES, MAX_SLOTS, VM_NUMBERS};
+pub use event::{Answer, Event, Refusal};
+pub use level::Level;
+pub use rows::{Bytes, Rows};
+pub use table::{FrameRow, MapRow, SlotRow};
+pub use vm::{VmId, VmSpec, VmState};
