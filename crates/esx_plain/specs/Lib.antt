@@ -1,0 +1,11 @@
+pub mod Key
+pub mod Average
+pub mod Level
+pub mod Site
+pub mod Step
+pub mod Show
+pub mod Replay
+pub mod Sound
+pub mod Readings
+pub mod History
+pub mod Console
