@@ -4,7 +4,10 @@
 
 pub mod call;
 pub mod config;
+pub mod counts;
+pub mod ends;
 pub mod event;
+pub mod ids;
 pub mod level;
 pub mod rows;
 pub mod table;
@@ -12,7 +15,12 @@ pub mod vm;
 
 pub use call::{Call, Line, PageState, Reply, Said, Stand, Sum};
 pub use config::{CALLERS, Config, MAX_FRAMES, MAX_NODES, MAX_SLOTS, VM_NUMBERS};
+pub use counts::Counts;
+pub use ends::{
+    MemorySink, MemorySource, ReadSource, Sink, SinkFailed, Source, SourceFailed, WriteSink,
+};
 pub use event::{Answer, Event, Refusal};
+pub use ids::Ids;
 pub use level::Level;
 pub use rows::{Bytes, Rows};
 pub use table::{FrameRow, MapRow, SlotRow};
