@@ -1,8 +1,13 @@
 -- Sampled activity (Waldspurger, "Measuring Idle Memory"): averages in units of 1/65,536, over the estimates of closed periods.
-use Rattle.std.specs.Prelude.{ℕ, ◌+◌, ◌*◌, ◌/◌, max, Bool, ◌==◌, List, [], ◌∷◌, length, fold, count_by, Option, Some, None}
+use Rattle.std.specs.Prelude.{ℕ, ◌≤◌, ◌+◌, ◌*◌, ◌/◌, max, Bool, ◌==◌, List, length, fold, count_by, Option, Some, None}
 use Rattle.std.specs.List.{list_any}
 use Rattle.esx_plain.specs.declared.scene.Estimate.{Estimate}
 use Rattle.esx_plain.specs.declared.scene.Period.{Period}
+
+-- no more pages were touched than sampled, and there were some
+pub record IsEstimate (e : Estimate) : Type 0 where
+  pub some : 1 ≤ e.pages
+  pub within : e.touched ≤ e.pages
 
 -- the share of the sampled pages that were touched
 abbrev pub touched_share : Estimate → ℕ

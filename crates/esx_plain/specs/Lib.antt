@@ -9,3 +9,5 @@ pub mod Sound
 pub mod Readings
 pub mod History
 pub mod Console
+pub mod Access
+pub mod Shown

@@ -1,5 +1,5 @@
 -- What questions read from the tables.
-use Rattle.std.specs.Prelude.{ℕ, Bool, true, false, ◌&&◌, ◌==◌, nat_le, List, Option, Some, None, slice_index_or, count_by, if◌then◌else◌, Result, Ok, Err}
+use Rattle.std.specs.Prelude.{◌≡◌, ℕ, ◌+◌, Bool, true, false, ◌&&◌, ◌==◌, nat_le, Option, Some, None, slice_index_or, count_by, if◌then◌else◌, Result, Ok, Err}
 use Rattle.std.specs.List.{list_any}
 use Rattle.esx_types.specs.declared.event.Refusal.{Refusal}
 use Rattle.esx_types.specs.declared.event.Refusal.TheVariants.{NoVm, OutOfRange}
@@ -39,8 +39,17 @@ is_free (Shared count bytes) = false
 
 -- how many frames are of each kind, and the level
 unfoldable pub sum_of : Book → Sum
-sum_of b = record { overhead = count_by is_overhead b.frames; private = count_by is_private b.frames; shared = count_by is_shared b.frames;
-  free = count_by is_free b.frames; level = b.level }
+sum_of b = record {
+  overhead = count_by is_overhead b.frames;
+  private = count_by is_private b.frames;
+  shared = count_by is_shared b.frames;
+  free = count_by is_free b.frames;
+  level = b.level;
+}
+
+-- the frames of all kinds are so many
+abbrev pub AddUpTo : ℕ → Sum → Type 0
+AddUpTo frames s = s.overhead + s.private + s.shared + s.free ≡ frames
 
 -- some hint names the page
 abbrev pub is_hint : Book → ℕ → ℕ → Bool

@@ -1,5 +1,5 @@
 -- Whole paths: the scene that a path leads to.
-use Rattle.std.specs.Prelude.{◌≡◌, ◌≢◌, ℕ, ◌+◌, List, [], ◌∷◌, ◌++◌, Option, None, replicate, Result, Ok, Err}
+use Rattle.std.specs.Prelude.{◌≡◌, ◌≢◌, ℕ, ◌+◌, List, [], ◌∷◌, None, replicate, Result, Ok, Err}
 use Rattle.esx_types.specs.declared.config.Config.{Config}
 use Rattle.esx_types.specs.declared.config.TheConstants.{VM_NUMBERS}
 use Rattle.esx_types.specs.declared.level.Level.{Level}
@@ -7,8 +7,7 @@ use Rattle.esx_types.specs.declared.level.Level.TheVariants.{High}
 use Rattle.esx_types.specs.declared.event.Event.{Event}
 use Rattle.esx_types.specs.declared.event.Answer.{Answer}
 use Rattle.esx_types.specs.declared.event.Refusal.{Refusal}
-use Rattle.esx_types.specs.declared.event.Refusal.TheVariants.{NoVm, VmThere, BadSpec, NoMemoryReserve, NoSwapReserve, NotRunning, OutOfRange, Held, Short, NotNeeded, OutOfMemory}
-use Rattle.esx_plain.specs.declared.scene.Site.{Site}
+use Rattle.esx_types.specs.declared.event.Refusal.TheVariants.{OutOfMemory}
 use Rattle.esx_plain.specs.declared.scene.Scene.{Scene}
 use Rattle.esx_plain.specs.declared.fault.PlainFault.{PlainFault}
 use Rattle.esx_plain.specs.declared.fault.PlainFault.TheVariants as faults

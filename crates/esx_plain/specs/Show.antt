@@ -1,5 +1,5 @@
 -- The tables that show a site.
-use Rattle.std.specs.Prelude.{◌≡◌, ℕ, ◌+◌, Bool, true, false, ◌==◌, nat_le, List, [], ◌∷◌, length, map, Option, Some, None, option_map, filter, if◌then◌else◌}
+use Rattle.std.specs.Prelude.{ℕ, ◌+◌, Bool, true, false, ◌==◌, nat_le, List, [], ◌∷◌, length, map, Option, Some, None, option_map, filter, if◌then◌else◌}
 use Rattle.std.specs.List.{list_any, flat_map, range_with_len}
 use Rattle.esx_types.specs.declared.config.Config.{Config}
 use Rattle.esx_types.specs.declared.level.Level.{Level}
@@ -15,7 +15,6 @@ use Rattle.esx_plain.specs.declared.scene.Period.{Period}
 use Rattle.esx_plain.specs.declared.scene.Vm.{Vm}
 use Rattle.esx_plain.specs.declared.scene.Site.{Site}
 use Rattle.esx_plain.specs.declared.scene.Scene.{Scene}
-use Rattle.esx_plain.specs.declared.book.Mark.{Mark}
 use Rattle.esx_plain.specs.declared.book.PeriodRow.{PeriodRow}
 use Rattle.esx_plain.specs.declared.book.VmRow.{VmRow}
 use Rattle.esx_plain.specs.declared.book.KeyRow.{KeyRow}
@@ -83,8 +82,18 @@ abbrev pub period_row : Period → PeriodRow
 period_row p = record { length = p.length; done = length p.accessed; marks = map (λ page. record { page = page; touched = is_touched p page }) p.pages }
 
 abbrev pub vm_row : Vm → VmRow
-vm_row v = record { spec = v.spec; state = v.state; epoch = v.epoch; due = v.due; target = v.target; overhead = v.overhead; pages = map (map_row v.epoch) v.places;
-  slow = slow_average v.closed; fast = fast_average v.closed; period = option_map period_row v.period }
+vm_row v = record {
+  spec = v.spec;
+  state = v.state;
+  epoch = v.epoch;
+  due = v.due;
+  target = v.target;
+  overhead = v.overhead;
+  pages = map (map_row v.epoch) v.places;
+  slow = slow_average v.closed;
+  fast = fast_average v.closed;
+  period = option_map period_row v.period;
+}
 
 abbrev pub vm_rows : List (Option Vm) → List (Option VmRow)
 vm_rows vms = map (option_map vm_row) vms
@@ -112,8 +121,15 @@ unfoldable pub shared_rows : List FrameRow → List KeyRow
 shared_rows rows = shared_from 0 rows
 
 abbrev pub book_of : Config → Site → Level → Book
-book_of c s level = record { frames = frame_rows c.frames s; slots = slot_rows c.slots s; vms = vm_rows s.vms; hints = s.hints;
-  shared = shared_rows (frame_rows c.frames s); tau = s.tau; level = level }
+book_of c s level = record {
+  frames = frame_rows c.frames s;
+  slots = slot_rows c.slots s;
+  vms = vm_rows s.vms;
+  hints = s.hints;
+  shared = shared_rows (frame_rows c.frames s);
+  tau = s.tau;
+  level = level;
+}
 
 -- the tables of a scene
 abbrev pub shown : Config → Scene → Book

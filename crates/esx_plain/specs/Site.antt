@@ -1,7 +1,6 @@
 -- Sites: what names a frame, what is free, what is reserved.
-use Rattle.std.specs.Prelude.{◌≡◌, ℕ, ◌+◌, ◌-◌, Bool, true, false, ◌||◌, not, ◌==◌, List, [], ◌∷◌, length, Option, Some, None, slice_index_or, slice_set, sum_by, count_by, find, filter, replicate, if◌then◌else◌, option_and_then}
-use Rattle.std.specs.List.{list_any, flat_map, range_with_len}
-use Rattle.esx_types.specs.declared.vm.VmSpec.{VmSpec}
+use Rattle.std.specs.Prelude.{ℕ, ◌+◌, ◌-◌, Bool, true, false, ◌||◌, not, ◌==◌, Option, Some, None, slice_index_or, slice_set, sum_by, count_by, find}
+use Rattle.std.specs.List.{list_any, range_with_len}
 use Rattle.esx_plain.specs.declared.scene.Place.{Place}
 use Rattle.esx_plain.specs.declared.scene.Place.TheVariants.{Untouched, Here, Out, Lent}
 use Rattle.esx_plain.specs.declared.scene.Vm.{Vm}

@@ -1,5 +1,5 @@
 -- What every site on a path keeps.
-use Rattle.std.specs.Prelude.{◌≡◌, ℕ, ◌+◌, ◌≤◌, ◌<◌, Bool, true, false, ◌==◌, List, [], ◌∷◌, length, Option, Some, None, filter, All}
+use Rattle.std.specs.Prelude.{◌≡◌, ℕ, ◌≤◌, ◌<◌, true, false, ◌==◌, List, [], ◌∷◌, length, Some, None, filter}
 use Rattle.std.specs.List.{AllByRecursion}
 use Rattle.std.specs.List.{list_any}
 use Rattle.esx_types.specs.declared.config.Config.{Config}
@@ -9,8 +9,7 @@ use Rattle.esx_types.specs.declared.event.Event.{Event}
 use Rattle.esx_types.specs.declared.event.Event.TheVariants.{Admit, Start, Read, Write}
 use Rattle.esx_plain.specs.declared.scene.Place.{Place}
 use Rattle.esx_plain.specs.declared.scene.Place.TheVariants.{Untouched, Here, Out, Lent}
-use Rattle.esx_types.specs.declared.vm.VmState.{VmState}
-use Rattle.esx_types.specs.declared.vm.VmState.TheVariants.{Starting, Running, Stopping}
+use Rattle.esx_types.specs.declared.vm.VmState.TheVariants.{Starting}
 use Rattle.esx_plain.specs.declared.scene.Vm.{Vm}
 use Rattle.esx_plain.specs.declared.scene.Site.{Site}
 use Rattle.esx_plain.specs.Site.{is_here_at, vm_at, memory_reserved, swap_reserved}
@@ -30,6 +29,8 @@ pub record IsVm (c : Config) (v : Vm) : Type 0 where
   pub held : length v.overhead ≤ v.spec.overhead
   pub starting : v.state ≡ Starting → length v.overhead < v.spec.overhead
   pub places : AllByRecursion (IsPlace c) v.places
+  pub closed : v.closed ≡ []
+  pub period : v.period ≡ None
 
 -- Pages in one frame have equal bytes and the same mark, and a private frame has one page.
 abbrev pub AreAlike : List Place → Type 0
@@ -50,8 +51,9 @@ pub record IsSound (c : Config) (s : Site) : Type 0 where
   pub swap : swap_reserved s ≤ c.slots
   pub alike : (f : ℕ) → AreAlike (pages_in s f)
   pub apart : (f : ℕ) → list_any (λ g. g == f) (all_overhead s) ≡ true → pages_in s f ≡ []
+  pub hints : s.hints ≡ []
 
--- each event names a machine by a number below 32
+-- each event names a machine by a number that there is
 abbrev pub NamesVm : Event → Type 0
 NamesVm (Admit n spec) = n < VM_NUMBERS
 NamesVm (Start n) = n < VM_NUMBERS

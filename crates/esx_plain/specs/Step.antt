@@ -1,7 +1,6 @@
 -- What an event does, and what it answers, or the first refusal that applies.
 -- Admission is Waldspurger's "Admission Control", the way a page comes into a frame his "Memory Virtualization", copy on write his "Content-Based Page Sharing".
-use Rattle.std.specs.Prelude.{◌≡◌, ◌≢◌, ℕ, ◌+◌, ◌-◌, Bool, true, false, ◌||◌, ◌&&◌, not, ◌==◌, nat_lt, nat_le, List, [], ◌∷◌, ◌++◌, length, take, drop, Option, Some, None, is_some, slice_index_or, slice_set, replicate, if◌then◌else◌, Result, Ok, Err, option_map, count_by, sum_by}
-use Rattle.std.specs.List.{flat_map}
+use Rattle.std.specs.Prelude.{◌≡◌, ◌≢◌, ℕ, ◌+◌, ◌-◌, Bool, true, false, ◌||◌, ◌&&◌, not, ◌==◌, nat_lt, nat_le, List, [], ◌∷◌, ◌++◌, length, take, drop, Option, Some, None, is_some, slice_index_or, slice_set, replicate, if◌then◌else◌, Result, Ok, Err, count_by, sum_by}
 use Rattle.esx_types.specs.declared.vm.VmSpec.{VmSpec}
 use Rattle.esx_types.specs.declared.config.Config.{Config}
 use Rattle.esx_types.specs.Ranges.{is_good}

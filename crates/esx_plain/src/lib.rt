@@ -2,10 +2,22 @@
 //! them word for word.
 #![tactic(auto)]
 
+mod average;
 pub mod book;
 pub mod fault;
+mod keys;
+pub mod law;
+mod level;
+mod machines;
+mod path;
+mod query;
 pub mod scene;
+mod show;
+mod step;
+#[cfg(test)]
+mod tests;
 
 pub use book::{Book, KeyRow, Mark, PeriodRow, VmRow};
 pub use fault::PlainFault;
+pub use path::replay;
 pub use scene::{Estimate, Hint, Period, Place, Scene, Site, Vm};

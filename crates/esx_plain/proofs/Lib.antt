@@ -1,0 +1,12 @@
+pub mod Changes
+pub mod SoundSteps
+pub mod Moves
+pub mod Laws
+pub mod Tables
+pub mod Frees
+pub mod Access
+pub mod KeyPlaces
+pub mod Finds
+pub mod FirstPages
+pub mod Counts
+pub mod Paths
