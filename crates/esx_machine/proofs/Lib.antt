@@ -1,0 +1,13 @@
+pub mod Involution
+pub mod Places
+pub mod Back
+pub mod Flips
+pub mod Plans
+pub mod Shown
+pub mod Admits
+pub mod Starts
+pub mod Accesses
+pub mod Whole
+pub mod Sums
+pub mod Applies
+pub mod Opening

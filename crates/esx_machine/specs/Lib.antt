@@ -1,0 +1,11 @@
+pub use Rattle.esx_types.specs.Ranges
+pub use Rattle.esx_plain.specs.Readings
+pub use Rattle.esx_plain.specs.Replay
+pub use Rattle.esx_plain.specs.Show
+pub use Rattle.esx_plain.specs.Site
+pub use Rattle.esx_plain.specs.Sound
+pub mod Trading
+pub mod Tables
+pub mod Changes
+pub mod Plans
+pub mod Machine
