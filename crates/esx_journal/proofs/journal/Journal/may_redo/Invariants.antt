@@ -1,0 +1,7 @@
+use Rattle.esx_plain.specs.History.{History}
+use Rattle.esx_journal.specs.Journal.{Holds}
+use Rattle.esx_journal.proofs.Moves.{Looked}
+use Rattle.esx_journal.proofs.journal.Journal.may_redo.Given as goal
+
+abbrev pub invariant-look : goal.invariant-look
+invariant-look l = (m : History) → Holds l.self m → Looked m l._gone l.at

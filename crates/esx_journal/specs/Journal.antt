@@ -1,0 +1,118 @@
+-- What a journal keeps of a history.
+use Rattle.std.specs.Prelude.{◌≡◌, ◌≢◌, ℕ, ◌+◌, ◌^◌, ◌<◌, ◌≤◌, ◌++◌, Bool, true, false, List, length, Option, Some, None, is_some, slice_index_or, Result, Ok, Err}
+use Rattle.esx_types.specs.declared.config.Config.{Config}
+use Rattle.esx_types.specs.declared.event.Event.{Event}
+use Rattle.esx_types.specs.declared.event.Answer.{Answer}
+use Rattle.esx_types.specs.declared.event.Refusal.{Refusal}
+use Rattle.esx_types.specs.declared.event.Refusal.TheVariants.{OutOfMemory}
+use Rattle.esx_types.specs.declared.call.Stand.{Stand}
+use Rattle.esx_plain.specs.declared.scene.Scene.{Scene}
+use Rattle.esx_plain.specs.declared.book.Book.{Book}
+use Rattle.esx_plain.specs.Show.{shown}
+use Rattle.esx_plain.specs.Replay.{run, replay_of}
+use Rattle.esx_plain.specs.Sound.{IsSound}
+use Rattle.esx_plain.specs.History.{Move, History, parent, alive, path, on_way, last_descent, IsTree, IsWalk, cursor, here, scene_or, book_at}
+use Rattle.esx_machine.specs.Machine as machines
+use Rattle.esx_machine.specs.Changes.{Back}
+use Rattle.esx_machine.specs.Machine.{Trades}
+use Rattle.esx_journal.specs.declared.row.Row.{Row}
+
+pub record Kept : Type 0 where
+  pub machine : machines.Kept
+  pub rows : List Row
+  pub cursor : ℕ
+  pub depth : ℕ
+  pub nodes : ℕ
+
+-- the machine after a path
+unfoldable pub kept_after : Config → List Event → machines.Kept
+kept_after c events = record { config = c; book = shown c (scene_or c (run c events)) }
+
+-- the machine where the cursor is
+abbrev pub kept_at : History → machines.Kept
+kept_at h = record { config = h.config; book = book_at h }
+
+-- no event of the path is refused, and the scene that it leads to is sound
+pub record IsAccepted (c : Config) (events : List Event) : Type 0 where
+  pub scene : Scene
+  pub runs : run c events ≡ Ok scene
+  pub sound : IsSound c scene.site
+
+-- on the cursor's way a record leads up, elsewhere down
+abbrev pub Leads : Bool → Back → machines.Kept → machines.Kept → Type 0
+Leads true back node above = Trades back node above
+Leads false back node above = Trades back above node
+
+-- what is kept of node n, where the cursor is at node c and the last children are those of a walk
+pub record IsRow (h : History) (aim : List Move) (c n : ℕ) (row : Row) : Type 0 where
+  pub up : row.parent ≡ parent h.nodes n
+  pub last : row.last ≡ last_descent h.nodes aim n
+  pub live : is_some row.back ≡ alive h.nodes n
+  pub accepted : IsAccepted h.config (path h.nodes n)
+  pub back : (r : Back) → row.back ≡ Some r → Leads (on_way h.nodes c n) r (kept_after h.config (path h.nodes n)) (kept_after h.config (path h.nodes (parent h.nodes n)))
+
+-- what is kept of a history, with the last children of a walk
+pub record Aims (j : Kept) (h : History) (aim : List Move) : Type 0 where
+  pub limit : j.nodes ≡ h.config.nodes
+  pub tree : IsTree h.nodes
+  pub walk : IsWalk h.nodes h.walk
+  pub lasts : IsWalk h.nodes aim
+  pub size : length j.rows ≡ length h.nodes + 1
+  pub place : j.cursor ≡ cursor h
+  pub deep : j.depth ≡ length (here h)
+  pub shows : j.machine ≡ kept_after h.config (here h)
+  pub way : (n : ℕ) → on_way h.nodes (cursor h) n ≡ true → alive h.nodes n ≡ true
+  pub each : (n : ℕ) (d : Row) → n ≤ length h.nodes → IsRow h aim (cursor h) n (slice_index_or j.rows n d)
+
+-- the journal keeps the history: its machine shows the cursor's path, and its last children are those of the walk
+abbrev pub Holds : Kept → History → Type 0
+Holds j h = Aims j h h.walk
+
+-- what every journal keeps
+pub record IsKept (j : Kept) : Type 0 where
+  pub history : History
+  pub holds : Holds j history
+  pub fits : length history.nodes ≤ j.nodes
+  pub limit : j.nodes < 2 ^ 32
+
+-- where the cursor is
+abbrev pub stand_at : History → Stand
+stand_at h = record { node = cursor h; depth = length (here h) }
+
+-- What a move may give, where d is what it makes of the history.
+pub record Arrives (new : Kept) (s : Stand) (d : Option History) : Type 0 where
+  pub after : History
+  pub gives : d ≡ Some after
+  pub holds : Holds new after
+  pub stands : s ≡ stand_at after
+
+pub record Stays (old new : Kept) (e wanted : Refusal) (d : Option History) : Type 0 where
+  pub same : new ≡ old
+  pub why : e ≡ wanted
+  pub none : d ≡ None
+
+abbrev pub Moves : Refusal → Result Stand Refusal → Kept → Kept → Option History → Type 0
+Moves wanted (Ok s) old new d = Arrives new s d
+Moves wanted (Err e) old new d = Stays old new e wanted d
+
+-- What an event may give, where d is what it makes of the history.
+pub record Accepted (new : Kept) (answers : Answer × Answer) (d : Result (Answer × History) Refusal) : Type 0 where
+  pub after : History
+  pub gives : d ≡ Ok (answers.0, after)
+  pub copy : answers.1 ≡ answers.0
+  pub holds : Holds new after
+
+pub record Refused (old new : Kept) (e : Refusal) (d : Result (Answer × History) Refusal) : Type 0 where
+  pub same : new ≡ old
+  pub why : e ≢ OutOfMemory → d ≡ Err e
+
+abbrev pub Does : Result (Answer × Answer) Refusal → Kept → Kept → Result (Answer × History) Refusal → Type 0
+Does (Ok answers) old new d = Accepted new answers d
+Does (Err e) old new d = Refused old new e d
+
+-- a path that begins with that of a history and has so many events more leads to a stand and to tables
+pub record Lengthens (h : History) (count : ℕ) (s : Stand) (b : Book) : Type 0 where
+  pub more : List Event
+  pub many : length more ≡ count
+  pub depth : s.depth ≡ length (here h) + count
+  pub book : replay_of h.config (here h ++ more) ≡ Ok b

@@ -1,0 +1,9 @@
+pub mod Row
+pub mod Journal
+pub mod Reached
+pub use Rattle.esx_types.specs.Ranges
+pub use Rattle.esx_plain.specs.History
+pub use Rattle.esx_plain.specs.Replay
+pub use Rattle.esx_plain.specs.Show
+pub use Rattle.esx_machine.specs.Changes
+pub use Rattle.esx_machine.specs.Machine

@@ -1,0 +1,37 @@
+-- What the rows of a journal do.
+use Rattle.std.specs.Prelude.{◌≡◌, ℕ, ◌<◌, List, ◌++◌, ◌∷◌, [], length, Option, Some, None, is_some, slice_index_or, slice_set, if◌then◌else◌}
+use Rattle.esx_machine.specs.Machine as machines
+use Rattle.esx_machine.specs.Changes.{Back}
+use Rattle.esx_machine.specs.Machine.{Trades}
+use Rattle.esx_journal.specs.declared.row.Row.{Row}
+
+-- the row of a new node
+abbrev pub row_of : ℕ → Back → Row
+row_of parent back = record { parent = parent; back = Some back; last = None }
+
+-- a record at a place leads somewhere from k
+abbrev pub FlipsAt : List Row → ℕ → machines.Kept → Type 0
+FlipsAt rows at k = (d : Row) (b : Back) → (slice_index_or rows at d).back ≡ Some b → (there : machines.Kept) × Trades b k there
+
+-- the machine went where the record at a place leads, and the record there leads back
+pub record Flipped (old new : machines.Kept) (before after : List Row) (at : ℕ) (there : machines.Kept) (d : Row) : Type 0 where
+  pub arrives : new ≡ there
+  pub back : Back
+  pub trades : Trades back there old
+  pub rows : after ≡ slice_set before at (record (slice_index_or before at d) { back = Some back })
+
+-- each last child has a row
+abbrev pub LastsFit : List Row → Type 0
+LastsFit rows = (at c : ℕ) (d : Row) → at < length rows → (slice_index_or rows at d).last ≡ Some c → c < length rows
+
+-- a child that was not pruned
+abbrev pub kept_child : List Row → Row → Option ℕ → Option ℕ
+kept_child rows d None = None
+kept_child rows d (Some c) = if is_some (slice_index_or rows c d).back then Some c else None
+
+abbrev pub child_at : List Row → ℕ → Row → Option ℕ
+child_at rows at d = kept_child rows d (slice_index_or rows at d).last
+
+-- the rows with a new node under a place
+abbrev pub grown : List Row → ℕ → Back → Row → List Row
+grown rows at b d = slice_set (rows ++ row_of at b ∷ []) at (record (slice_index_or rows at d) { last = Some (length rows) })
