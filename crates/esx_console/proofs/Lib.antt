@@ -1,0 +1,3 @@
+mod Outcomes
+mod Logs
+mod Reaching
