@@ -1,0 +1,10 @@
+pub mod FieldLemmas
+pub mod HexField
+pub mod CommandLemmas
+pub mod WritingLemmas
+pub mod LineLemmas
+pub mod AnswerLemmas
+pub mod ProgressLemmas
+pub mod FaultLemmas
+pub mod OneSplit
+pub mod LawLemmas

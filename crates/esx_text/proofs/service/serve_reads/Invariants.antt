@@ -1,0 +1,15 @@
+use Rattle.std.proofs.Common.{◌≡◌, ◌+◌, ◌*◌, ◌≤◌, ℕ, List, []}
+use Rattle.std.specs.Io.KnownBytes.{Consumes}
+use Rattle.esx_text.specs.Answers.{Progress}
+use Rattle.esx_text.proofs.service.serve_reads.Given as goal
+
+abbrev pub invariant-loop : goal.invariant-loop
+invariant-loop g l = record {
+  progress : (input : List ℕ) × Consumes (g.R.Source.remaining l.initial.reader) (g.R.Source.remaining l.reader) input
+      × Progress l.caller l.initial.console (g.W.Sink.contents l.initial.writer) input l.work.count l.work.line l.console (g.W.Sink.contents l.writer);
+  failures : g.W.Sink.failures l.writer ≡ g.W.Sink.failures l.initial.writer;
+  reads : g.R.Source.failures l.reader ≡ g.R.Source.failures l.initial.reader;
+  empty : l.work.answer ≡ [];
+  count : l.work.count ≤ 65536 * l.counter;
+  calls : g.R.Source.calls l.reader ≡ g.R.Source.calls l.initial.reader + l.counter;
+}

@@ -1,0 +1,118 @@
+-- What is written for what is read, and the session after it.
+use Rattle.std.specs.Prelude.{ℕ, List, [], ◌∷◌, ◌++◌, ◌≡◌, ◌+◌, ◌≤◌, codes, decimal, length, map, Option, Result, Ok, Err}
+use Rattle.std.specs.Io.KnownBytes.{Appends, Consumes, IsAtEnd}
+use Rattle.esx_types.specs.declared.call.Call.{Call}
+use Rattle.esx_plain.specs.Console.{Session, next_reply, lined}
+use Rattle.esx_text.specs.declared.fault.ServeFault.{ServeFault}
+use Rattle.esx_text.specs.declared.fault.ServeFault.TheVariants.{Read, Write, OutOfMemory}
+use Rattle.esx_text.specs.Command.{IsCommand}
+use Rattle.esx_text.specs.Replies.{reply_text}
+use Rattle.esx_text.specs.Lines.{EndsIn, lines, line_of, IsSilent, Held, Holds}
+use Rattle.esx_text.specs.Writing.{WritesFront}
+
+-- the line is a command's, and not too long
+pub record IsAsked (line : List ℕ) (call : Call) : Type 0 where
+  pub short : length line ≤ 16384
+  pub command : IsCommand line call
+
+-- the answer to line n, where it is no command
+abbrev pub unknown_text : ℕ → List ℕ
+unknown_text n = codes "? line " ++ (decimal n ++ 10 ∷ [])
+
+-- Line n, after a session, is answered by a text and leaves a session.
+pub data IsAnswered (n caller : ℕ) (session : Session) (line : List ℕ) : List ℕ → Session → Type 0 where
+  silent : IsSilent line → IsAnswered n caller session line [] session
+  asked : (call : Call) → IsAsked line call → IsAnswered n caller session line (reply_text (next_reply session call)) (lined session caller call)
+  unknown : (IsSilent line → ⊥) → ((call : Call) → IsAsked line call → ⊥) → IsAnswered n caller session line (unknown_text n) session
+
+-- The lines from number n on are answered by a text, and leave a session.
+abbrev pub AreAnswered : ℕ → ℕ → Session → List (List ℕ) → List ℕ → Session → Type 0
+AreAnswered n caller session [] text after = (text ≡ []) × (after ≡ session)
+AreAnswered n caller session (line ∷ others) text after =
+    (first rest : List ℕ) × (middle : Session) × IsAnswered n caller session line first middle
+    × AreAnswered (n + 1) caller middle others rest after × (text ≡ first ++ rest)
+
+-- A line was served: its answer was written, or a front of it, or nothing happened.
+abbrev pub IsServed : ℕ → ℕ → Session → List ℕ → Session → Option (List ℕ) → Option (List ℕ) → Result Unit ServeFault → Type 0
+IsServed n caller before line after old new (Ok done) = (text : List ℕ) × IsAnswered n caller before line text after × Appends old new text
+IsServed n caller before line after old new (Err Read) = ⊥
+IsServed n caller before line after old new (Err Write) = (text : List ℕ) × IsAnswered n caller before line text after × WritesFront old new text
+IsServed n caller before line after old new (Err OutOfMemory) = (after ≡ before) × Appends old new []
+
+-- How far it has come: the input so far has ended pieces, which were answered, and a rest, which is held.
+pub record Progress (caller : ℕ) (before : Session) (old : Option (List ℕ)) (input : List ℕ) (count : ℕ) (line : Held) (now : Session) (new : Option (List ℕ)) : Type 0 where
+  pub ended : List (List ℕ)
+  pub rest : List ℕ
+  pub text : List ℕ
+  pub split : EndsIn input ended rest
+  pub holds : Holds line rest
+  pub count_is : count ≡ length ended
+  pub answered : AreAnswered 1 caller before (map line_of ended) text now
+  pub written : Appends old new text
+
+-- The lines of an input, so many, are answered by a text, and leave a session.
+pub record Serves (caller count : ℕ) (before : Session) (input text : List ℕ) (after : Session) : Type 0 where
+  pub ended : List (List ℕ)
+  pub rest : List ℕ
+  pub split : EndsIn input ended rest
+  pub answered : AreAnswered 1 caller before (lines ended rest) text after
+  pub count_is : count ≡ length (lines ended rest)
+
+-- All was read, and its lines are answered.
+pub record Answers (caller count : ℕ) (before after : Session) (unread left old new : Option (List ℕ)) : Type 0 where
+  pub input : List ℕ
+  pub text : List ℕ
+  pub read : Consumes unread left input
+  pub end : IsAtEnd left
+  pub serves : Serves caller count before input text after
+  pub written : Appends old new text
+
+-- how many writes failed, by what a call answered
+abbrev pub write_faults : {T : Type 0} → Result T ServeFault → ℕ
+write_faults (Ok x) = 0
+write_faults (Err Read) = 0
+write_faults (Err Write) = 1
+write_faults (Err OutOfMemory) = 0
+
+-- The first of the lines were answered, and nothing of the others was done.
+pub record First (caller : ℕ) (before after : Session) (all : List (List ℕ)) (old new : Option (List ℕ)) : Type 0 where
+  pub done : List (List ℕ)
+  pub others : List (List ℕ)
+  pub text : List ℕ
+  pub lines_are : all ≡ done ++ others
+  pub answered : AreAnswered 1 caller before done text after
+  pub written : Appends old new text
+
+-- The same, but of the answer to the last of them only a front was written.
+pub record Cut (caller : ℕ) (before after : Session) (all : List (List ℕ)) (old new : Option (List ℕ)) : Type 0 where
+  pub done : List (List ℕ)
+  pub line : List ℕ
+  pub others : List (List ℕ)
+  pub text : List ℕ
+  pub middle : Session
+  pub last : List ℕ
+  pub front : List ℕ
+  pub rest : List ℕ
+  pub lines_are : all ≡ done ++ line ∷ others
+  pub answered : AreAnswered 1 caller before done text middle
+  pub answered_last : IsAnswered (length done + 1) caller middle line last after
+  pub last_is : last ≡ front ++ rest
+  pub written : Appends old new (text ++ front)
+
+-- What was done at a fault, of the lines of the ended pieces and the rest. After a fault of reading it is all ended ones.
+abbrev pub StopsAt : ServeFault → ℕ → Session → Session → List (List ℕ) → List ℕ → Option (List ℕ) → Option (List ℕ) → Type 0
+StopsAt Read caller before after ended rest old new = (text : List ℕ) × AreAnswered 1 caller before (map line_of ended) text after × Appends old new text
+StopsAt Write caller before after ended rest old new = Cut caller before after (lines ended rest) old new
+StopsAt OutOfMemory caller before after ended rest old new = First caller before after (lines ended rest) old new
+
+pub record Stops (fault : ServeFault) (caller : ℕ) (before after : Session) (input : List ℕ) (old new : Option (List ℕ)) : Type 0 where
+  pub ended : List (List ℕ)
+  pub rest : List ℕ
+  pub split : EndsIn input ended rest
+  pub stop : StopsAt fault caller before after ended rest old new
+
+-- What was read when a fault came, and what was done of it.
+pub record Faults (fault : ServeFault) (caller : ℕ) (before after : Session) (unread left old new : Option (List ℕ)) : Type 0 where
+  pub input : List ℕ
+  pub read : Consumes unread left input
+  pub stops : Stops fault caller before after input old new

@@ -1,0 +1,10 @@
+pub use Rattle.esx_types.specs.Numbers
+pub use Rattle.esx_plain.specs.Console
+pub use Rattle.hex.specs.Hex
+pub mod Fields
+pub mod Command
+pub mod Replies
+pub mod Writing
+pub mod Lines
+pub mod Answers
+pub mod Laws

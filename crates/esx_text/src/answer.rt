@@ -1,0 +1,129 @@
+//! The answer to a line.
+
+ghost use Rattle.std.specs.Prelude.{◌≡◌, ◌+◌, [], ℕ, List, IfOk, OnOk, MatchOption, IsTrue, ◌↔◌, IsErrOf};
+ghost use Rattle.esx_types.specs.declared.call.Call.{Call};
+ghost use Rattle.esx_plain.specs.Console.{Session};
+ghost use Rattle.esx_text.specs.Lines.{Keeps, IsSilent};
+ghost use Rattle.esx_text.specs.Answers.{IsAsked, IsServed, write_faults};
+
+use crate::command::parse_command;
+use crate::fault::{ServeFault, TextFault};
+use crate::reply::write_reply;
+use crate::writing::{AnswerBuffer, Piece, write_pieces};
+use esx_console::Console;
+use esx_types::{Call, Sink};
+use std::alloc::{AllocError, Global};
+
+/// The longest line of a command, in bytes.
+const LONGEST: usize = 16384;
+
+/// The call that a line asks for, if it does.
+fn call_of_line(alloc: Global, line: &[u8]) -> Result<Option<Call>, AllocError>
+    ensures { IfOk result (λ found. MatchOption found ((call : Call) → IsAsked line.now call → ⊥) (IsAsked line.now)) }
+{
+    if line.len() > LONGEST {
+        return Ok(None);
+    }
+    let Ok(text) = str::from_utf8(line) else {
+        return Ok(None);
+    };
+    match parse_command(alloc, text) {
+        Ok(call) => Ok(Some(call)),
+        Err(TextFault::OutOfMemory) => Err(AllocError),
+        Err(TextFault::BadLine(_)) => Ok(None),
+    }
+}
+
+/// Makes a call and writes its reply. Between the two no memory is taken.
+fn answer_call<W: Sink>(
+    console: &mut Console,
+    caller: u8,
+    writer: &mut W,
+    held: &mut AnswerBuffer,
+    call: Call,
+) -> Result<(), ServeFault>
+    requires { held.old ≡ [] }
+    ensures served { (n : ℕ) (line : List ℕ) → IsAsked line call
+        → IsServed n caller console.old line console.new (W.contents writer.old) (W.contents writer.new) result }
+    ensures empty { OnOk result (held.new ≡ []) }
+    ensures failures { W.failures writer.new ≡ W.failures writer.old + write_faults result }
+    ensures reads { IsErrOf result ServeFault.Read → ⊥ }
+{
+    let Ok(reply) = console.call(caller, call) else {
+        return Err(ServeFault::OutOfMemory);
+    };
+    match write_reply(writer, held, &reply) {
+        Ok(()) => Ok(()),
+        Err(_) => Err(ServeFault::Write),
+    }
+}
+
+/// Answers a line that is no command.
+fn answer_unknown<W: Sink>(
+    writer: &mut W,
+    held: &mut AnswerBuffer,
+    number: u64,
+) -> Result<(), ServeFault>
+    requires { held.old ≡ [] }
+    ensures served { (caller : ℕ) (session : Session) (line : List ℕ) → (IsSilent line → ⊥) → ((call : Call) → IsAsked line call → ⊥)
+        → IsServed number caller session line session (W.contents writer.old) (W.contents writer.new) result }
+    ensures empty { OnOk result (held.new ≡ []) }
+    ensures failures { W.failures writer.new ≡ W.failures writer.old + write_faults result }
+    ensures reads { IsErrOf result ServeFault.Read → ⊥ }
+{
+    match write_pieces(
+        writer,
+        held,
+        &[
+            Piece::Text("? line "),
+            Piece::Number(number),
+            Piece::Text("\n"),
+        ],
+    ) {
+        Ok(()) => Ok(()),
+        Err(_) => Err(ServeFault::Write),
+    }
+}
+
+/// Whether a line is answered by nothing.
+fn is_silent(line: &[u8]) -> bool
+    ensures { IsTrue result ↔ IsSilent line.now }
+{
+    match line {
+        [] => true,
+        [first, ..] => *first == b'#',
+    }
+}
+
+/// Answers a line, of which all is kept, or where it is too long a front.
+pub fn answer_line<W: Sink>(
+    alloc: Global,
+    console: &mut Console,
+    caller: u8,
+    writer: &mut W,
+    held: &mut AnswerBuffer,
+    number: u64,
+    kept: &[u8],
+    long: bool,
+) -> Result<(), ServeFault>
+    requires { held.old ≡ [] }
+    ensures served { (line : List ℕ) → Keeps kept.now long line
+        → IsServed number caller console.old line console.new (W.contents writer.old) (W.contents writer.new) result }
+    ensures empty { OnOk result (held.new ≡ []) }
+    ensures failures { W.failures writer.new ≡ W.failures writer.old + write_faults result }
+    ensures reads { IsErrOf result ServeFault.Read → ⊥ }
+{
+    if is_silent(kept) {
+        return Ok(());
+    }
+    if long {
+        return answer_unknown(writer, held, number);
+    }
+    let Ok(found) = call_of_line(alloc, kept) else {
+        return Err(ServeFault::OutOfMemory);
+    };
+    match found {
+        Some(call) => answer_call(console, caller, writer, held, call),
+        None => answer_unknown(writer, held, number),
+    }
+}

@@ -1,0 +1,25 @@
+//! Laws of the definitions: what is written for an input is determined by it, by the caller and by the
+//! session before.
+
+ghost use Rattle.std.specs.Prelude.{ℕ, List};
+ghost use Rattle.esx_text.specs.Laws.{HasOneSplit, SpellsOneCall, SpellsNoCall, HasOneAnswer};
+
+/// A text has its lines in one way.
+pub fn one_split()
+    ensures { (text : List ℕ) → HasOneSplit text }
+{}
+
+/// A line spells one call at most.
+pub fn one_call()
+    ensures { (text : List ℕ) → SpellsOneCall text }
+{}
+
+/// A line that is answered by nothing spells no call.
+pub fn no_silent_call()
+    ensures { (text : List ℕ) → SpellsNoCall text }
+{}
+
+/// What is written for an input, and the session after it, are determined.
+pub fn one_answer()
+    ensures { (input : List ℕ) → HasOneAnswer input }
+{}

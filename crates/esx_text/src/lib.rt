@@ -1,0 +1,17 @@
+//! Commands and answers as text, and the loop that serves a console line by line.
+#![tactic(auto)]
+
+mod answer;
+mod command;
+mod fault;
+mod fields;
+pub mod laws;
+mod line;
+mod reply;
+mod service;
+mod writing;
+
+pub use command::{parse_command, print_command};
+pub use fault::{ServeFault, TextFault};
+pub use reply::print_reply;
+pub use service::serve;
