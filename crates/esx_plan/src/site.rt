@@ -1,0 +1,37 @@
+//! One site, served from its opening on.
+
+ghost use Rattle.std.specs.Prelude.{◌≡◌, ◌+◌, ◌^◌, ◌<◌, ◌⊎◌, [], IfOk, IfErr, IsErrOf};
+ghost use Rattle.esx_types.specs.Ranges.{IsConfig};
+ghost use Rattle.esx_plain.specs.Console.{Session};
+ghost use Rattle.esx_text.specs.Answers.{Answers, Faults, write_faults};
+ghost use Rattle.esx_plan.specs.Site.{at_opening};
+
+use esx_console::Console;
+use esx_text::{ServeFault, serve};
+use esx_types::{Config, Sink, Source};
+use std::alloc::Global;
+
+/// Opens a site and serves the commands that are read, as caller 0. Gives the number of lines.
+///
+/// A fault comes where an end failed, where the source gave no end in `2^26` reads, or where memory ran
+/// out; the answers to the lines before it were written.
+pub fn serve_site<R: Source, W: Sink>(
+    alloc: Global,
+    config: Config,
+    reader: &mut R,
+    writer: &mut W,
+) -> Result<u64, ServeFault>
+    requires { IsConfig config }
+    ensures ok { IfOk result (λ n. (after : Session) × Answers 0 n (at_opening config) after
+        (R.remaining reader.old) (R.remaining reader.new) (W.contents writer.old) (W.contents writer.new)) }
+    ensures fault { IfErr result (λ e. (after : Session) × Faults e 0 (at_opening config) after
+        (R.remaining reader.old) (R.remaining reader.new) (W.contents writer.old) (W.contents writer.new)) }
+    ensures read { IsErrOf result ServeFault.Read
+        → (R.failures reader.old < R.failures reader.new) ⊎ (R.calls reader.new ≡ R.calls reader.old + 2 ^ 26) }
+    ensures write { W.failures writer.new ≡ W.failures writer.old + write_faults result }
+{
+    match Console::open(alloc, config) {
+        Ok(mut console) => serve(alloc, &mut console, 0, reader, writer),
+        Err(_) => Err(ServeFault::OutOfMemory),
+    }
+}
