@@ -1,0 +1,219 @@
+//! The table: its rows, an index of the free ones, and the counts.
+
+ghost use Rattle.std.specs.Prelude.{◌≡◌, ◌≢◌, ◌+◌, ◌^◌, ◌<◌, ◌≤◌, IfOk, IfErr, OnErr, IsTrue, Some, None, length, replicate, slice_set};
+ghost use Rattle.esx_types.specs.declared.table.FrameRow.{FrameRow};
+ghost use Rattle.esx_types.specs.declared.table.FrameRow.TheVariants.{Free};
+ghost use Rattle.esx_frames.specs.Rows.{is_free, row_at, least_free, bytes_of, holds_bytes, ref_count, with_count};
+ghost use Rattle.esx_frames.specs.Counts.{counts_of};
+
+use crate::counts::Counts;
+use esx_index::FreeIndex;
+use esx_types::FrameRow;
+use std::alloc::{AllocError, Global};
+use std::marker::Model;
+
+/// The machine's frames, seen as the list of their rows; a frame's number is its place.
+///
+/// No call after `new` takes memory, and each looks at a few words whatever the number of frames.
+#[derive(Drop)]
+pub struct FrameTable {
+    rows: Vec<FrameRow>,
+    free: FreeIndex,
+    counts: Counts,
+}
+
+impl Model for FrameTable {
+    ghost use Rattle.std.specs.Prelude.{List};
+    ghost use Rattle.esx_types.specs.declared.table.FrameRow.{FrameRow};
+    ghost use Rattle.esx_frames.specs.Table.{IsTable};
+
+    ghost Value = { List FrameRow };
+
+    ghost view = { λ a. a.rows.items };
+
+    ghost invariant = { λ a. IsTable a.rows.items a.free a.counts };
+}
+
+impl FrameTable {
+    /// A table of that many frames, all of them free. A row brings its own bytes, so the size of a page
+    /// does not matter to an empty table.
+    pub fn new(alloc: Global, frames: u32, _page: u32) -> Result<FrameTable, AllocError>
+        ensures { IfOk result (λ table. table ≡ replicate frames Free) }
+    {
+        let free = FreeIndex::new(alloc, frames as usize)?;
+        let rows = free_rows(alloc, frames)?;
+        let counts = Counts {
+            overhead: 0,
+            private: 0,
+            shared: 0,
+            free: frames,
+        };
+        Ok(FrameTable { rows, free, counts })
+    }
+
+    /// How many frames there are.
+    pub fn len(&self) -> u32
+        ensures { result ≡ length self.now }
+    {
+        self.rows.len() as u32
+    }
+
+    /// The row of a frame.
+    pub fn row(&self, mpn: u32) -> &FrameRow
+        requires { mpn < length self.now }
+        ensures { result.now ≡ row_at self.now mpn }
+    {
+        &self.rows[mpn as usize]
+    }
+
+    /// The bytes of the page in a frame.
+    pub fn bytes(&self, mpn: u32) -> &[u8]
+        requires in_range { mpn < length self.now }
+        requires holds { IsTrue (holds_bytes (row_at self.now mpn)) }
+        ensures { result.now ≡ bytes_of (row_at self.now mpn) }
+    {
+        match &self.rows[mpn as usize] {
+            FrameRow::Private { bytes } => bytes.as_slice(),
+            FrameRow::Shared { bytes, .. } => bytes.as_slice(),
+            FrameRow::Free | FrameRow::Overhead => unreachable!(),
+        }
+    }
+
+    /// How many frames there are of each kind.
+    pub fn counts(&self) -> Counts
+        ensures { result ≡ counts_of self.now }
+    {
+        self.counts
+    }
+
+    /// The least frame that is free; none where no frame is.
+    pub fn least_free(&self) -> Option<u32>
+        ensures { result ≡ least_free self.now }
+    {
+        let mpn = self.free.least()?;
+        Some(mpn as u32)
+    }
+
+    /// Puts a row into the least free frame. Where no frame is free the row comes back.
+    pub fn take_least(&mut self, mut row: FrameRow) -> Result<u32, FrameRow>
+        requires { row ≢ FrameRow.Free }
+
+        // On `Ok` the row stands in the least free frame.
+        ensures least { IfOk result (λ mpn. least_free self.old ≡ Some mpn) }
+        ensures rows { IfOk result (λ mpn. self.new ≡ slice_set self.old mpn row) }
+
+        // Where no frame is free the row comes back, and nothing has changed.
+        ensures full { OnErr result (least_free self.old ≡ None) }
+        ensures back { IfErr result (λ back. back ≡ row) }
+        ensures unchanged { OnErr result (self.new ≡ self.old) }
+    {
+        let Some(mpn) = self.least_free() else {
+            return Err(row);
+        };
+        self.swap_row(mpn, &mut row);
+        Ok(mpn)
+    }
+
+    /// Exchanges a frame's row with the one that is handed over.
+    pub fn swap_row(&mut self, mpn: u32, row: &mut FrameRow)
+        requires { mpn < length self.old }
+        ensures rows { self.new ≡ slice_set self.old mpn row.old }
+        ensures row { row.new ≡ row_at self.old mpn }
+    {
+        let at = mpn as usize;
+        self.counts.remove(&self.rows[at]);
+        self.counts.add(row);
+        let free = is_free(row);
+        if free != is_free(&self.rows[at]) {
+            self.free.set(at, free);
+        }
+        std::mem::swap(&mut self.rows[at], row);
+    }
+
+    /// Counts one more page that is mapped to a shared frame.
+    pub fn add_ref(&mut self, mpn: u32)
+        requires in_range { mpn < length self.old }
+        requires shared { 1 ≤ ref_count (row_at self.old mpn) }
+        requires room { ref_count (row_at self.old mpn) < 2 ^ 24 }
+        ensures { let row = row_at self.old mpn in
+            self.new ≡ slice_set self.old mpn (with_count row (ref_count row + 1)) }
+    {
+        match &mut self.rows[mpn as usize] {
+            FrameRow::Shared { count, .. } => *count += 1,
+            _ => unreachable!(),
+        }
+    }
+
+    /// Counts one page less, and gives the new count. At 0 the caller frees the frame by `swap_row`.
+    pub fn drop_ref(&mut self, mpn: u32) -> u32
+        requires in_range { mpn < length self.old }
+        requires shared { 1 ≤ ref_count (row_at self.old mpn) }
+        ensures count { result + 1 ≡ ref_count (row_at self.old mpn) }
+        ensures rows { self.new ≡ slice_set self.old mpn (with_count (row_at self.old mpn) result) }
+    {
+        match &mut self.rows[mpn as usize] {
+            FrameRow::Shared { count, .. } => {
+                let left = *count - 1;
+                *count = left;
+                left
+            }
+            _ => unreachable!(),
+        }
+    }
+}
+
+fn is_free(row: &FrameRow) -> bool
+    ensures { result ≡ is_free row.now }
+{
+    matches!(row, FrameRow::Free)
+}
+
+fn free_rows(alloc: Global, frames: u32) -> Result<Vec<FrameRow>, AllocError>
+    ensures { IfOk result (λ rows. rows.items ≡ replicate frames Free) }
+{
+    let mut rows = Vec::with_capacity(alloc, frames as usize)?;
+    for _ in 0..frames {
+        rows.push(FrameRow::Free)?;
+    }
+    Ok(rows)
+}
+
+#[cfg(test)]
+mod tests {
+    use super::*;
+    use esx_types::Bytes;
+    use std::test::Fail;
+
+    #[test]
+    fn takes_the_frames_in_order(rt: HostRuntime) -> Result<(), Fail> {
+        let mut table = FrameTable::new(rt.alloc(), 2, 16)?;
+        assert_eq!(rt; table.take_least(FrameRow::Overhead).ok(), Some(0));
+        assert_eq!(rt; table.take_least(FrameRow::Overhead).ok(), Some(1));
+        assert!(rt; table.take_least(FrameRow::Overhead).is_err());
+        assert_eq!(rt;
+            table.counts(),
+            Counts {
+                overhead: 2,
+                private: 0,
+                shared: 0,
+                free: 0
+            }
+        );
+        Ok(())
+    }
+
+    #[test]
+    fn counts_the_pages_of_a_shared_frame(rt: HostRuntime) -> Result<(), Fail> {
+        let mut table = FrameTable::new(rt.alloc(), 1, 16)?;
+        let bytes = Bytes::from_vec(vec![in rt.alloc(); 7; 16]?);
+        let mut row = FrameRow::Shared {
+            count: 16777215,
+            bytes,
+        };
+        table.swap_row(0, &mut row);
+        table.add_ref(0);
+        assert_eq!(rt; table.bytes(0), [7; 16].as_slice());
+        assert_eq!(rt; table.drop_ref(0), 16777215);
+        Ok(())
+    }
+}

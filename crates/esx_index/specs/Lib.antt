@@ -1,0 +1,5 @@
+pub mod Lists
+pub mod Places
+pub mod Index
+pub mod Falls
+pub mod Marks

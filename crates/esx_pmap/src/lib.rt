@@ -1,0 +1,7 @@
+//! The page map of a virtual machine.
+#![tactic(auto)]
+
+mod blocks;
+mod map;
+
+pub use map::PageMap;

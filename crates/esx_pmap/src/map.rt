@@ -1,0 +1,139 @@
+//! The map: its rows, and for each block of pages how many are in a frame.
+
+ghost use Rattle.std.specs.Prelude.{◌≡◌, ◌<◌, ◌*◌, IfOk, IsTrue, length, replicate, slice_index, slice_set};
+ghost use Rattle.esx_types.specs.declared.table.MapRow.{MapRow};
+ghost use Rattle.esx_types.specs.declared.table.MapRow.TheVariants.{Untouched};
+ghost use Rattle.esx_pmap.specs.Rows.{is_here, row_at, resident_count, resident_pages, block_count};
+
+use crate::blocks::{is_here, moved, nth_block, nth_here};
+use esx_types::MapRow;
+use std::alloc::{AllocError, Global};
+use std::marker::Model;
+
+/// How many pages a block has; the last may have fewer.
+const BLOCK: usize = 256;
+
+/// Where the pages of a virtual machine are, seen as the list of their rows; a page's number is its place.
+///
+/// No call after `new` takes memory. A resident page is found by passing whole blocks of pages by their
+/// counts.
+#[derive(Drop)]
+pub struct PageMap {
+    rows: Vec<MapRow>,
+    blocks: Vec<u32>,
+    resident: u32,
+}
+
+impl Model for PageMap {
+    ghost use Rattle.std.specs.Prelude.{List};
+    ghost use Rattle.esx_types.specs.declared.table.MapRow.{MapRow};
+    ghost use Rattle.esx_pmap.specs.Map.{IsMap};
+
+    ghost Value = { List MapRow };
+
+    ghost view = { λ a. a.rows.items };
+
+    ghost invariant = { λ a. IsMap a.rows.items a.blocks.items a.resident };
+}
+
+impl PageMap {
+    /// A map of `max` pages that were never touched.
+    pub fn new(alloc: Global, max: u32) -> Result<PageMap, AllocError>
+        ensures { IfOk result (λ map. map ≡ replicate max Untouched) }
+    {
+        let len = max as usize;
+        Ok(PageMap {
+            rows: vec![in alloc; MapRow::Untouched; len]?,
+            blocks: vec![in alloc; 0; len.div_ceil(BLOCK)]?,
+            resident: 0,
+        })
+    }
+
+    /// How many pages there are.
+    pub fn len(&self) -> u32
+        ensures { result ≡ length self.now }
+    {
+        self.rows.len() as u32
+    }
+
+    /// The row of a page.
+    pub fn at(&self, page: u32) -> MapRow
+        requires { page < length self.now }
+        ensures { result ≡ row_at self.now page }
+    {
+        self.rows[page as usize]
+    }
+
+    /// Exchanges a page's row with the one that is handed over.
+    pub fn swap_row(&mut self, page: u32, row: &mut MapRow)
+        requires { page < length self.old }
+        ensures rows { self.new ≡ slice_set self.old page row.old }
+        ensures row { row.new ≡ row_at self.old page }
+    {
+        let at = page as usize;
+        let was = is_here(&self.rows[at]);
+        let is = is_here(row);
+        self.resident = moved(self.resident, was, is);
+        let count = moved(self.blocks[at / BLOCK], was, is);
+        self.blocks[at / BLOCK] = count;
+        std::mem::swap(&mut self.rows[at], row);
+    }
+
+    /// How many pages are in a frame.
+    pub fn resident(&self) -> u32
+        ensures { result ≡ resident_count self.now }
+    {
+        self.resident
+    }
+
+    /// How many pages of a block of 256 are in a frame.
+    pub fn block(&self, block: u32) -> u32
+        requires { block * 256 < length self.now }
+        ensures { result ≡ block_count self.now block }
+    {
+        self.blocks[block as usize]
+    }
+
+    /// The page that comes `k`-th, counted from 0, among those that are in a frame.
+    pub fn nth_resident(&self, k: u32) -> u32
+        requires { k < resident_count self.now }
+        ensures page { result ≡ slice_index (resident_pages self.now) k }
+        ensures in_range { result < length self.now }
+        ensures here { IsTrue (is_here (row_at self.now result)) }
+    {
+        let (block, rest) = nth_block(&self.blocks, k);
+        let start = block * BLOCK;
+        let end = (start + BLOCK).min(self.rows.len());
+        let page = start + nth_here(&self.rows[start..end], rest);
+        page as u32
+    }
+}
+
+#[cfg(test)]
+mod tests {
+    use super::*;
+    use std::test::Fail;
+
+    #[test]
+    fn finds_resident_pages_over_blocks(rt: HostRuntime) -> Result<(), Fail> {
+        let mut map = PageMap::new(rt.alloc(), 600)?;
+        let pages = [0, 255, 256, 511, 512, 599];
+        for page in pages {
+            assert!(rt; page < map.len());
+            map.swap_row(page, &mut MapRow::Here { frame: page });
+        }
+        assert_eq!(rt; map.len(), 600);
+        assert_eq!(rt; map.resident(), 6);
+        for (k, page) in pages.iter().enumerate() {
+            assert_eq!(rt; map.nth_resident(k as u32), *page);
+        }
+        for block in 0..3 {
+            assert_eq!(rt; map.block(block), 2);
+        }
+        map.swap_row(256, &mut MapRow::Untouched);
+        assert_eq!(rt; map.resident(), 5);
+        assert_eq!(rt; map.nth_resident(2), 511);
+        assert_eq!(rt; map.block(1), 1);
+        Ok(())
+    }
+}

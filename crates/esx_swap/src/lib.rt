@@ -1,0 +1,6 @@
+//! The table of swap slots.
+#![tactic(auto)]
+
+mod slots;
+
+pub use slots::Slots;

@@ -1,0 +1,115 @@
+//! The table: its rows, and an index of the free ones.
+
+ghost use Rattle.std.specs.Prelude.{◌≡◌, ◌<◌, IfOk, length, replicate, slice_set};
+ghost use Rattle.esx_types.specs.declared.table.SlotRow.{SlotRow};
+ghost use Rattle.esx_types.specs.declared.table.SlotRow.TheVariants.{Free};
+ghost use Rattle.esx_swap.specs.Rows.{is_free, row_at, least_free};
+
+use esx_index::FreeIndex;
+use esx_types::SlotRow;
+use std::alloc::{AllocError, Global};
+use std::marker::Model;
+
+/// The swap slots, seen as the list of their rows; a slot's number is its place.
+///
+/// No call after `new` takes memory, and each looks at a few words whatever the number of slots.
+#[derive(Drop)]
+pub struct Slots {
+    rows: Vec<SlotRow>,
+    free: FreeIndex,
+}
+
+impl Model for Slots {
+    ghost use Rattle.std.specs.Prelude.{List};
+    ghost use Rattle.esx_types.specs.declared.table.SlotRow.{SlotRow};
+    ghost use Rattle.esx_swap.specs.Table.{IsTable};
+
+    ghost Value = { List SlotRow };
+
+    ghost view = { λ a. a.rows.items };
+
+    ghost invariant = { λ a. IsTable a.rows.items a.free };
+}
+
+impl Slots {
+    /// That many slots, all of them free.
+    pub fn new(alloc: Global, slots: u32) -> Result<Slots, AllocError>
+        ensures { IfOk result (λ table. table ≡ replicate slots Free) }
+    {
+        let free = FreeIndex::new(alloc, slots as usize)?;
+        let rows = free_rows(alloc, slots)?;
+        Ok(Slots { rows, free })
+    }
+
+    /// How many slots there are.
+    pub fn len(&self) -> u32
+        ensures { result ≡ length self.now }
+    {
+        self.rows.len() as u32
+    }
+
+    /// The row of a slot.
+    pub fn row(&self, slot: u32) -> &SlotRow
+        requires { slot < length self.now }
+        ensures { result.now ≡ row_at self.now slot }
+    {
+        &self.rows[slot as usize]
+    }
+
+    /// The least slot that is free; none where no slot is.
+    pub fn least_free(&self) -> Option<u32>
+        ensures { result ≡ least_free self.now }
+    {
+        let slot = self.free.least()?;
+        Some(slot as u32)
+    }
+
+    /// Exchanges a slot's row with the one that is handed over.
+    pub fn swap_row(&mut self, slot: u32, row: &mut SlotRow)
+        requires { slot < length self.old }
+        ensures rows { self.new ≡ slice_set self.old slot row.old }
+        ensures row { row.new ≡ row_at self.old slot }
+    {
+        let at = slot as usize;
+        let free = is_free(row);
+        if free != is_free(&self.rows[at]) {
+            self.free.set(at, free);
+        }
+        std::mem::swap(&mut self.rows[at], row);
+    }
+}
+
+fn is_free(row: &SlotRow) -> bool
+    ensures { result ≡ is_free row.now }
+{
+    matches!(row, SlotRow::Free)
+}
+
+fn free_rows(alloc: Global, slots: u32) -> Result<Vec<SlotRow>, AllocError>
+    ensures { IfOk result (λ rows. rows.items ≡ replicate slots Free) }
+{
+    let mut rows = Vec::with_capacity(alloc, slots as usize)?;
+    for _ in 0..slots {
+        rows.push(SlotRow::Free)?;
+    }
+    Ok(rows)
+}
+
+#[cfg(test)]
+mod tests {
+    use super::*;
+    use esx_types::Bytes;
+    use std::test::Fail;
+
+    #[test]
+    fn holds_a_page_in_the_least_slot(rt: HostRuntime) -> Result<(), Fail> {
+        let mut slots = Slots::new(rt.alloc(), 2)?;
+        let bytes = Bytes::from_vec(vec![in rt.alloc(); 7; 16]?);
+        let mut row = SlotRow::Held { bytes };
+        slots.swap_row(0, &mut row);
+        assert_eq!(rt; slots.least_free(), Some(1));
+        slots.swap_row(0, &mut row);
+        assert_eq!(rt; slots.least_free(), Some(0));
+        Ok(())
+    }
+}
