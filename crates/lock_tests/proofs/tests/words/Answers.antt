@@ -1,0 +1,15 @@
+use Rattle.std.proofs.Common.{◌∙◌, ap}
+use Rattle.esx_types.specs.Ids.{has}
+use Rattle.esx_lock.proofs.Grown.{grows_none, grows_one}
+use Rattle.lock_tests.specs.Tally.{line_of}
+use Rattle.lock_tests.proofs.tests.words.Goals as goal
+
+pub give-requires-clause-grows : goal.give-requires-clause-grows
+give-requires-clause-grows g c = grows_none c.try_take.new.pass.view c.in-Ok.other.log.items c.in-Ok.ensures.told.seen
+
+pub give-requires-2-clause-grows : goal.give-requires-2-clause-grows
+give-requires-2-clause-grows g c =
+    let told = c.take-tally.ensures.told in
+    let caller = c.caller-caller.result in
+    grows_one c.add-added.result c.take-tally.new.pass.view c.take-tally.result.log.items c.add-added.new.self.log.items (λ _. line_of caller 0)
+    told.seen (λ _. ap (λ i. has i caller) told.same.1 ∙ c.caller-caller.ensures.0) c.add-added.ensures.ok c.add-added.ensures.err
