@@ -13,7 +13,7 @@ use Rattle.esx_plain.specs.declared.scene.Vm.{Vm}
 use Rattle.esx_plain.specs.declared.scene.Site.{Site}
 use Rattle.esx_plain.specs.Site.{is_here_at}
 use Rattle.esx_plain.specs.Step.{pages_at, pages_of}
-use Rattle.esx_plain.specs.Average.{IsEstimate}
+use Rattle.esx_plain.specs.Estimates.{IsEstimate}
 use Rattle.esx_plain.specs.Show.{all_places, all_overhead, vm_places, vm_overhead, frame_row, row_of, is_out_at, slot_of, slot_row}
 use Rattle.esx_plain.specs.Shown.{first_row, first_slot, HasRow}
 use Rattle.esx_plain.specs.Sound.{IsSound}

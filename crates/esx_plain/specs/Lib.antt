@@ -1,5 +1,8 @@
 pub mod Key
 pub mod Average
+pub mod Estimates
+pub mod Ratio
+pub mod Targets
 pub mod Level
 pub mod Site
 pub mod Step
@@ -11,3 +14,5 @@ pub mod History
 pub mod Console
 pub mod Access
 pub mod Shown
+pub mod ShareLaws
+pub mod Payers

@@ -2,7 +2,7 @@
 //! them word for word.
 #![tactic(auto)]
 
-mod average;
+pub mod activity;
 pub mod book;
 pub mod fault;
 mod keys;
@@ -12,8 +12,10 @@ mod machines;
 mod path;
 mod query;
 pub mod scene;
+pub mod share_laws;
 mod show;
 mod step;
+pub mod targets;
 #[cfg(test)]
 mod tests;
 

@@ -6,7 +6,7 @@ ghost use Rattle.esx_plain.specs.Average.{is_touched};
 ghost use Rattle.esx_plain.specs.Show.{map_row, period_row, vm_row, vm_rows};
 ghost use Rattle.esx_plain.specs.Shown.{HasRow};
 
-use crate::average::{fast_average, slow_average};
+use crate::activity::{fast_average, slow_average};
 use crate::book::{Mark, PeriodRow, VmRow};
 use crate::scene::{Period, Place, Site, Vm};
 use esx_types::{MapRow, Rows};

@@ -1,0 +1,3 @@
+pub mod MeansLaws
+pub mod RowLaws
+pub mod ChunkLaws

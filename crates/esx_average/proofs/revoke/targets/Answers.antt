@@ -1,0 +1,65 @@
+use Rattle.std.proofs.Common.{◌≡◌, ◌+◌, ◌-◌, ◌*◌, ◌≤◌, length, slice_index, arith}
+use Rattle.std.proofs.lemmas.Nat.{mul-le}
+use Rattle.std.proofs.lemmas.List.{get_or_read}
+use Rattle.esx_plain.specs.Payers.{IsFirstBelow, AreNoneBelow}
+use Rattle.esx_average.proofs.RowLaws.{rows_few, spare_few}
+use Rattle.esx_average.proofs.ChunkLaws.{IsStep, partial_begins, partial_count, partial_step, partial_some, partial_ends, partial_most}
+use Rattle.esx_average.proofs.revoke.targets.Goals as goal
+
+pub spare-requires : goal.spare-requires
+spare-requires c = omega (arith, spare_few c.args.rows.now c.requires.rows)
+
+pub loop-left-init : goal.loop-left-init
+loop-left-init c = record {
+  partial = rw c.in_ok-targets.ensures (partial_begins c.args.tau c.args.rows.now c.args.need c.min-left.result (omega (arith, c.min-left.ensures, c.spare.ensures)));
+  some = omega arith;
+  most = omega arith;
+}
+
+pub overflow_cast-rows : goal.overflow_cast-rows
+overflow_cast-rows c = omega (arith, rows_few c.args.rows.now c.requires.rows)
+
+pub overflow_mul-rows : goal.overflow_mul-rows
+overflow_mul-rows c =
+    let most : length c.args.rows.now * (c.loop-left.chunk - 1) ≤ 32 * 65536 =
+    mul-le (length c.args.rows.now) (c.loop-left.chunk - 1) 32 65536 (rows_few c.args.rows.now c.requires.rows) (omega (arith, c.loop-left.invariant.most)) in
+    omega arith
+
+pub next_payer-requires-clause-count : goal.next_payer-requires-clause-count
+next_payer-requires-clause-count c =
+    rw c.as_slice.ensures.value (partial_count c.args.tau c.args.rows.now c.args.need c.loop-left.targets.items c.loop-left.left c.loop-left.invariant.partial)
+
+pub next_payer-requires-clause-most : goal.next_payer-requires-clause-most
+next_payer-requires-clause-most c =
+    rw c.as_slice.ensures.value
+    (λ i p. partial_most c.args.tau c.args.rows.now c.args.need c.loop-left.targets.items c.loop-left.left i c.requires.rows c.loop-left.invariant.partial p)
+
+pub unreachable-requires : goal.unreachable-requires
+unreachable-requires c =
+    let none : AreNoneBelow c.args.rows.now (λ k. slice_index c.loop-left.targets.items k - (c.loop-left.chunk - 1)) (length c.args.rows.now) =
+    rw c.as_slice.ensures.value at c.in_default.ensures in
+    partial_some c.args.tau c.args.rows.now c.requires.tax c.requires.rows c.args.need c.loop-left.targets.items c.loop-left.left (c.loop-left.chunk - 1)
+    c.loop-left.invariant.partial none c.if-left-rows.false
+
+pub loop-left-preserved : goal.loop-left-preserved
+loop-left-preserved c =
+    let first : IsFirstBelow c.args.tau c.args.rows.now (λ k. slice_index c.loop-left.targets.items k - (c.loop-left.chunk - 1)) (length c.args.rows.now) c.in-Some.payer =
+    rw c.as_slice.ensures.value at c.in-Some.ensures in
+    let count : length c.loop-left.targets.items ≡ length c.args.rows.now =
+    partial_count c.args.tau c.args.rows.now c.args.need c.loop-left.targets.items c.loop-left.left c.loop-left.invariant.partial in
+    let now : c.index_mut.result.now ≡ slice_index c.loop-left.targets.items c.in-Some.payer =
+    get_or_read c.loop-left.targets.items c.in-Some.payer c.index_mut.result.now (omega (arith, first.within)) c.index_mut.ensures.value 0 in
+    let step : IsStep c.args.tau c.args.rows.now c.requires.tax c.requires.rows c.args.need c.loop-left.targets.items c.loop-left.left (c.loop-left.chunk - 1) c.in-Some.payer =
+    partial_step c.args.tau c.args.rows.now c.requires.tax c.requires.rows c.args.need c.loop-left.targets.items c.loop-left.left (c.loop-left.chunk - 1) c.in-Some.payer
+    c.loop-left.invariant.partial first c.if-left-rows.false in
+    let whole : c.loop-left.chunk - 1 + 1 ≡ c.loop-left.chunk = omega (arith, c.loop-left.invariant.some) in
+    record {
+      partial = rw now (rw whole at step.after);
+      some = c.loop-left.invariant.some;
+      most = c.loop-left.invariant.most;
+    }
+
+pub returns : goal.returns
+returns c =
+    let none : c.loop-left.left ≡ 0 = omega arith in
+    partial_ends c.args.tau c.args.rows.now c.requires.tax c.requires.rows c.args.need c.loop-left.targets.items (rw none at c.loop-left.invariant.partial)

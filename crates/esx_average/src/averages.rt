@@ -1,0 +1,99 @@
+//! How much of its memory a virtual machine uses, from the sample periods that closed.
+
+ghost use Rattle.std.specs.Prelude.{◌≡◌, ◌≤◌, ◌++◌, ◌∷◌, [], List};
+ghost use Rattle.std.specs.Option.{ForSome};
+ghost use Rattle.esx_plain.specs.declared.scene.Estimate.{Estimate};
+ghost use Rattle.esx_plain.specs.Average.{active_share, touched_share};
+ghost use Rattle.esx_plain.specs.Estimates.{IsEstimate};
+ghost use Rattle.esx_average.specs.Means.{estimate, so_far, means_of, next_means};
+
+use std::marker::Model;
+
+/// The whole of a machine's memory, as averages count it.
+const WHOLE: u32 = 65536;
+
+/// The slow and the fast average of the share of a machine's memory that is in use, in units of
+/// 1/65,536.
+#[derive(Clone, Copy, Debug)]
+pub struct Averages {
+    slow: u32,
+    fast: u32,
+}
+
+impl Model for Averages {
+    ghost use Rattle.std.specs.Prelude.{◌≤◌};
+    ghost use Rattle.esx_average.specs.Means.{Means};
+
+    ghost Value = { Means };
+
+    ghost view = { λ a. record { slow = a.slow; fast = a.fast } };
+
+    ghost invariant = { λ a. (a.slow ≤ 65536) × (a.fast ≤ 65536) };
+
+    ghost inverse = { λ m. record { slow = m.slow; fast = m.fast } };
+}
+
+impl Averages {
+    /// The averages of a machine of which no period has closed: all of its memory counts as in use.
+    pub fn opened() -> Averages
+        ensures whole { result ≡ record { slow = 65536; fast = 65536 } }
+        ensures none { result ≡ means_of [] }
+    {
+        Averages {
+            slow: WHOLE,
+            fast: WHOLE,
+        }
+    }
+
+    pub fn slow(self) -> u32
+        ensures value { result ≡ self.slow }
+        ensures most { result ≤ 65536 }
+    {
+        self.slow
+    }
+
+    pub fn fast(self) -> u32
+        ensures value { result ≡ self.fast }
+        ensures most { result ≤ 65536 }
+    {
+        self.fast
+    }
+
+    /// The averages after one more period, in which `touched` of `pages` sampled pages were touched,
+    /// each page as often as it was drawn. `pages` is 1 to 100.
+    pub fn close_period(self, touched: u32, pages: u32) -> Averages
+        requires { IsEstimate (estimate touched pages) }
+        ensures step { result ≡ next_means self (estimate touched pages) }
+        ensures path { (closed : List Estimate) → self ≡ means_of closed → result ≡ means_of (closed ++ estimate touched pages ∷ []) }
+    {
+        let share = touched_share(touched, pages);
+        Averages {
+            slow: (self.slow * 7 + share) / 8,
+            fast: (self.fast + share) / 2,
+        }
+    }
+
+    /// The share of the machine's memory that counts as in use: the greatest of the slow average, the
+    /// fast one, and the fast one as it would be if the open period closed now. `now` is how many of how
+    /// many sampled pages of the open period were touched, or none where no period is open.
+    pub fn active(self, now: Option<(u32, u32)>) -> u32
+        requires { ForSome now (λ e. IsEstimate (estimate e.0 e.1)) }
+        ensures value { result ≡ active_share self.slow self.fast (so_far now) }
+        ensures most { result ≤ 65536 }
+    {
+        let open = match now {
+            Some((touched, pages)) => (self.fast + touched_share(touched, pages)) / 2,
+            None => self.fast,
+        };
+        self.slow.max(self.fast.max(open))
+    }
+}
+
+/// The share of the sampled pages that were touched, rounded down.
+fn touched_share(touched: u32, pages: u32) -> u32
+    requires { IsEstimate (estimate touched pages) }
+    ensures value { result ≡ touched_share (estimate touched pages) }
+    ensures most { result ≤ 65536 }
+{
+    touched * WHOLE / pages
+}

@@ -1,0 +1,89 @@
+//! The targets of virtual machines, where frames are needed.
+
+ghost use Rattle.std.specs.Prelude.{◌≡◌, ℕ, ◌-◌, ◌^◌, ◌≤◌, ◌<◌, IfOk, length, map, sum_by, slice_index};
+ghost use Rattle.esx_plain.specs.Ratio.{AreRows};
+ghost use Rattle.esx_plain.specs.Targets.{held, spare, AreTargets};
+ghost use Rattle.esx_plain.specs.Payers.{IsBestBelow};
+
+use crate::ratio::comes_no_later_at;
+use esx_plain::targets::Row;
+use std::alloc::{AllocError, Global};
+
+/// The most pages that are revoked at once.
+const MOST_PAGES: u32 = 65536;
+
+/// The target of each row where `need` pages are needed, at a tax of `tau` percent, 0 to 99.
+///
+/// As many pages are revoked as are needed and stand above the floors, each from the row of least ratio
+/// at what it then has. The rows stand in order of machine, and a target lies between a row's floor and
+/// its pages, or is its floor where it has less.
+///
+/// Pages are revoked in chunks of 2^16 down to 1. Where more are left than one page less than a chunk of
+/// each row, a whole chunk comes from the row whose last page of a chunk comes first. So each size of a
+/// chunk takes at most one step for each row, and a step looks at every row: the time grows with the
+/// square of the rows and with the logarithm of what is revoked from each.
+pub fn targets(alloc: Global, tau: u32, rows: &[Row], need: u32) -> Result<Vec<u32>, AllocError>
+    requires tax { tau ≤ 99 }
+    requires rows { AreRows rows.now }
+    ensures { IfOk result (λ v. AreTargets tau rows.now need v.items) }
+{
+    let mut targets = held(alloc, rows)?;
+    let mut left = spare(rows).min(need);
+    let mut chunk = MOST_PAGES;
+    while left > 0 {
+        if left <= rows.len() as u32 * (chunk - 1) {
+            chunk /= 2;
+        } else {
+            let Some(payer) = next_payer(tau, rows, targets.as_slice(), chunk - 1) else {
+                unreachable!("some row has a chunk");
+            };
+            targets[payer] -= chunk;
+            left -= chunk;
+        }
+    }
+    Ok(targets)
+}
+
+/// The pages that each row begins with.
+fn held(alloc: Global, rows: &[Row]) -> Result<Vec<u32>, AllocError>
+    ensures { IfOk result (λ v. v.items ≡ map held rows.now) }
+{
+    rows.iter()
+        .map(|row| row.pages.max(row.floor))
+        .collect(alloc)
+}
+
+/// How many pages stand above the floors.
+fn spare(rows: &[Row]) -> u32
+    requires { sum_by spare rows.now < 2 ^ 32 }
+    ensures { result ≡ sum_by spare rows.now }
+{
+    rows.iter()
+        .map(|row| row.pages.saturating_sub(row.floor))
+        .sum()
+}
+
+/// The row that comes first with `less` pages fewer than its target, of those that then have some above
+/// their floor.
+fn next_payer(tau: u32, rows: &[Row], targets: &[u32], less: u32) -> Option<usize>
+    requires tax { tau ≤ 99 }
+    requires rows { AreRows rows.now }
+    requires count { length targets.now ≡ length rows.now }
+    requires most { (i : ℕ) → i < length targets.now → slice_index targets.now i ≤ 65536 }
+    ensures { IsBestBelow tau rows.now (λ i. slice_index targets.now i - less) (length rows.now) result }
+{
+    let mut best: Option<usize> = None;
+    for (i, row) in rows.iter().enumerate() {
+        let pages = targets[i].saturating_sub(less);
+        if pages <= row.floor {
+            continue;
+        }
+        match best {
+            Some(b)
+                if comes_no_later_at(tau, &rows[b], targets[b].saturating_sub(less), row, pages) =>
+                {}
+            _ => best = Some(i),
+        }
+    }
+    best
+}

@@ -1,0 +1,99 @@
+use crate::{Averages, Row, are_rows, least_ratio, targets};
+use esx_plain::targets as plain;
+use esx_types::VmId;
+use std::alloc::Global;
+use std::process::Abort;
+use std::test::Fail;
+
+/// What the averages are, in units of 1/65,536, and what counts as in use where no period is open.
+fn expect_averages(rt: &impl Abort, averages: Averages, slow: u32, fast: u32, active: u32) {
+    assert_eq!(rt; averages.slow(), slow);
+    assert_eq!(rt; averages.fast(), fast);
+    assert_eq!(rt; averages.active(None), active);
+}
+
+#[test]
+fn averages_follow_closed_periods(rt: HostRuntime) {
+    let opened = Averages::opened();
+    expect_averages(&rt, opened, 65536, 65536, 65536);
+    assert_eq!(rt; opened.active(Some((1, 4))), 65536);
+    let after_one = opened.close_period(1, 4);
+    expect_averages(&rt, after_one, 59392, 40960, 59392);
+    expect_averages(&rt, after_one.close_period(2, 2), 60160, 53248, 60160);
+}
+
+#[test]
+fn an_open_period_counts(rt: HostRuntime) {
+    let idle = Averages::opened().close_period(0, 1).close_period(0, 1);
+    expect_averages(&rt, idle, 50176, 16384, 50176);
+    let idle = idle
+        .close_period(0, 1)
+        .close_period(0, 1)
+        .close_period(0, 1);
+    expect_averages(&rt, idle, 33614, 2048, 33614);
+    assert_eq!(rt; idle.active(Some((1, 1))), 33792);
+}
+
+fn row(vm: u8, shares: u32, pages: u32, floor: u32, active: u32) -> Result<Row, Fail> {
+    let vm = VmId::new(vm).ok_or("no machine has this number")?;
+    Ok(Row {
+        vm,
+        shares,
+        pages,
+        floor,
+        active,
+    })
+}
+
+#[test]
+fn an_idle_machine_pays_before_one_with_fewer_shares(rt: HostRuntime) -> Result<(), Fail> {
+    let rows = [row(0, 1000, 10, 1, 0)?, row(1, 500, 10, 1, 65536)?];
+    assert!(rt; are_rows(&rows));
+    assert_eq!(rt; least_ratio(75, &rows), VmId::new(0));
+    assert_eq!(rt; least_ratio(0, &rows), VmId::new(1));
+    Ok(())
+}
+
+#[test]
+fn no_machine_pays_at_its_floor(rt: HostRuntime) -> Result<(), Fail> {
+    let rows = [row(3, 1000, 1, 2, 0)?];
+    assert!(rt; are_rows(&rows));
+    assert_eq!(rt; least_ratio(75, &rows), None);
+    Ok(())
+}
+
+/// The targets of rows where pages are needed at a tax of 75 percent, by both ways to find them.
+fn expect_targets(
+    rt: &impl Abort,
+    alloc: Global,
+    rows: &[Row],
+    need: u32,
+    expected: &[u32],
+) -> Result<(), Fail> {
+    assert!(rt; are_rows(rows));
+    assert_eq!(rt; targets(alloc, 75, rows, need)?.as_slice(), expected);
+    assert_eq!(rt; plain::targets(alloc, 75, rows, need)?.as_slice(), expected);
+    Ok(())
+}
+
+#[test]
+fn a_tie_goes_to_the_lower_machine(rt: HostRuntime) -> Result<(), Fail> {
+    let rows = [row(0, 1000, 10, 2, 65536)?, row(1, 1000, 6, 2, 65536)?];
+    expect_targets(&rt, rt.alloc(), &rows, 5, &[5, 6])
+}
+
+#[test]
+fn no_target_is_below_its_floor(rt: HostRuntime) -> Result<(), Fail> {
+    let rows = [row(0, 1000, 10, 2, 65536)?, row(1, 1000, 6, 2, 65536)?];
+    expect_targets(&rt, rt.alloc(), &rows, 100, &[2, 2])
+}
+
+#[test]
+fn a_machine_below_its_floor_keeps_it_as_target(rt: HostRuntime) -> Result<(), Fail> {
+    expect_targets(&rt, rt.alloc(), &[row(0, 1000, 1, 2, 65536)?], 5, &[2])
+}
+
+#[test]
+fn there_may_be_no_rows(rt: HostRuntime) -> Result<(), Fail> {
+    expect_targets(&rt, rt.alloc(), &[], 5, &[])
+}

@@ -1,0 +1,12 @@
+pub mod Arenas
+pub mod Counts
+pub mod Heads
+pub mod Lists
+pub mod Moved
+pub mod Picked
+pub mod Puts
+pub mod Shifts
+pub mod Starts
+pub mod Tables
+pub mod Takes
+pub mod Walks

@@ -1,0 +1,5 @@
+pub mod Arena
+pub mod Kinds
+pub mod Links
+pub mod Table
+pub use Rattle.esx_plain.specs.Key

@@ -1,0 +1,14 @@
+//! The table of shared frames and hints under content keys, from Waldspurger's section on content-based
+//! page sharing.
+#![tactic(auto)]
+
+mod arena;
+mod content;
+mod entry;
+mod table;
+#[cfg(test)]
+mod tests;
+
+pub use content::key;
+pub use entry::{Entry, Kind};
+pub use table::Keys;

@@ -1,0 +1,3 @@
+pub use Rattle.esx_types.specs.Ranges
+pub use Rattle.esx_plain.specs.Level
+pub mod Inside
