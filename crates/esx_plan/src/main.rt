@@ -63,7 +63,14 @@ fn count_words<R: Env + AllocGlobal>(rt: &R) -> Result<usize, Failure> {
 
 /// Serves the standard input to the standard output.
 fn run_console<R: Input + Print + AllocGlobal>(rt: &R) -> Result<(), Failure> {
-    match serve_streams::<_, _, Brand, Brand>(rt.alloc(), SITE, rt.reader(), io::writer(rt), Blank::new(2), Blank::new(2)) {
+    match serve_streams::<_, _, Brand, Brand>(
+        rt.alloc(),
+        SITE,
+        rt.reader(),
+        io::writer(rt),
+        Blank::new(2),
+        Blank::new(2),
+    ) {
         Ok(_) => Ok(()),
         Err(fault) => Err(Failure::Serve(fault)),
     }

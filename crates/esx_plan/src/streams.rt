@@ -57,7 +57,10 @@ pub struct StreamSource<R: Read + Drop, W: Write + Drop, L: Ledger> {
 }
 
 impl<R: Read + Drop, W: Write + Drop, L: Ledger> StreamSource<R, W, L> {
-    pub fn new(source: ReadSource<R, L>, answers: Rc<RefCell<Answers<W>>>) -> StreamSource<R, W, L> {
+    pub fn new(
+        source: ReadSource<R, L>,
+        answers: Rc<RefCell<Answers<W>>>,
+    ) -> StreamSource<R, W, L> {
         StreamSource { source, answers }
     }
 }
@@ -160,5 +163,9 @@ pub fn serve_streams<R: Read + Drop, W: Write + Drop, I: Ledger, O: Ledger>(
     let mut source = StreamSource::new(ReadSource::<R, I>::new(reader, calls_in), shared);
     let mut sink = StreamSink::<W, O>::new(answers, calls_out);
     let served = serve_site(alloc, config, &mut source, &mut sink);
-    if sink.finish() { served } else { served.and(Err(ServeFault::Write)) }
+    if sink.finish() {
+        served
+    } else {
+        served.and(Err(ServeFault::Write))
+    }
 }

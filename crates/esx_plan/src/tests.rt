@@ -3,10 +3,10 @@
 ghost use Rattle.std.specs.Prelude.{◌≡◌, ◌≤◌};
 ghost use Rattle.esx_types.specs.Ranges.{IsConfig};
 
-use crate::{Failure, SITE};
 use crate::site::serve_site;
-use esx_text::ServeFault;
-use esx_types::{Config, MemorySink, MemorySource};
+use crate::{Failure, SITE};
+use esx_text::{ServeFault, parse_command, print_command, print_reply};
+use esx_types::{Config, MemorySink, MemorySource, PageState, Reply, Said};
 use std::alloc::Global;
 use std::marker::Brand;
 use std::sync::ledger::{Blank, Ledger};
@@ -122,7 +122,14 @@ fn served<I: Ledger, O: Ledger>(
 #[test]
 fn rows(rt: HostRuntime) -> Result<(), Fail> {
     for row in &ROWS {
-        let (result, bytes) = served::<Brand, Brand>(rt.alloc(), SITE, row.input, 4096, Blank::new(2), Blank::new(2));
+        let (result, bytes) = served::<Brand, Brand>(
+            rt.alloc(),
+            SITE,
+            row.input,
+            4096,
+            Blank::new(2),
+            Blank::new(2),
+        );
         assert!(rt; result.is_ok());
         assert!(rt; bytes.as_slice() == row.output);
     }
@@ -132,7 +139,14 @@ fn rows(rt: HostRuntime) -> Result<(), Fail> {
 #[test]
 fn rows_byte_by_byte(rt: HostRuntime) -> Result<(), Fail> {
     for row in &ROWS {
-        let (result, bytes) = served::<Brand, Brand>(rt.alloc(), SITE, row.input, 1, Blank::new(2), Blank::new(2));
+        let (result, bytes) = served::<Brand, Brand>(
+            rt.alloc(),
+            SITE,
+            row.input,
+            1,
+            Blank::new(2),
+            Blank::new(2),
+        );
         assert!(rt; result.is_ok());
         assert!(rt; bytes.as_slice() == row.output);
     }
@@ -144,8 +158,16 @@ fn rows_byte_by_byte(rt: HostRuntime) -> Result<(), Fail> {
 fn full(rt: HostRuntime) -> Result<(), Fail> {
     let config = Config { nodes: 2, ..SITE };
     let input = b"admit 0 2 6 1 1000 0\nstart 0\nread 0 0 0 1\nread 0 9 0 1\nundo 2\nsum\n";
-    let output = b"ok memory 3/20 swap 4/8\nok frame 0 overhead 1/1 running\nno 25 Full\nno 25 Full\nat 0 depth 0 jumps 1\noverhead 0 private 0 shared 0 free 20 high\n";
-    let (result, bytes) = served::<Brand, Brand>(rt.alloc(), config, input, 4096, Blank::new(2), Blank::new(2));
+    let output =
+        b"ok memory 3/20 swap 4/8\nok frame 0 overhead 1/1 running\nno 25 Full\nno 25 Full\nat 0 depth 0 jumps 1\noverhead 0 private 0 shared 0 free 20 high\n";
+    let (result, bytes) = served::<Brand, Brand>(
+        rt.alloc(),
+        config,
+        input,
+        4096,
+        Blank::new(2),
+        Blank::new(2),
+    );
     assert_eq!(rt; result, Ok(6));
     assert!(rt; bytes.as_slice() == output.as_slice());
     Ok(())
@@ -157,4 +179,42 @@ fn statuses(rt: HostRuntime) {
     assert_eq!(rt; Failure::Serve(ServeFault::Read).status(), 1);
     assert_eq!(rt; Failure::Serve(ServeFault::Write).status(), 1);
     assert_eq!(rt; Failure::Serve(ServeFault::OutOfMemory).status(), 3);
+}
+
+const COMMANDS: [&str; 9] = [
+    "admit 0 2 6 1 1000 0",
+    "start 31",
+    "read 0 1 2 16",
+    "write 0 1 0 2aff",
+    "undo 3",
+    "redo 0",
+    "sum",
+    "page 0 4294967295",
+    "where",
+];
+
+#[test]
+fn commands(rt: HostRuntime) -> Result<(), Fail> {
+    for text in COMMANDS {
+        let Ok(call) = parse_command(rt.alloc(), text) else {
+            panic!(rt; "a command was refused");
+        };
+        assert_eq!(rt; print_command(rt.alloc(), &call)?.as_str(), text);
+    }
+    Ok(())
+}
+
+#[test]
+fn reply_of_a_shared_page(rt: HostRuntime) -> Result<(), Fail> {
+    let reply = Reply {
+        jumps: 0,
+        said: Said::Page {
+            state: PageState::Shared { frame: 3, count: 1 },
+        },
+    };
+    assert_eq!(rt;
+        print_reply(rt.alloc(), &reply)?.as_str(),
+        "here frame 3 shared 1\n"
+    );
+    Ok(())
 }
