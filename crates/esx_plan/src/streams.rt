@@ -3,7 +3,10 @@
 //! Answers wait in a buffer until more input is asked for, so that a person at a terminal and a program
 //! on a pipe get every answer at once, and a million lines do not cost a million writes.
 
-ghost use Rattle.std.specs.Prelude.{◌≡◌, ◌≤◌, None};
+ghost use Rattle.std.specs.Prelude.{◌≡◌, ◌≤◌, ℕ, List, Option, None, IfOk};
+ghost use Rattle.esx_plain.specs.Console.{Session};
+ghost use Rattle.esx_text.specs.Answers.{Answers};
+ghost use Rattle.esx_plan.specs.Site.{at_opening};
 ghost use Rattle.esx_types.specs.Ranges.{IsConfig};
 
 use crate::site::serve_site;
@@ -20,14 +23,14 @@ const ROOM: usize = 65536;
 
 /// Answers on their way out. Once they could not be written, nothing more is.
 #[derive(Drop)]
-pub struct Answers<W: Write + Drop> {
+pub struct Outgoing<W: Write + Drop> {
     writer: BufWriter<W>,
     is_broken: bool,
 }
 
-impl<W: Write + Drop> Answers<W> {
-    pub fn new(alloc: Global, writer: W) -> io::Result<Answers<W>> {
-        Ok(Answers {
+impl<W: Write + Drop> Outgoing<W> {
+    pub fn new(alloc: Global, writer: W) -> io::Result<Outgoing<W>> {
+        Ok(Outgoing {
             writer: BufWriter::with_capacity(alloc, ROOM, writer)?,
             is_broken: false,
         })
@@ -53,14 +56,16 @@ impl<W: Write + Drop> Answers<W> {
 #[derive(Drop)]
 pub struct StreamSource<R: Read + Drop, W: Write + Drop, L: Ledger> {
     source: ReadSource<R, L>,
-    answers: Rc<RefCell<Answers<W>>>,
+    answers: Rc<RefCell<Outgoing<W>>>,
 }
 
 impl<R: Read + Drop, W: Write + Drop, L: Ledger> StreamSource<R, W, L> {
     pub fn new(
         source: ReadSource<R, L>,
-        answers: Rc<RefCell<Answers<W>>>,
-    ) -> StreamSource<R, W, L> {
+        answers: Rc<RefCell<Outgoing<W>>>,
+    ) -> StreamSource<R, W, L>
+        ensures { ⟦<StreamSource<R, W, L> as Source>⟧.remaining result ≡ ⟦<ReadSource<R, L> as Source>⟧.remaining source }
+    {
         StreamSource { source, answers }
     }
 }
@@ -83,12 +88,12 @@ impl<R: Read + Drop, W: Write + Drop, L: Ledger> Source for StreamSource<R, W, L
 /// Output whose bytes wait until more input is asked for, or there is no more room for them.
 #[derive(Drop)]
 pub struct StreamSink<W: Write + Drop, L: Ledger> {
-    answers: Rc<RefCell<Answers<W>>>,
+    answers: Rc<RefCell<Outgoing<W>>>,
     counts: Counts<L>,
 }
 
 impl<W: Write + Drop, L: Ledger> StreamSink<W, L> {
-    pub fn new(answers: Rc<RefCell<Answers<W>>>, blank: Blank) -> StreamSink<W, L>
+    pub fn new(answers: Rc<RefCell<Outgoing<W>>>, blank: Blank) -> StreamSink<W, L>
         requires name { blank.name ≡ L.name }
         requires parts { blank.parts ≡ L.parts }
         requires two { 2 ≤ blank.parts }
@@ -108,7 +113,7 @@ impl<W: Write + Drop, L: Ledger> StreamSink<W, L> {
     }
 }
 
-fn write_to<W: Write + Drop>(answers: &RefCell<Answers<W>>, bytes: &[u8]) -> bool {
+fn write_to<W: Write + Drop>(answers: &RefCell<Outgoing<W>>, bytes: &[u8]) -> bool {
     match answers.try_borrow_mut() {
         Ok(mut answers) => answers.write(bytes),
         Err(_) => false,
@@ -150,8 +155,9 @@ pub fn serve_streams<R: Read + Drop, W: Write + Drop, I: Ledger, O: Ledger>(
     requires name_out { calls_out.name ≡ O.name }
     requires parts_out { calls_out.parts ≡ O.parts }
     requires two_out { 2 ≤ calls_out.parts }
+    ensures { IfOk result (λ n. (left : Option (List ℕ)) × (after : Session) × Answers 0 n (at_opening config) after (R.remaining reader) left None None) }
 {
-    let Ok(answers) = Answers::new(alloc, writer) else {
+    let Ok(answers) = Outgoing::new(alloc, writer) else {
         return Err(ServeFault::OutOfMemory);
     };
     let Ok(answers) = Rc::new(alloc, RefCell::new(answers)) else {

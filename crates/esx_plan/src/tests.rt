@@ -153,6 +153,25 @@ fn rows_byte_by_byte(rt: HostRuntime) -> Result<(), Fail> {
     Ok(())
 }
 
+/// A line that is too long is no command, and the next line is served.
+#[test]
+fn long_line(rt: HostRuntime) -> Result<(), Fail> {
+    let mut text = Vec::new(rt.alloc());
+    text.resize(20000, b'a')?;
+    text.extend_from_slice(b"\nsum\n")?;
+    let (result, bytes) = served::<Brand, Brand>(
+        rt.alloc(),
+        SITE,
+        text.as_slice(),
+        1000,
+        Blank::new(2),
+        Blank::new(2),
+    );
+    assert_eq!(rt; result, Ok(2));
+    assert!(rt; bytes.as_slice() == b"? line 1\noverhead 0 private 0 shared 0 free 20 high\n".as_slice());
+    Ok(())
+}
+
 /// Where all node numbers are made no event is accepted, and undo goes on.
 #[test]
 fn full(rt: HostRuntime) -> Result<(), Fail> {

@@ -95,35 +95,41 @@ fn is_silent(line: &[u8]) -> bool
     }
 }
 
-/// Answers a line, of which all is kept, or where it is too long a front.
+/// A line by its number from 1 on: all its bytes, or where it is too long a front of them.
+#[derive(Clone, Copy)]
+pub struct Asked<'a> {
+    pub number: u64,
+    pub kept: &'a [u8],
+    pub long: bool,
+}
+
+/// Answers a line.
 pub fn answer_line<W: Sink>(
     alloc: Global,
     console: &mut Console,
     caller: u8,
     writer: &mut W,
     held: &mut AnswerBuffer,
-    number: u64,
-    kept: &[u8],
-    long: bool,
+    asked: &Asked,
 ) -> Result<(), ServeFault>
     requires { held.old ≡ [] }
-    ensures served { (line : List ℕ) → Keeps kept.now long line
-        → IsServed number caller console.old line console.new (W.contents writer.old) (W.contents writer.new) result }
+    ensures served { (line : List ℕ) → Keeps asked.now.kept.now asked.now.long line
+        → IsServed asked.now.number caller console.old line console.new (W.contents writer.old) (W.contents writer.new) result }
     ensures empty { OnOk result (held.new ≡ []) }
     ensures failures { W.failures writer.new ≡ W.failures writer.old + write_faults result }
     ensures reads { IsErrOf result ServeFault.Read → ⊥ }
 {
-    if is_silent(kept) {
+    if is_silent(asked.kept) {
         return Ok(());
     }
-    if long {
-        return answer_unknown(writer, held, number);
+    if asked.long {
+        return answer_unknown(writer, held, asked.number);
     }
-    let Ok(found) = call_of_line(alloc, kept) else {
+    let Ok(found) = call_of_line(alloc, asked.kept) else {
         return Err(ServeFault::OutOfMemory);
     };
     match found {
         Some(call) => answer_call(console, caller, writer, held, call),
-        None => answer_unknown(writer, held, number),
+        None => answer_unknown(writer, held, asked.number),
     }
 }

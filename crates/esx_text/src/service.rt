@@ -6,7 +6,7 @@ ghost use Rattle.esx_plain.specs.Console.{Session};
 ghost use Rattle.esx_text.specs.Lines.{Holds, HasNoFeed};
 ghost use Rattle.esx_text.specs.Answers.{Progress, Answers, Stops, Faults, write_faults};
 
-use crate::answer::answer_line;
+use crate::answer::{Asked, answer_line};
 use crate::fault::ServeFault;
 use crate::line::{LineBuffer, split_line, without_return};
 use crate::writing::AnswerBuffer;
@@ -60,9 +60,11 @@ fn serve_line<W: Sink>(
         caller,
         writer,
         &mut work.answer,
-        work.count,
-        without_return(work.line.bytes()),
-        work.line.is_long(),
+        &Asked {
+            number: work.count,
+            kept: without_return(work.line.bytes()),
+            long: work.line.is_long(),
+        },
     )?;
     work.line.clear();
     Ok(())
@@ -129,9 +131,11 @@ fn serve_end<W: Sink>(
         caller,
         writer,
         &mut work.answer,
-        work.count,
-        work.line.bytes(),
-        work.line.is_long(),
+        &Asked {
+            number: work.count,
+            kept: work.line.bytes(),
+            long: work.line.is_long(),
+        },
     )?;
     Ok(work.count)
 }

@@ -6,22 +6,22 @@ use Rattle.esx_text.proofs.answer.answer_line.Goals as goal
 
 pub returns-then-is_silent-clause-served : goal.returns-then-is_silent-clause-served
 returns-then-is_silent-clause-served g c = λ line keeps.
-    ([], silent ((silent_as_kept c.args.kept.now c.args.long line keeps).1 (c.is_silent.ensures.0 c.if-is_silent.true)), appends_nothing _)
+    ([], silent ((silent_as_kept c.args.asked.now.kept.now c.args.asked.now.long line keeps).1 (c.is_silent.ensures.0 c.if-is_silent.true)), appends_nothing _)
 
-pub returns-then-long-clause-served : goal.returns-then-long-clause-served
-returns-then-long-clause-served g c = λ line keeps.
+pub returns-then-asked-clause-served : goal.returns-then-asked-clause-served
+returns-then-asked-clause-served g c = λ line keeps.
     c.answer_unknown.ensures.served c.args.caller c.args.console.now line
-    (λ s. let t = c.is_silent.ensures.1 ((silent_as_kept c.args.kept.now c.args.long line keeps).0 s) in cc)
-    (λ call is. long_unasked c.args.kept.now c.args.long line call c.if-long.true keeps is)
+    (λ s. let t = c.is_silent.ensures.1 ((silent_as_kept c.args.asked.now.kept.now c.args.asked.now.long line keeps).0 s) in cc)
+    (λ call is. long_unasked c.args.asked.now.kept.now c.args.asked.now.long line call c.if-asked.true keeps is)
 
 pub returns-in-Some-clause-served : goal.returns-in-Some-clause-served
 returns-in-Some-clause-served g c = λ line keeps.
-    let e = kept_whole c.args.kept.now c.args.long line c.if-long.false keeps in
-    c.answer_call.ensures.served c.args.number line (rw e (rw c.in-Some.is at c.in-Ok.ensures))
+    let e = kept_whole c.args.asked.now.kept.now c.args.asked.now.long line c.if-asked.false keeps in
+    c.answer_call.ensures.served c.args.asked.now.number line (rw e (rw c.in-Some.is at c.in-Ok.ensures))
 
 pub returns-in-None-clause-served : goal.returns-in-None-clause-served
 returns-in-None-clause-served g c = λ line keeps.
-    let e = kept_whole c.args.kept.now c.args.long line c.if-long.false keeps in
+    let e = kept_whole c.args.asked.now.kept.now c.args.asked.now.long line c.if-asked.false keeps in
     c.answer_unknown-in-None.ensures.served c.args.caller c.args.console.now line
-    (λ s. let t = c.is_silent.ensures.1 ((silent_as_kept c.args.kept.now c.args.long line keeps).0 s) in cc)
+    (λ s. let t = c.is_silent.ensures.1 ((silent_as_kept c.args.asked.now.kept.now c.args.asked.now.long line keeps).0 s) in cc)
     (λ call is. (rw c.in-None.is at c.in-Ok.ensures) call (rw e at is))
