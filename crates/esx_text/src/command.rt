@@ -238,7 +238,7 @@ fn print_event(alloc: Global, event: &Event) -> Result<String, AllocError>
     }
 }
 
-/// The one spelling of a call.
+/// The one spelling of a call. A write is read again only where it has 1 to 4,096 bytes.
 pub fn print_command(alloc: Global, call: &Call) -> Result<String, AllocError>
     ensures { IfOk result (λ text. string_bytes text ≡ spelling call.now) }
 {
