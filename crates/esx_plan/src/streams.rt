@@ -60,10 +60,7 @@ pub struct StreamSource<R: Read + Drop, W: Write + Drop, L: Ledger> {
 }
 
 impl<R: Read + Drop, W: Write + Drop, L: Ledger> StreamSource<R, W, L> {
-    pub fn new(
-        source: ReadSource<R, L>,
-        answers: Rc<RefCell<Outgoing<W>>>,
-    ) -> StreamSource<R, W, L>
+    pub fn new(source: ReadSource<R, L>, answers: Rc<RefCell<Outgoing<W>>>) -> StreamSource<R, W, L>
         ensures { ⟦<StreamSource<R, W, L> as Source>⟧.remaining result ≡ ⟦<ReadSource<R, L> as Source>⟧.remaining source }
     {
         StreamSource { source, answers }

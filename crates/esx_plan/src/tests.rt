@@ -168,7 +168,9 @@ fn long_line(rt: HostRuntime) -> Result<(), Fail> {
         Blank::new(2),
     );
     assert_eq!(rt; result, Ok(2));
-    assert!(rt; bytes.as_slice() == b"? line 1\noverhead 0 private 0 shared 0 free 20 high\n".as_slice());
+    assert!(rt;
+        bytes.as_slice() == b"? line 1\noverhead 0 private 0 shared 0 free 20 high\n".as_slice()
+    );
     Ok(())
 }
 
