@@ -132,6 +132,19 @@ row_old j m e n row new h fits old up back last =
           subst W (sym on) (subst C (ap (kept_after m.config) (sym above_is)) (subst B (ap (kept_after m.config) (sym path_is)) (old.back r (sym back ∙ s)))));
     }
 
+-- where each node on the cursor's way stands, so it is on the way of a new node
+pub way_done : (m : History) (e : Event) → IsTree m.nodes → IsWalk m.nodes m.walk → ((n : ℕ) → on_way m.nodes (cursor m) n ≡ true → alive m.nodes n ≡ true)
+    → (y : ℕ) → on_way (node_of m e ∷ m.nodes) (length m.nodes + 1) y ≡ true → alive (node_of m e ∷ m.nodes) y ≡ true
+way_done m e tree walk way y on = of (eqb_tells y (length m.nodes + 1))
+  where
+    of : (((y == (length m.nodes + 1)) ≡ true) × (y ≡ length m.nodes + 1)) ⊎ (((y == (length m.nodes + 1)) ≡ false) × (y ≢ length m.nodes + 1)) → alive (node_of m e ∷ m.nodes) y ≡ true
+    of (inl k) = alive_new (node_of m e) m.nodes y k.1
+    of (inr k) = (
+        let before : on_way m.nodes (cursor m) y ≡ true = sym (way_new (node_of m e) m.nodes (length m.nodes + 1) y refl ∙ ap (λ t. t || on_way m.nodes (cursor m) y) k.0) ∙ on in
+        let f = walk_ends m.nodes m.walk tree walk in
+        let b = way_below m.nodes (cursor m) y tree f before in
+        alive_old (node_of m e) m.nodes y (omega arith) ∙ way y before)
+
 grew : (j new : Kept) (m : History) (e : Event) (a : Answer) (u : Scene) (b : Back) (d : Row) → (h : Holds j m)
     → next m.config (accepted_here j m d h).scene e ≡ Ok (a, u) → Shows new.machine u → new.machine.config ≡ j.machine.config → Trades b new.machine j.machine
     → new.rows ≡ grown j.rows j.cursor b d → new.cursor ≡ length j.rows → new.depth ≡ j.depth + 1 → new.nodes ≡ j.nodes
@@ -159,22 +172,10 @@ grew j new m e a u b d h gives shows config trades rows_are cursor_is depth_is l
       place = cursor_is ∙ h.size;
       deep = (let q = ap length path_is in let l = length-append (here m) (e ∷ []) in let k = h.deep in omega arith);
       shows = arrives ∙ ap (kept_after m.config) (sym path_is);
-      way = λ y on. way_grown y on;
+      way = λ y on. way_done m e h.tree h.walk h.way y on;
       each = subst R (sym rows_are) (λ y z below. each_grown accepted arrives y z (eqb_tells y n) (eqb_tells y (cursor m)) below);
     }
   where
-    way_grown : (y : ℕ) → on_way (node_of m e ∷ m.nodes) (length m.nodes + 1) y ≡ true → alive (node_of m e ∷ m.nodes) y ≡ true
-    way_grown y on = way_cases y (eqb_tells y (length m.nodes + 1)) on
-      where
-        way_cases : (y : ℕ) → (((y == (length m.nodes + 1)) ≡ true) × (y ≡ length m.nodes + 1)) ⊎ (((y == (length m.nodes + 1)) ≡ false) × (y ≢ length m.nodes + 1))
-            → on_way (node_of m e ∷ m.nodes) (length m.nodes + 1) y ≡ true → alive (node_of m e ∷ m.nodes) y ≡ true
-        way_cases y (inl k) on = alive_new (node_of m e) m.nodes y k.1
-        way_cases y (inr k) on = (
-            let before : on_way m.nodes (cursor m) y ≡ true = sym (way_new (node_of m e) m.nodes (length m.nodes + 1) y refl ∙ ap (λ t. t || on_way m.nodes (cursor m) y) k.0) ∙ on in
-            let b = way_below m.nodes (cursor m) y h.tree (cursor_fits j m m.walk h) before in
-            let f = cursor_fits j m m.walk h in
-            alive_old (node_of m e) m.nodes y (omega arith) ∙ h.way y before)
-
     each_grown : IsAccepted m.config (here m ++ e ∷ []) → new.machine ≡ kept_after m.config (here m ++ e ∷ []) → (y : ℕ) (z : Row)
         → (((y == (length m.nodes + 1)) ≡ true) × (y ≡ length m.nodes + 1)) ⊎ (((y == (length m.nodes + 1)) ≡ false) × (y ≢ length m.nodes + 1))
         → (((y == cursor m) ≡ true) × (y ≡ cursor m)) ⊎ (((y == cursor m) ≡ false) × (y ≢ cursor m))

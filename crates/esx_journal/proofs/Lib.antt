@@ -5,4 +5,6 @@ pub mod Steps
 pub mod Moves
 pub mod Grows
 pub mod Back
+pub mod Down
+pub mod Turning
 pub mod Reaching

@@ -1,46 +1,66 @@
 -- What every history keeps that calls lead to.
-use Rattle.std.proofs.Common.{◌≡◌, ℕ, zero, suc, ◌+◌, ◌≤◌, Bool, true, false, cond, List, [], ◌∷◌, ◌++◌, length, refl, sym, ap, ◌∙◌, subst, arith, Option, Some, None, option_map, ◌⊎◌, inl, inr, Result, Ok, Err, nat_le, nat_lt}
+use Rattle.std.proofs.Common.{◌≡◌, ◌≢◌, ℕ, zero, suc, ◌+◌, ◌≤◌, ◌==◌, Bool, true, false, cond, List, [], ◌∷◌, ◌++◌, length, refl, sym, ap, ◌∙◌, subst, arith, Option, Some, None, option_map, ◌⊎◌, inl, inr, Result, Ok, Err, nat_le, nat_lt}
+use Rattle.std.proofs.lemmas.Bool.Decides.{eqb_tells}
 use Rattle.esx_types.specs.declared.config.Config.{Config}
 use Rattle.esx_types.specs.declared.event.Event.{Event}
 use Rattle.esx_types.specs.declared.event.Answer.{Answer}
 use Rattle.esx_types.specs.declared.event.Refusal.{Refusal}
 use Rattle.esx_types.specs.declared.event.Refusal.TheVariants.{Full}
 use Rattle.esx_plain.specs.declared.scene.Scene.{Scene}
-use Rattle.esx_plain.specs.Replay.{opening, next, run, run_from}
-use Rattle.esx_plain.specs.History.{Node, History, path, IsTree, IsWalk, cursor, here, opened, done, answered, do_event, scene_or, scene_at, undone, redone, undo, redo, jumped}
+use Rattle.esx_plain.specs.Replay.{opening, next, run, run_from, replay_of, shown_after}
+use Rattle.esx_plain.specs.History.{Node, History, alive, path, on_way, at, IsTree, IsWalk, cursor, here, opened, done, answered, do_event, scene_or, scene_at, book_at, undone, redone, undo, redo, jumped}
 use Rattle.esx_journal.specs.Reached.{IsReached, Opened, Did, Undid, Redid}
-use Rattle.esx_journal.proofs.Paths.{newest, parent_new, path_new, path_old, walk_ends}
-use Rattle.esx_plain.proofs.Laws.{run_push}
-use Rattle.esx_journal.proofs.Steps.{is_child, child_by}
+use Rattle.esx_journal.specs.Turns.{Shortens, Lengthens}
+use Rattle.esx_journal.proofs.Paths.{newest, parent_new, alive_old, path_new, path_old, way_old, way_below, way_same, walk_ends}
+use Rattle.esx_plain.proofs.Callers.{run_one_more}
+use Rattle.esx_journal.proofs.Steps.{IsChild, is_child, child_by}
 use Rattle.esx_journal.proofs.Moves.{redone_back}
-use Rattle.esx_journal.proofs.Grows.{at_grown, walk_grown}
-use Rattle.esx_journal.proofs.Back.{undone_is, walk_ups}
+use Rattle.esx_journal.proofs.Grows.{node_of, at_grown, walk_grown, way_done}
+use Rattle.esx_journal.proofs.Back.{undone_is, at_ups, walk_ups, way_from_above, gone_up, undo_is, here_up}
+use Rattle.esx_journal.proofs.Down.{redo_is}
 
 -- a path that no event is refused on
 pub record Runs (c : Config) (es : List Event) : Type 0 where
   pub scene : Scene
   pub runs : run c es ≡ Ok scene
 
--- a tree, a walk on it, and paths that run
+-- a tree whose paths run, a walk on it, and ways that stand where their ends do
 pub record IsSteady (c : Config) (m : History) : Type 0 where
   pub config : m.config ≡ c
   pub tree : IsTree m.nodes
   pub walk : IsWalk m.nodes m.walk
   pub paths : (n : ℕ) → n ≤ length m.nodes → Runs c (path m.nodes n)
+  pub live : (n a : ℕ) → n ≤ length m.nodes → alive m.nodes n ≡ true → on_way m.nodes n a ≡ true → alive m.nodes a ≡ true
+  pub way : (n : ℕ) → on_way m.nodes (cursor m) n ≡ true → alive m.nodes n ≡ true
 
 steady_open : (c : Config) → IsSteady c (opened c)
-unfolding path run_from
-steady_open c = record { config = refl; tree = tt; walk = tt; paths = λ n fits. record { scene = opening c; runs = refl } }
+unfolding path run_from on_way
+steady_open c = record { config = refl; tree = tt; walk = tt; paths = λ n fits. record { scene = opening c; runs = refl }; live = λ n a fits up on. cc; way = λ n on. cc }
 
 steady_jumped : (c : Config) (m : History) → IsSteady c m → IsSteady c (jumped m)
-steady_jumped c m s = record { config = s.config; tree = s.tree; walk = s.walk; paths = s.paths }
+steady_jumped c m s = record { config = s.config; tree = s.tree; walk = s.walk; paths = s.paths; live = s.live; way = s.way }
 
 steady_up : (c : Config) (m : History) (k : ℕ) → IsSteady c m → IsSteady c (undone k m)
 steady_up c m k s = (let P : History → Type 0 = IsSteady c in
-    subst P (sym (undone_is k m)) (record { config = s.config; tree = s.tree; walk = walk_ups m.nodes k m.walk s.walk; paths = s.paths }))
+    subst P (sym (undone_is k m)) (record {
+      config = s.config;
+      tree = s.tree;
+      walk = walk_ups m.nodes k m.walk s.walk;
+      paths = s.paths;
+      live = s.live;
+      way = λ n on. s.way n (way_from_above m.nodes k (cursor m) n s.tree (walk_ends m.nodes m.walk s.tree s.walk) (ap (λ x. on_way m.nodes x n) (sym (at_ups m.nodes k m.walk)) ∙ on));
+    }))
+
+-- the way of a child that stands
+way_down : (m : History) (n y : ℕ) → IsTree m.nodes → IsChild m m.walk n → ((a : ℕ) → on_way m.nodes (cursor m) a ≡ true → alive m.nodes a ≡ true) → on_way m.nodes n y ≡ true → alive m.nodes y ≡ true
+way_down m n y tree k way on = of (eqb_tells y n)
+  where
+    of : (((y == n) ≡ true) × (y ≡ n)) ⊎ (((y == n) ≡ false) × (y ≢ n)) → alive m.nodes y ≡ true
+    of (inl e) = ap (alive m.nodes) e.1 ∙ k.live
+    of (inr e) = way y (ap (λ x. on_way m.nodes x y) (sym k.up) ∙ sym (way_same m.nodes n y tree k.some k.fits e.1) ∙ on)
 
 steady_down : (c : Config) (k : ℕ) (m w : History) → IsSteady c m → redone k m ≡ Some w → IsSteady c w
-unfolding redone
+unfolding redone at
 steady_down c zero m w s e = (let same : m ≡ w = cc in let P : History → Type 0 = IsSteady c in subst P same s)
 steady_down c (suc k) m w s e =
     let i : k + 1 ≡ suc k = omega arith in
@@ -48,7 +68,14 @@ steady_down c (suc k) m w s e =
     let before = steady_down c k m last.before s last.gives in
     let n = is_child last.before last.before.walk last.node before.walk (child_by last.before last.node last.is) in
     let P : History → Type 0 = IsSteady c in
-    subst P last.same (record { config = before.config; tree = before.tree; walk = (n.some, n.fits, n.up, before.walk); paths = before.paths })
+    subst P last.same (record {
+      config = before.config;
+      tree = before.tree;
+      walk = (n.some, n.fits, n.up, before.walk);
+      paths = before.paths;
+      live = before.live;
+      way = λ y on. way_down last.before last.node y before.tree n before.way on;
+    })
 
 -- the cursor's path runs to its scene
 pub runs_here : (c : Config) (m : History) → IsSteady c m → run m.config (here m) ≡ Ok (scene_at m)
@@ -58,7 +85,7 @@ runs_here c m s =
     there ∙ ap (λ o. Ok (scene_or m.config o)) (sym there)
 
 steady_done : (c : Config) (m : History) (e : Event) (a : Answer) (u : Scene) → IsSteady c m → next m.config (scene_at m) e ≡ Ok (a, u) → IsSteady c (done e m)
-unfolding done
+unfolding done at
 steady_done c m e a u s n =
     let x : Node = record { parent = cursor m; event = e; alive = true } in
     let fits = walk_ends m.nodes m.walk s.tree s.walk in
@@ -68,13 +95,22 @@ steady_done c m e a u s n =
       tree = (fits, s.tree);
       walk = (omega arith, omega arith, parent_new x m.nodes size refl ∙ sym (at_grown x m.nodes m.walk s.tree s.walk), walk_grown x m.nodes m.walk s.tree s.walk);
       paths = λ y below. of y (newest y (length m.nodes) (omega arith));
+      live = λ y b below up on. stands y b (newest y (length m.nodes) (omega arith)) up on;
+      way = λ y on. way_done m e s.tree s.walk s.way y on;
     }
   where
+    stands : (y b : ℕ) → (y ≡ length m.nodes + 1) ⊎ (y ≤ length m.nodes) → alive (node_of m e ∷ m.nodes) y ≡ true → on_way (node_of m e ∷ m.nodes) y b ≡ true → alive (node_of m e ∷ m.nodes) b ≡ true
+    stands y b (inl k) up on = way_done m e s.tree s.walk s.way b (ap (λ x. on_way (node_of m e ∷ m.nodes) x b) (sym k) ∙ on)
+    stands y b (inr k) up on = (
+        let before : on_way m.nodes y b ≡ true = sym (way_old (node_of m e) m.nodes y b k) ∙ on in
+        let under = way_below m.nodes y b s.tree k before in
+        alive_old (node_of m e) m.nodes b (omega arith) ∙ s.live y b k (sym (alive_old (node_of m e) m.nodes y k) ∙ up) before)
+
     grown : Runs c (here m ++ e ∷ [])
     grown = (let r = s.paths (cursor m) (walk_ends m.nodes m.walk s.tree s.walk) in
         let scene_is : scene_at m ≡ r.scene = ap (λ k. scene_or k (run k (here m))) s.config ∙ ap (scene_or c) r.runs in
         let first : next c r.scene e ≡ Ok (a, u) = ap (λ k. next k r.scene e) (sym s.config) ∙ ap (λ t. next m.config t e) (sym scene_is) ∙ n in
-        record { scene = u; runs = run_push c (here m) e r.scene u a r.runs first })
+        record { scene = u; runs = run_one_more c (here m) e r.scene u a r.runs first })
 
     of : (y : ℕ) → (y ≡ length m.nodes + 1) ⊎ (y ≤ length m.nodes) → Runs c (path (record { parent = cursor m; event = e; alive = true } ∷ m.nodes) y)
     of y (inl k) = (let P : List Event → Type 0 = Runs c in subst P (sym (path_new (record { parent = cursor m; event = e; alive = true }) m.nodes y k)) grown)
@@ -115,3 +151,52 @@ reached_steady c m Opened = steady_open c
 reached_steady c m (Did e a h after r q) = steady_did c h m e a (reached_steady c h r) q
 reached_steady c m (Undid k h after r q) = steady_undid c h m k (reached_steady c h r) q
 reached_steady c m (Redid k h after r q) = steady_redid c h m k (reached_steady c h r) q
+
+-- the replay of the cursor's path
+pub replayed_here : (c : Config) (m : History) → IsSteady c m → replay_of m.config (here m) ≡ Ok (book_at m)
+replayed_here c m s = ap (shown_after m.config) (runs_here c m s)
+
+-- a node that stands was made
+pub alive_fits : (nodes : List Node) (n : ℕ) → alive nodes n ≡ true → n ≤ length nodes
+unfolding alive
+alive_fits [] n h = cc
+alive_fits (x ∷ older) n h = of (eqb_tells n (length older + 1)) (λ e. alive_fits older n e)
+  where
+    of : (((n == (length older + 1)) ≡ true) × (n ≡ length older + 1)) ⊎ (((n == (length older + 1)) ≡ false) × (n ≢ length older + 1)) → (alive older n ≡ true → n ≤ length older) → n ≤ length (x ∷ older)
+    of (inl e) f = (let k = e.1 in omega arith)
+    of (inr e) f = (let k = f (sym (ap (λ b. cond b x.alive (alive older n)) e.0) ∙ h) in omega arith)
+
+-- an undo from a reached history
+pub shortens : (c : Config) (m : History) (k : ℕ) → IsReached c m → k ≤ length (here m) → Shortens m k
+shortens c m k r deep =
+    let s = reached_steady c m r in
+    let there : undo k m ≡ Some (gone_up k m) = undo_is k m deep in
+    let is = here_up m k s.tree s.walk deep in
+    record {
+      after = gone_up k m;
+      accepted = there;
+      rest = refl;
+      node = at_ups m.nodes k m.walk;
+      events = is;
+      book = ap (replay_of m.config) (sym is) ∙ replayed_here c (gone_up k m) (reached_steady c (gone_up k m) (Undid k m (gone_up k m) r there));
+    }
+
+-- a redo from a reached history
+pub lengthens : (c : Config) (m after : History) (k : ℕ) → IsReached c m → redo k m ≡ Some after → Lengthens m after k
+lengthens c m after k r e =
+    let s = reached_steady c m r in
+    let d = redo_is k m after s.tree s.walk e in
+    let b = d.below in
+    let is : after ≡ record m { walk = b.walk; jumps = m.jumps + 1 } = d.is ∙ ap jumped b.is in
+    let P : History → Type 0 = IsSteady c in
+    let there : IsSteady c (record m { walk = b.walk; jumps = m.jumps + 1 }) = subst P is (reached_steady c after (Redid k m after r e)) in
+    let Q : History → Type 0 = λ x. Lengthens m x k in
+    subst Q (sym is) (record {
+      more = b.more;
+      many = b.many;
+      rest = refl;
+      node = b.node;
+      standing = there.way;
+      events = b.events;
+      book = ap (replay_of m.config) (sym b.events) ∙ replayed_here c (record m { walk = b.walk; jumps = m.jumps + 1 }) there;
+    })

@@ -10,7 +10,7 @@ use Rattle.esx_plain.specs.Replay.{opening, next, run, run_from}
 use Rattle.esx_plain.specs.History.{scene_or}
 use Rattle.esx_machine.specs.Machine as machines
 use Rattle.esx_machine.specs.Machine.{Shows}
-use Rattle.esx_plain.proofs.Laws.{run_push}
+use Rattle.esx_plain.proofs.Callers.{run_one_more}
 use Rattle.esx_journal.specs.Journal.{kept_after, IsAccepted}
 
 -- a machine that shows where a path leads
@@ -32,11 +32,11 @@ opens k c m s = shown_is k c [] (opening c) refl s m
 pub accepted_push : (c : Config) (es : List Event) (old : IsAccepted c es) (e : Event) (k : machines.Kept) (a : Answer) (u : Scene) → next c old.scene e ≡ Ok (a, u) → Shows k u → k.config ≡ c
     → IsAccepted c (es ++ e ∷ [])
 accepted_push c es old e k a u n s m = (let P : Config → Type 0 = λ x. IsSound x u.site in
-    record { scene = u; runs = run_push c es e old.scene u a old.runs n; sound = subst P m s.sound })
+    record { scene = u; runs = run_one_more c es e old.scene u a old.runs n; sound = subst P m s.sound })
 
 pub grown_is : (c : Config) (es : List Event) (old : IsAccepted c es) (e : Event) (k : machines.Kept) (a : Answer) (u : Scene) → next c old.scene e ≡ Ok (a, u) → Shows k u → k.config ≡ c
     → k ≡ kept_after c (es ++ e ∷ [])
-grown_is c es old e k a u n s m = shown_is k c (es ++ e ∷ []) u (run_push c es e old.scene u a old.runs n) s m
+grown_is c es old e k a u n s m = shown_is k c (es ++ e ∷ []) u (run_one_more c es e old.scene u a old.runs n) s m
 
 pub config_after : (c : Config) (es : List Event) → (kept_after c es).config ≡ c
 unfolding kept_after

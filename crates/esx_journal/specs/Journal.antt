@@ -1,5 +1,5 @@
 -- What a journal keeps of a history.
-use Rattle.std.specs.Prelude.{◌≡◌, ◌≢◌, ℕ, ◌+◌, ◌^◌, ◌<◌, ◌≤◌, ◌++◌, Bool, true, false, List, length, Option, Some, None, is_some, slice_index_or, Result, Ok, Err}
+use Rattle.std.specs.Prelude.{◌≡◌, ◌≢◌, ℕ, ◌+◌, ◌^◌, ◌<◌, ◌≤◌, Bool, true, false, List, length, Option, Some, None, is_some, slice_index_or, Result, Ok, Err}
 use Rattle.esx_types.specs.declared.config.Config.{Config}
 use Rattle.esx_types.specs.declared.event.Event.{Event}
 use Rattle.esx_types.specs.declared.event.Answer.{Answer}
@@ -7,9 +7,8 @@ use Rattle.esx_types.specs.declared.event.Refusal.{Refusal}
 use Rattle.esx_types.specs.declared.event.Refusal.TheVariants.{OutOfMemory}
 use Rattle.esx_types.specs.declared.call.Stand.{Stand}
 use Rattle.esx_plain.specs.declared.scene.Scene.{Scene}
-use Rattle.esx_plain.specs.declared.book.Book.{Book}
 use Rattle.esx_plain.specs.Show.{shown}
-use Rattle.esx_plain.specs.Replay.{run, replay_of}
+use Rattle.esx_plain.specs.Replay.{run}
 use Rattle.esx_plain.specs.Sound.{IsSound}
 use Rattle.esx_plain.specs.History.{Move, History, parent, alive, path, on_way, last_descent, IsTree, IsWalk, cursor, here, scene_or, book_at}
 use Rattle.esx_machine.specs.Machine as machines
@@ -109,10 +108,3 @@ pub record Refused (old new : Kept) (e : Refusal) (d : Result (Answer × History
 abbrev pub Does : Result (Answer × Answer) Refusal → Kept → Kept → Result (Answer × History) Refusal → Type 0
 Does (Ok answers) old new d = Accepted new answers d
 Does (Err e) old new d = Refused old new e d
-
--- a path that begins with that of a history and has so many events more leads to a stand and to tables
-pub record Lengthens (h : History) (count : ℕ) (s : Stand) (b : Book) : Type 0 where
-  pub more : List Event
-  pub many : length more ≡ count
-  pub depth : s.depth ≡ length (here h) + count
-  pub book : replay_of h.config (here h ++ more) ≡ Ok b

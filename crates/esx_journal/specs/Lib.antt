@@ -1,6 +1,7 @@
 pub mod Row
 pub mod Journal
 pub mod Reached
+pub mod Turns
 pub use Rattle.esx_types.specs.Ranges
 pub use Rattle.esx_plain.specs.History
 pub use Rattle.esx_plain.specs.Replay

@@ -1,8 +1,9 @@
 //! The journal: one row for each node, at its number.
 
-ghost use Rattle.std.specs.Prelude.{◌≡◌, ◌≢◌, ◌<◌, ◌+◌, ℕ, IfOk, IfErr, is_some, Some};
+ghost use Rattle.std.specs.Prelude.{◌≡◌, ◌≢◌, ◌<◌, ◌+◌, ℕ, IfOk, IfErr, is_some, Some, Ok};
 ghost use Rattle.esx_types.specs.Ranges.{IsConfig};
-ghost use Rattle.esx_plain.specs.History.{History, up_once, down_to, child, redone, undo, redo, opened, do_event};
+ghost use Rattle.esx_plain.specs.Replay.{replay_of};
+ghost use Rattle.esx_plain.specs.History.{History, here, up_once, down_to, child, redone, undo, redo, opened, do_event};
 ghost use Rattle.esx_journal.specs.Journal.{Holds, Moves, Does, stand_at, kept_at};
 
 use crate::row::{Row, add_child, child_of, flip_row, revert, take_room};
@@ -85,7 +86,8 @@ impl Journal {
 
     /// The machine, for questions. Its tables are those of the cursor's path.
     pub fn machine(&self) -> &Machine
-        ensures { (h : History) → Holds self.now h → result.now ≡ kept_at h }
+        ensures tables { (h : History) → Holds self.now h → result.now ≡ kept_at h }
+        ensures replay { (h : History) → Holds self.now h → replay_of h.config (here h) ≡ Ok result.now.book }
     {
         &self.machine
     }

@@ -1,44 +1,67 @@
-//! Laws of the journal's calls.
+//! Laws of histories: of what events, undos and redos lead to. A function here does nothing: its contract is the law.
 
-ghost use Rattle.std.specs.Prelude.{◌≡◌, ◌<◌, ◌≤◌, ◌+◌, ◌-◌, ◌++◌, ◌∷◌, [], ℕ, length, take, Ok, IsOkAnd};
+ghost use Rattle.std.specs.Prelude.{◌≡◌, ◌<◌, ◌≤◌, ◌+◌, ◌++◌, ◌∷◌, [], ℕ, List, length, sum_by, Some, None, Ok, true};
 ghost use Rattle.esx_types.specs.declared.config.Config.{Config};
 ghost use Rattle.esx_types.specs.declared.event.Event.{Event};
 ghost use Rattle.esx_plain.specs.Replay.{run, replay_of};
-ghost use Rattle.esx_plain.specs.History.{History, here, done, redo, scene_at};
-ghost use Rattle.esx_journal.specs.Journal.{Holds, Lengthens, stand_at};
+ghost use Rattle.esx_plain.specs.History.{History, alive, on_way, cursor, here, done, undo, redo, scene_at};
+ghost use Rattle.esx_journal.specs.Journal.{Holds};
 ghost use Rattle.esx_journal.specs.Reached.{IsReached};
+ghost use Rattle.esx_journal.specs.Turns.{Turn, turned, back, forward, OnlyMoves, IsSamePlace, Shortens, Lengthens, LeadsTo};
 
 use crate::journal::Journal;
-use esx_types::{Refusal, Stand};
 
-/// Undo and as much redo lead back to the same history, so to the same tables.
-pub fn there_and_back(journal: &mut Journal, count: u32) -> Result<(Stand, Stand), Refusal>
-    ensures stands { (h : History) → Holds journal.old h → count ≤ length (here h)
-        → IsOkAnd result (λ s. (s.0.depth + count ≡ length (here h)) × (s.1 ≡ stand_at h)) }
-    ensures holds { (h : History) → Holds journal.old h → count ≤ length (here h) → Holds journal.new h }
-    ensures machine { (h : History) → Holds journal.old h → count ≤ length (here h) → journal.new.machine ≡ journal.old.machine }
-{
-    let there = journal.undo(count)?;
-    let back = journal.redo(count)?;
-    Ok((there, back))
-}
+/// Any number of events that there are can be undone, and no more.
+pub fn undo_shortens()
+    ensures accepted { (c : Config) (h : History) (count : ℕ) → IsReached c h → count ≤ length (here h) → Shortens h count }
+    ensures refused { (h : History) (count : ℕ) → length (here h) < count → undo count h ≡ None }
+{}
 
-/// After an undo the tables are those of a replay of the path without its last events.
-pub fn undo_shortens(journal: &mut Journal, count: u32) -> Result<Stand, Refusal>
-    ensures depth { (h : History) → Holds journal.old h → count ≤ length (here h) → IsOkAnd result (λ s. s.depth + count ≡ length (here h)) }
-    ensures book { (h : History) → Holds journal.old h → count ≤ length (here h)
-        → replay_of h.config (take (length (here h) - count) (here h)) ≡ Ok journal.new.machine.book }
-{
-    journal.undo(count)
-}
+/// A redo lengthens the path.
+pub fn redo_lengthens()
+    ensures { (c : Config) (h after : History) (count : ℕ) → IsReached c h → redo count h ≡ Some after → Lengthens h after count }
+{}
 
-/// After a redo the path is the one before and so many events more, and the tables are those of its replay.
-pub fn redo_lengthens(journal: &mut Journal, count: u32) -> Result<Stand, Refusal>
-    ensures { (h after : History) → Holds journal.old h → redo count h ≡ Some after
-        → IsOkAnd result (λ s. Lengthens h count s journal.new.machine.book) }
-{
-    journal.redo(count)
-}
+/// What was undone can be redone, and then the cursor is where it was.
+pub fn there_and_back()
+    ensures { (c : Config) (h after : History) (count : ℕ) → IsReached c h → undo count h ≡ Some after → LeadsTo (redo count after) h }
+{}
+
+/// Undos and redos change the walk and the jumps, and each event that they cross the depth.
+pub fn turns_add_up()
+    ensures rest { (c : Config) (h after : History) (turns : List Turn) → IsReached c h → turned turns h ≡ Some after → OnlyMoves h after }
+    ensures jumps { (c : Config) (h after : History) (turns : List Turn) → IsReached c h → turned turns h ≡ Some after
+        → after.jumps ≡ h.jumps + length turns }
+    ensures depth { (c : Config) (h after : History) (turns : List Turn) → IsReached c h → turned turns h ≡ Some after
+        → length (here after) + sum_by back turns ≡ length (here h) + sum_by forward turns }
+{}
+
+/// Undos and redos that go as far back as forward lead to where they began.
+pub fn turns_cancel()
+    ensures { (c : Config) (h after : History) (turns : List Turn) → IsReached c h → turned turns h ≡ Some after
+        → sum_by back turns ≡ sum_by forward turns → IsSamePlace h after }
+{}
+
+/// Two lists of undos and redos from one history that lead equally deep lead to one place.
+pub fn turns_meet()
+    ensures { (c : Config) (h after other : History) (turns others : List Turn) → IsReached c h
+        → turned turns h ≡ Some after → turned others h ≡ Some other → length (here after) ≡ length (here other) → IsSamePlace after other }
+{}
+
+/// After any undos and redos the way back is one redo, or one undo, of the events by which they differ.
+pub fn turns_lead_back()
+    ensures by_redo { (c : Config) (h after : History) (turns : List Turn) (count : ℕ) → IsReached c h → turned turns h ≡ Some after
+        → sum_by back turns ≡ sum_by forward turns + count → LeadsTo (redo count after) h }
+    ensures by_undo { (c : Config) (h after : History) (turns : List Turn) (count : ℕ) → IsReached c h → turned turns h ≡ Some after
+        → sum_by forward turns ≡ sum_by back turns + count → LeadsTo (undo count after) h }
+{}
+
+/// Where a node stands, each node on its way stands; and so it is on the cursor's way.
+pub fn ways_stand()
+    ensures cursor { (c : Config) (h : History) (node : ℕ) → IsReached c h → on_way h.nodes (cursor h) node ≡ true → alive h.nodes node ≡ true }
+    ensures each { (c : Config) (h : History) (node above : ℕ) → IsReached c h → alive h.nodes node ≡ true → on_way h.nodes node above ≡ true
+        → alive h.nodes above ≡ true }
+{}
 
 /// The tables are those of a replay of the cursor's path, and no event of it is refused.
 pub fn path_runs(journal: &Journal)
