@@ -42,7 +42,7 @@ heard_line s journal new jumps caller call said copy jumped console hears =
 pub lined_history : (s : Session) (caller : ℕ) (call : Call) → history (lined s caller call) ≡ after (history s) call
 lined_history s caller call = history_end (opened s.site) s.log (record { caller = caller; call = call; reply = next_reply s call })
 
-lined_legal : (s : Session) (caller : ℕ) (call : Call) → IsLegal s → IsLegal (lined s caller call)
+pub lined_legal : (s : Session) (caller : ℕ) (call : Call) → IsLegal s → IsLegal (lined s caller call)
 unfolding next_reply
 lined_legal s caller call legal = replies_end (opened s.site) s.log (record { caller = caller; call = call; reply = next_reply s call }) legal refl
 

@@ -1,5 +1,5 @@
 -- What a console hears from its journal is the definition's outcome.
-use Rattle.std.proofs.Common.{◌≡◌, ◌≢◌, refl, sym, ◌∙◌, ap, subst, ℕ, zero, suc, ◌+◌, Bool, true, false, if◌then◌else◌, Option, Some, None, Result, Ok, Err, option_map, nat_lt, length, arith}
+use Rattle.std.proofs.Common.{◌≡◌, ◌≢◌, refl, sym, ◌∙◌, ap, subst, ℕ, ◌+◌, Bool, true, false, if◌then◌else◌, Option, Some, None, Result, Ok, Err, arith}
 use Rattle.esx_types.specs.declared.event.Event.{Event}
 use Rattle.esx_types.specs.declared.event.Answer.{Answer}
 use Rattle.esx_types.specs.declared.event.Refusal.{Refusal}
@@ -11,13 +11,12 @@ use Rattle.esx_types.specs.declared.call.Said.TheVariants as said
 use Rattle.esx_types.specs.declared.call.Stand.{Stand}
 use Rattle.esx_types.specs.declared.call.PageState.{PageState}
 use Rattle.esx_plain.specs.Readings.{sum_of, page_state}
-use Rattle.esx_plain.specs.History.{History, here, book_at, do_event, answered, done, undo, redo, undone, redone, up_once, down_once, down_to, child, then_go, jumped}
-use Rattle.esx_plain.specs.Replay.{next}
-use Rattle.esx_plain.specs.History.{scene_at}
+use Rattle.esx_plain.specs.History.{History, book_at, do_event, undo, redo, jumped}
 use Rattle.esx_plain.specs.Console.{Outcome, outcome, event_outcome, move_outcome, page_said, stand_of}
 use Rattle.esx_machine.specs.Machine.{page_answer}
 use Rattle.esx_journal.specs.Journal.{Kept, Holds, Arrives, Stays, Accepted, Refused, stand_at}
 use Rattle.esx_console.specs.Console.{Hears}
+use Rattle.esx_console.proofs.Keeps.{undo_keeps, redo_keeps, event_keeps}
 
 pub hears : (new : Kept) (h t : History) (call : Call) (s : Said) (jumped : Bool) → outcome h call ≡ (s, t) → Holds new t
     → t.jumps ≡ h.jumps + (if jumped then 1 else 0) → Hears new h call s s jumped
@@ -28,43 +27,6 @@ hears new h t call s jumped e holds jumps =
 
 stays : (h : History) → h.jumps ≡ h.jumps + (if false then 1 else 0)
 stays h = omega arith
-
-undone_jumps : (k : ℕ) (h : History) → (undone k h).jumps ≡ h.jumps
-unfolding undone up_once
-undone_jumps zero h = refl
-undone_jumps (suc k) h = undone_jumps k h
-
-mapped_some : {A B : Type 0} (f : A → B) (o : Option A) (b : B) → option_map f o ≡ Some b → (a : A) × (o ≡ Some a) × (b ≡ f a)
-mapped_some f None b e = cc
-mapped_some f (Some a) b e = (a, refl, cc)
-
-down_jumps : (h u : History) → down_once h ≡ Some u → u.jumps ≡ h.jumps
-unfolding down_once
-down_jumps h u e = let found = mapped_some (down_to h) (child h) u e in ap (λ (x : History). x.jumps) found.2
-
-went_jumps : (o : Option History) (h u : History) → ((t : History) → o ≡ Some t → t.jumps ≡ h.jumps) → then_go o down_once ≡ Some u → u.jumps ≡ h.jumps
-went_jumps None h u before e = cc
-went_jumps (Some t) h u before e = down_jumps t u e ∙ before t refl
-
-redone_jumps : (k : ℕ) (h u : History) → redone k h ≡ Some u → u.jumps ≡ h.jumps
-unfolding redone
-redone_jumps zero h u e = let same : h ≡ u = cc in sym (ap (λ (x : History). x.jumps) same)
-redone_jumps (suc k) h u e = went_jumps (redone k h) h u (λ t. redone_jumps k h t) e
-
-chosen_some : {A : Type 0} (b : Bool) (a c : A) → (if b then None else Some a) ≡ Some c → c ≡ a
-chosen_some true a c e = cc
-chosen_some false a c e = cc
-
-undo_jumps : (k : ℕ) (h u : History) → undo k h ≡ Some u → u.jumps ≡ h.jumps + 1
-unfolding undo
-undo_jumps k h u e =
-    ap (λ (x : History). x.jumps) (chosen_some (nat_lt (length (here h)) k) (jumped (undone k h)) u e) ∙ ap (λ n. n + 1) (undone_jumps k h)
-
-redo_jumps : (k : ℕ) (h u : History) → redo k h ≡ Some u → u.jumps ≡ h.jumps + 1
-unfolding redo
-redo_jumps k h u e =
-    let found = mapped_some jumped (redone k h) u e in
-    ap (λ (x : History). x.jumps) found.2 ∙ ap (λ n. n + 1) (redone_jumps k h found.0 found.1)
 
 moved : (e : Refusal) (h t : History) (o : Option History) → o ≡ Some t → move_outcome e h o ≡ (stand_of t, t)
 moved e h t o is = ap (move_outcome e h) is
@@ -82,13 +44,13 @@ pub hears_undo : (new : Kept) (h : History) (k : ℕ) (stand : Stand) → Arrive
     → Hears new h (calls.Undo k) (said.Stand stand) (said.Stand stand) true
 unfolding outcome
 hears_undo new h k stand a =
-    arrived new h a.after (calls.Undo k) stand (moved NothingToUndo h a.after (undo k h) a.gives) a.holds (undo_jumps k h a.after a.gives) a.stands
+    arrived new h a.after (calls.Undo k) stand (moved NothingToUndo h a.after (undo k h) a.gives) a.holds (undo_keeps k h a.after a.gives).count a.stands
 
 pub hears_redo : (new : Kept) (h : History) (k : ℕ) (stand : Stand) → Arrives new stand (redo k h)
     → Hears new h (calls.Redo k) (said.Stand stand) (said.Stand stand) true
 unfolding outcome
 hears_redo new h k stand a =
-    arrived new h a.after (calls.Redo k) stand (moved NothingToRedo h a.after (redo k h) a.gives) a.holds (redo_jumps k h a.after a.gives) a.stands
+    arrived new h a.after (calls.Redo k) stand (moved NothingToRedo h a.after (redo k h) a.gives) a.holds (redo_keeps k h a.after a.gives).count a.stands
 
 refused : (old new : Kept) (h : History) (call : Call) (e : Refusal) → outcome h call ≡ (said.Refused e, h) → Holds old h → new ≡ old
     → Hears new h call (said.Refused e) (said.Refused e) false
@@ -116,19 +78,6 @@ ok_is x y d e f = cc
 err_is : {A E : Type 0} (x y : E) (d : Result A E) → d ≡ Err x → d ≡ Err y → x ≡ y
 err_is x y d e f = cc
 
-answered_jumps : (e : Event) (h t : History) (a : Answer) (d : Result (Answer × _) Refusal) → answered e h d ≡ Ok (a, t) → t.jumps ≡ h.jumps
-unfolding done
-answered_jumps e h t a (Ok r) is = sym (ap (λ (x : Answer × History). x.1.jumps) (ok_is (r.0, done e h) (a, t) (Ok (r.0, done e h)) refl is))
-answered_jumps e h t a (Err r) is = cc
-
-chosen_ok : {A E : Type 0} (b : Bool) (x : E) (d : Result A E) (a : A) → (if b then Err x else d) ≡ Ok a → d ≡ Ok a
-chosen_ok true x d a e = cc
-chosen_ok false x d a e = e
-
-event_jumps : (e : Event) (h t : History) (a : Answer) → do_event e h ≡ Ok (a, t) → t.jumps ≡ h.jumps
-unfolding do_event
-event_jumps e h t a is = answered_jumps e h t a (next h.config (scene_at h) e) (chosen_ok _ _ _ _ is)
-
 event_done : (h t : History) (a : Answer) (d : Result (Answer × History) Refusal) → d ≡ Ok (a, t) → event_outcome h d ≡ (said.Done a, t)
 event_done h t a d is = ap (event_outcome h) is
 
@@ -140,7 +89,7 @@ pub hears_event : (new : Kept) (h : History) (e : Event) (answers : Answer × An
 unfolding outcome
 hears_event new h e answers a =
     let once = hears new h a.after (calls.Do e) (said.Done answers.0) false (event_done h a.after answers.0 (do_event e h) a.gives) a.holds
-    (event_jumps e h a.after answers.0 a.gives ∙ stays h) in
+    (event_keeps e h a.after answers.0 a.gives).count in
     let P : Answer → Type 0 = λ x. Hears new h (calls.Do e) (said.Done answers.0) (said.Done x) false in
     subst P (sym a.copy) once
 

@@ -1,11 +1,15 @@
 //! One site under one thread, with the log of all that was asked of it.
 
-ghost use Rattle.std.specs.Prelude.{◌≡◌, ◌≢◌, ◌+◌, ◌<◌, ◌^◌, if◌then◌else◌, [], IfOk, IfErr, OnErr};
+ghost use Rattle.std.specs.Prelude.{◌≡◌, ◌≢◌, ◌+◌, ◌<◌, ◌≤◌, ◌^◌, if◌then◌else◌, [], length, Ok, IfOk, IfErr, OnErr};
 ghost use Rattle.esx_types.specs.Ranges.{IsConfig};
+ghost use Rattle.esx_plain.specs.Replay.{replay_of};
+ghost use Rattle.esx_plain.specs.History.{here, book_at};
 ghost use Rattle.esx_plain.specs.Console.{history, next_reply, lined, IsLegal};
 
 use crate::hearing::hear;
 use esx_journal::Journal;
+use esx_machine::Machine;
+use esx_plain::Book;
 use esx_types::{Call, Config, Line, Refusal, Reply};
 use std::alloc::{AllocError, Global};
 use std::marker::Model;
@@ -81,9 +85,28 @@ impl Console {
 
     /// How many moves of the cursor were accepted so far.
     pub fn jumps(&self) -> u64
-        ensures { result ≡ (history self.now).jumps }
+        ensures value { result ≡ (history self.now).jumps }
+        ensures few { result ≤ length self.now.log }
     {
         self.jumps
+    }
+
+    /// The machine, for questions: its tables are those of replaying the cursor's path.
+    #[tactic(auto, using(crate::proofs::Keeps::history_site))]
+    pub fn machine(&self) -> &Machine
+        ensures config { result.now.config ≡ self.now.site }
+        ensures tables { result.now.book ≡ book_at (history self.now) }
+        ensures replay { replay_of self.now.site (here (history self.now)) ≡ Ok result.now.book }
+    {
+        self.journal.machine()
+    }
+
+    /// A copy of every table.
+    pub fn book(&self) -> Result<Book, AllocError>
+        ensures tables { IfOk result (λ book. book ≡ book_at (history self.now)) }
+        ensures replay { IfOk result (λ book. replay_of self.now.site (here (history self.now)) ≡ Ok book) }
+    {
+        self.machine().book()
     }
 
     /// The site as it was opened.

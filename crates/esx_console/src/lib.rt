@@ -4,5 +4,7 @@
 pub mod console;
 mod hearing;
 pub mod laws;
+#[cfg(test)]
+mod tests;
 
 pub use console::Console;

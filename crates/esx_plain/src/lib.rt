@@ -5,6 +5,7 @@
 pub mod activity;
 pub mod book;
 pub mod fault;
+pub mod history_laws;
 mod keys;
 pub mod law;
 mod level;

@@ -14,5 +14,5 @@ pub returns : goal.returns
 returns c = λ h holds.
     let P : Heard → Type 0 = λ x. Hears c.args.journal.now h calls.Sum x.said x.copy x.jumped in
     let Q : Sum → Type 0 = λ s. Hears c.args.journal.now h calls.Sum (said.Sum s) (said.Sum s) false in
-    let read : c.sum.result ≡ sum_of (book_at h) = c.sum.ensures.value ∙ ap (λ (k : Kept). sum_of k.book) (c.machine.ensures h holds) in
+    let read : c.sum.result ≡ sum_of (book_at h) = c.sum.ensures.value ∙ ap (λ (k : Kept). sum_of k.book) (c.machine.ensures.tables h holds) in
     subst P (sym c.summed.ensures) (subst Q (sym read) (hears_sum _ h holds))
