@@ -77,6 +77,23 @@ redo_goes s k told = of (redo k (history s)) refl
     of (Some t) e = (t, e)
     of None e = absurd (told (ap (λ o. (move_outcome NothingToRedo (history s) o).0) e))
 
+-- moves that are refused
+pub undo_stays : (s : Session) (caller k : ℕ) → undo k (history s) ≡ None → history (lined s caller (calls.Undo k)) ≡ history s
+unfolding outcome
+undo_stays s caller k e = lined_history s caller (calls.Undo k) ∙ ap (λ o. (move_outcome NothingToUndo (history s) o).1) e
+
+pub undo_told : (s : Session) (k : ℕ) → undo k (history s) ≡ None → (next_reply s (calls.Undo k)).said ≡ said.Refused NothingToUndo
+unfolding next_reply outcome
+undo_told s k e = ap (λ o. (move_outcome NothingToUndo (history s) o).0) e
+
+pub redo_stays : (s : Session) (caller k : ℕ) → (next_reply s (calls.Redo k)).said ≡ said.Refused NothingToRedo → history (lined s caller (calls.Redo k)) ≡ history s
+unfolding next_reply outcome
+redo_stays s caller k told = lined_history s caller (calls.Redo k) ∙ of (redo k (history s)) told
+  where
+    of : (o : Option History) → (move_outcome NothingToRedo (history s) o).0 ≡ said.Refused NothingToRedo → (move_outcome NothingToRedo (history s) o).1 ≡ history s
+    of None e = refl
+    of (Some t) e = cc
+
 -- a call that is no event is a turn, or changes nothing
 abbrev OneTurn : History → Call → Type 0
 OneTurn h call = (after h call ≡ h) ⊎ ((x : Turn) × (turn x h ≡ Some (after h call)))

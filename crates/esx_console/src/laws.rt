@@ -1,8 +1,8 @@
 //! Laws of whole lists of calls. A function here does nothing: its contract is the law.
 
-ghost use Rattle.std.specs.Prelude.{◌≡◌, ◌≢◌, ◌≤◌, ◌+◌, ℕ, List, All, Ok};
+ghost use Rattle.std.specs.Prelude.{◌≡◌, ◌≢◌, ◌<◌, ◌≤◌, ◌+◌, ℕ, List, All, Ok};
 ghost use Rattle.esx_types.specs.declared.config.Config.{Config};
-ghost use Rattle.esx_types.specs.declared.event.Refusal.TheVariants.{NothingToRedo};
+ghost use Rattle.esx_types.specs.declared.event.Refusal.TheVariants.{NothingToUndo, NothingToRedo};
 ghost use Rattle.esx_types.specs.declared.call.Call.TheVariants.{Undo, Redo};
 ghost use Rattle.esx_types.specs.declared.call.Said.TheVariants.{Refused};
 ghost use Rattle.esx_plain.specs.Replay.{replay_of};
@@ -40,17 +40,25 @@ pub fn logs_are_calls()
     ensures all { (s : Session) → IsLegal s → (asked : List Asked) × (lined_all (opened_session s.site) asked ≡ s) }
 {}
 
-/// A line that undoes any number of events that there are leads to the tables of the shorter path.
+/// An undo of as many events as there are leads to the tables of the shorter path; one of more is refused
+/// and changes nothing.
 pub fn undo_line_shortens()
-    ensures { (s : Session) (caller count : ℕ) → count ≤ depth_of s → UndidLine s (lined s caller (Undo count)) count }
+    ensures accepted { (s : Session) (caller count : ℕ) → count ≤ depth_of s → UndidLine s (lined s caller (Undo count)) count }
+    ensures told { (s : Session) (count : ℕ) → depth_of s < count → said_next s (Undo count) ≡ Refused NothingToUndo }
+    ensures refused { (s : Session) (caller count : ℕ) → depth_of s < count → history (lined s caller (Undo count)) ≡ history s }
 {
     undo_shortens();
 }
 
-/// A line that redoes events leads to the tables of the longer path.
+/// A redo leads to the tables of the longer path and tells where the cursor is, or it is refused and
+/// changes nothing.
 pub fn redo_line_lengthens()
-    ensures { (s : Session) (caller count : ℕ) → said_next s (Redo count) ≢ Refused NothingToRedo
+    ensures accepted { (s : Session) (caller count : ℕ) → said_next s (Redo count) ≢ Refused NothingToRedo
         → Lengthens (history s) (history (lined s caller (Redo count))) count }
+    ensures told { (s : Session) (caller count : ℕ) → said_next s (Redo count) ≢ Refused NothingToRedo
+        → said_next s (Redo count) ≡ stand_of (history (lined s caller (Redo count))) }
+    ensures refused { (s : Session) (caller count : ℕ) → said_next s (Redo count) ≡ Refused NothingToRedo
+        → history (lined s caller (Redo count)) ≡ history s }
 {
     redo_lengthens();
 }
@@ -75,7 +83,8 @@ pub fn calls_that_cancel()
     turns_meet();
 }
 
-/// After calls with no event among them one redo, or one undo, of the events by which the depth differs leads back.
+/// After calls with no event among them one redo, or one undo, of the events by which the depth differs
+/// leads back.
 pub fn calls_then_back()
     ensures by_redo { (s : Session) (asked : List Asked) (caller count : ℕ) → All (λ x. MakesNoEvent x.call) asked
         → depth_of (lined_all s asked) + count ≡ depth_of s → IsSamePlace (history s) (history (lined (lined_all s asked) caller (Redo count))) }

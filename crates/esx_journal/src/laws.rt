@@ -1,4 +1,5 @@
-//! Laws of histories: of what events, undos and redos lead to. A function here does nothing: its contract is the law.
+//! Laws of the histories that events, undos and redos lead to. A function here does nothing: its
+//! contract is the law.
 
 ghost use Rattle.std.specs.Prelude.{◌≡◌, ◌<◌, ◌≤◌, ◌+◌, ◌++◌, ◌∷◌, [], ℕ, List, length, sum_by, Some, None, Ok, true};
 ghost use Rattle.esx_types.specs.declared.config.Config.{Config};
@@ -27,7 +28,8 @@ pub fn there_and_back()
     ensures { (c : Config) (h after : History) (count : ℕ) → IsReached c h → undo count h ≡ Some after → LeadsTo (redo count after) h }
 {}
 
-/// Undos and redos change the walk and the jumps, and each event that they cross the depth.
+/// Undos and redos change nothing but the walk, so the depth by each event that they cross, and the
+/// jumps by one each.
 pub fn turns_add_up()
     ensures rest { (c : Config) (h after : History) (turns : List Turn) → IsReached c h → turned turns h ≡ Some after → OnlyMoves h after }
     ensures jumps { (c : Config) (h after : History) (turns : List Turn) → IsReached c h → turned turns h ≡ Some after
@@ -42,13 +44,13 @@ pub fn turns_cancel()
         → sum_by back turns ≡ sum_by forward turns → IsSamePlace h after }
 {}
 
-/// Two lists of undos and redos from one history that lead equally deep lead to one place.
+/// Lists of undos and redos from one history that lead equally deep lead to one place.
 pub fn turns_meet()
     ensures { (c : Config) (h after other : History) (turns others : List Turn) → IsReached c h
         → turned turns h ≡ Some after → turned others h ≡ Some other → length (here after) ≡ length (here other) → IsSamePlace after other }
 {}
 
-/// After any undos and redos the way back is one redo, or one undo, of the events by which they differ.
+/// After any undos and redos one redo, or one undo, of the events by which they differ leads back.
 pub fn turns_lead_back()
     ensures by_redo { (c : Config) (h after : History) (turns : List Turn) (count : ℕ) → IsReached c h → turned turns h ≡ Some after
         → sum_by back turns ≡ sum_by forward turns + count → LeadsTo (redo count after) h }
@@ -56,7 +58,7 @@ pub fn turns_lead_back()
         → sum_by forward turns ≡ sum_by back turns + count → LeadsTo (undo count after) h }
 {}
 
-/// Where a node stands, each node on its way stands; and so it is on the cursor's way.
+/// Where a node stands, each node on its way stands; and each node on the cursor's way stands.
 pub fn ways_stand()
     ensures cursor { (c : Config) (h : History) (node : ℕ) → IsReached c h → on_way h.nodes (cursor h) node ≡ true → alive h.nodes node ≡ true }
     ensures each { (c : Config) (h : History) (node above : ℕ) → IsReached c h → alive h.nodes node ≡ true → on_way h.nodes node above ≡ true
