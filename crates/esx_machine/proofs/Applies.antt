@@ -1,5 +1,6 @@
 -- An event on a machine is the model's event on the scene that the machine shows.
-use Rattle.std.proofs.Common.{◌≡◌, ◌≢◌, List, refl, sym, ap, ◌∙◌, Result, Ok, Err}
+use Rattle.std.proofs.Common.{◌≡◌, List, refl, sym, ap, ◌∙◌, subst, Result, Ok, Err}
+use Rattle.std.specs.Result.{IsOk}
 use Rattle.std.specs.List.{count_by}
 use Rattle.esx_types.specs.declared.config.Config.{Config}
 use Rattle.esx_types.specs.declared.level.Level.{Level}
@@ -7,7 +8,6 @@ use Rattle.esx_types.specs.declared.event.Event.{Event}
 use Rattle.esx_types.specs.declared.event.Event.TheVariants.{Admit, Start, Read, Write}
 use Rattle.esx_types.specs.declared.event.Answer.{Answer}
 use Rattle.esx_types.specs.declared.event.Refusal.{Refusal}
-use Rattle.esx_types.specs.declared.event.Refusal.TheVariants.{OutOfMemory}
 use Rattle.esx_plain.specs.declared.scene.Site.{Site}
 use Rattle.esx_plain.specs.declared.scene.Scene.{Scene}
 use Rattle.esx_plain.specs.declared.book.Book.{Book}
@@ -22,6 +22,7 @@ use Rattle.esx_plain.proofs.Laws.{step_sound, next_sound, ok_same}
 use Rattle.esx_machine.specs.declared.change.Change.{Change}
 use Rattle.esx_machine.specs.Tables.{Effect, next_tables, settled_tables, step_tables}
 use Rattle.esx_machine.specs.Changes.{Back, exchanged, flipped}
+use Rattle.esx_machine.specs.Plans.{Refused}
 use Rattle.esx_machine.specs.Machine.{Kept, IsKept, Shows, Trades, Accepts, Refuses}
 use Rattle.esx_machine.proofs.Shown.{shown_outcome, outcome_after, after_shown}
 use Rattle.esx_machine.proofs.Admits.{admit_refines}
@@ -120,8 +121,26 @@ refused_next : (c : Config) (b : Book) (e : Event) (r : Refusal) → step_tables
 unfolding next_tables
 refused_next c b e r h = ap (settled_tables c b.level) h
 
-pub refused : (c : Config) (b : Book) (e : Event) (r : Refusal) → NamesVm e → (r ≢ OutOfMemory → step_tables c b e ≡ Err r)
+-- what is accepted on the tables is accepted of the scene
+ok_settled : (c : Config) (level : Level) (d : Effect) → IsOk d → IsOk (settled_tables c level d)
+ok_settled c level (Ok r) h = refl
+ok_settled c level (Err e) h = cc
+
+ok_next : (c : Config) (b : Book) (e : Event) → IsOk (step_tables c b e) → IsOk (next_tables c b e)
+unfolding next_tables
+ok_next c b e h = ok_settled c b.level (step_tables c b e) h
+
+ok_scene : (c : Config) (d : Result (Answer × Scene) Refusal) → IsOk (shown_next c d) → IsOk d
+ok_scene c (Ok r) h = refl
+ok_scene c (Err e) h = cc
+
+pub refused : (c : Config) (b : Book) (e : Event) (r : Refusal) → NamesVm e → Refused r (step_tables c b e)
     → (scene : Scene) → Shows (record { config = c; book = b }) scene → Refuses (record { config = c; book = b }) (record { config = c; book = b }) r (next c scene e)
 refused c b e r small h scene shows =
     let k : Kept = record { config = c; book = b } in
-    record { same = refl; why = λ other. refused_scene c (next c scene e) r (at_scene k scene e (Err r) shows small (refused_next c b e r (h other))) }
+    let P : Effect → Type 0 = IsOk in
+    record {
+      same = refl;
+      why = λ other. refused_scene c (next c scene e) r (at_scene k scene e (Err r) shows small (refused_next c b e r (h.why other)));
+      late = λ no_memory. ok_scene c (next c scene e) (subst P (sym (at_scene k scene e (next_tables c b e) shows small refl)) (ok_next c b e (h.late no_memory)));
+    }
