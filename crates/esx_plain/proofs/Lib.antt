@@ -17,3 +17,4 @@ pub mod RowLaws
 pub mod PayerLaws
 pub mod TargetLaws
 pub mod AverageLaws
+pub mod Callers
