@@ -42,6 +42,7 @@ impl Console {
     pub fn open(alloc: Global, config: Config) -> Result<Console, Refusal>
         ensures opens { IfOk result (λ c. (c ≡ record { site = config; log = [] }) × IsConfig config) }
         ensures refused { IfErr result (λ e. e ≢ Refusal.OutOfMemory → (e ≡ Refusal.BadSpec) × (IsConfig config → ⊥)) }
+        ensures late { IfErr result (λ e. e ≡ Refusal.OutOfMemory → IsConfig config) }
     {
         let journal = Journal::open(alloc, config)?;
         Ok(Console {

@@ -1,5 +1,6 @@
 -- A new node.
-use Rattle.std.proofs.Common.{◌≡◌, ◌≢◌, ℕ, ◌+◌, ◌<◌, ◌≤◌, ◌==◌, ◌||◌, Bool, true, false, cond, List, [], ◌∷◌, ◌++◌, length, length-append, slice_index_or, is_some, refl, sym, ap, ◌∙◌, subst, arith, Some, None, option_map, ◌⊎◌, inl, inr, Ok, Err, nat_le}
+use Rattle.std.proofs.Common.{◌≡◌, ◌≢◌, ℕ, ◌+◌, ◌<◌, ◌≤◌, ◌==◌, ◌||◌, Bool, true, false, cond, List, [], ◌∷◌, ◌++◌, length, length-append, slice_index_or, is_some, refl, sym, ap, ◌∙◌, subst, arith, Some, None, option_map, ◌⊎◌, inl, inr, Result, Ok, Err, nat_le}
+use Rattle.std.specs.Result.{IsOk}
 use Rattle.std.proofs.lemmas.Bool.Decides.{eqb_tells, nat_tests}
 use Rattle.std.proofs.lemmas.Bool.{eq-eqb}
 use Rattle.esx_types.specs.declared.config.Config.{Config}
@@ -218,6 +219,13 @@ pub full_is : (m : History) (e : Event) → m.config.nodes ≤ length m.nodes �
 unfolding do_event
 full_is m e h = ap (λ b. cond b (Err Full) (answered e m (next m.config (scene_at m) e))) (is_full m.config.nodes (length m.nodes) h)
 
+-- what the machine accepts where there is room
+pub accepted_is : (j : Kept) (new : machines.Kept) (m : History) (e : Event) (a : Answer) (b : Back) (d : Row) → (h : Holds j m) → length m.nodes < m.config.nodes
+    → ((t : Scene) → Shows j.machine t → Accepts j.machine new a b (next j.machine.config t e)) → do_event e m ≡ Ok (a, done e m)
+accepted_is j new m e a b d h room accepts =
+    let s = accepted_here j m d h in
+    do_is m e s room ∙ ap (answered e m) (ap (λ q. next q s.scene e) (sym (config_is j m h)) ∙ (accepts s.scene (shows_here j m d h)).gives)
+
 -- an accepted event
 pub applied : (j new : Kept) (m : History) (e : Event) (a : Answer) (b : Back) (d : Row) → (h : Holds j m) → length m.nodes < m.config.nodes
     → ((t : Scene) → Shows j.machine t → Accepts j.machine new.machine a b (next j.machine.config t e))
@@ -228,16 +236,26 @@ applied j new m e a b d h room accepts rows_are cursor_is depth_is limit_is =
     let x = accepts s.scene (shows_here j m d h) in
     let gives : next m.config s.scene e ≡ Ok (a, x.after) = ap (λ q. next q s.scene e) (sym (config_is j m h)) ∙ x.gives in (
       grew j new m e a x.after b d h gives x.shows x.config x.back rows_are cursor_is depth_is limit_is,
-      do_is m e s room ∙ ap (answered e m) gives,
+      accepted_is j new.machine m e a b d h room accepts,
     )
+
+ok_answered : (e : Event) (m : History) (d : Result (Answer × Scene) Refusal) → IsOk d → IsOk (answered e m d)
+ok_answered e m (Ok r) h = refl
+ok_answered e m (Err r) h = cc
 
 -- a refused event
 pub refused : (j : Kept) (new : machines.Kept) (m : History) (e : Event) (r : Refusal) (d : Row) → (h : Holds j m) → length m.nodes < m.config.nodes
-    → ((t : Scene) → Shows j.machine t → Refuses j.machine new r (next j.machine.config t e)) → (new ≡ j.machine) × (r ≢ OutOfMemory → do_event e m ≡ Err r)
+    → ((t : Scene) → Shows j.machine t → Refuses j.machine new r (next j.machine.config t e)) → (new ≡ j.machine) × (r ≢ OutOfMemory → do_event e m ≡ Err r) × (r ≡ OutOfMemory → IsOk (do_event e m))
 refused j new m e r d h room refuses =
     let s = accepted_here j m d h in
     let x = refuses s.scene (shows_here j m d h) in
-    (x.same, λ o. do_is m e s room ∙ ap (answered e m) (ap (λ q. next q s.scene e) (sym (config_is j m h)) ∙ x.why o))
+    let P : Result (Answer × History) Refusal → Type 0 = IsOk in
+    let Q : Result (Answer × Scene) Refusal → Type 0 = IsOk in
+    let same = ap (λ q. next q s.scene e) (config_is j m h) in (
+      x.same,
+      λ o. do_is m e s room ∙ ap (answered e m) (sym same ∙ x.why o),
+      λ o. subst P (sym (do_is m e s room)) (ok_answered e m (next m.config s.scene e) (subst Q same (x.late o))),
+    )
 
 -- the record of an accepted event leads back
 pub trades_back : (j : Kept) (new : machines.Kept) (m : History) (e : Event) (a : Answer) (b : Back) (d : Row) → (h : Holds j m)

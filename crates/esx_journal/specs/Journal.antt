@@ -1,5 +1,5 @@
 -- What a journal keeps of a history.
-use Rattle.std.specs.Prelude.{◌≡◌, ◌≢◌, ℕ, ◌+◌, ◌^◌, ◌<◌, ◌≤◌, Bool, true, false, List, length, Option, Some, None, is_some, slice_index_or, Result, Ok, Err}
+use Rattle.std.specs.Prelude.{◌≡◌, ◌≢◌, ℕ, ◌+◌, ◌^◌, ◌<◌, ◌≤◌, Bool, true, false, List, length, Option, Some, None, is_some, slice_index_or, Result, Ok, Err, IsOk}
 use Rattle.esx_types.specs.declared.config.Config.{Config}
 use Rattle.esx_types.specs.declared.event.Event.{Event}
 use Rattle.esx_types.specs.declared.event.Answer.{Answer}
@@ -94,7 +94,7 @@ abbrev pub Moves : Refusal → Result Stand Refusal → Kept → Kept → Option
 Moves wanted (Ok s) old new d = Arrives new s d
 Moves wanted (Err e) old new d = Stays old new e wanted d
 
--- What an event may give, where d is what it makes of the history.
+-- What an event may give, where d is what it makes of the history. Memory runs out only where the event would be accepted.
 pub record Accepted (new : Kept) (answers : Answer × Answer) (d : Result (Answer × History) Refusal) : Type 0 where
   pub after : History
   pub gives : d ≡ Ok (answers.0, after)
@@ -104,6 +104,7 @@ pub record Accepted (new : Kept) (answers : Answer × Answer) (d : Result (Answe
 pub record Refused (old new : Kept) (e : Refusal) (d : Result (Answer × History) Refusal) : Type 0 where
   pub same : new ≡ old
   pub why : e ≢ OutOfMemory → d ≡ Err e
+  pub late : e ≡ OutOfMemory → IsOk d
 
 abbrev pub Does : Result (Answer × Answer) Refusal → Kept → Kept → Result (Answer × History) Refusal → Type 0
 Does (Ok answers) old new d = Accepted new answers d

@@ -41,6 +41,7 @@ impl Journal {
         ensures opens { IfOk result (λ j. Holds j (opened config)) }
         ensures checked { IfOk result (λ j. IsConfig config) }
         ensures refused { IfErr result (λ e. e ≢ Refusal.OutOfMemory → (e ≡ Refusal.BadSpec) × (¬ IsConfig config)) }
+        ensures late { IfErr result (λ e. e ≡ Refusal.OutOfMemory → IsConfig config) }
     {
         let machine = Machine::open(alloc, config)?;
         let mut rows = Vec::new(alloc);

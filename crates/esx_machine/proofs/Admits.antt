@@ -18,13 +18,12 @@ use Rattle.esx_plain.specs.declared.scene.Site.{Site}
 use Rattle.esx_plain.specs.declared.book.VmRow.{VmRow}
 use Rattle.esx_plain.specs.Average.{slow_average, fast_average}
 use Rattle.esx_plain.specs.Site.{vm_at, with_vm, memory_reserved, swap_reserved, memory_reserve, swap_reserve}
-use Rattle.esx_plain.specs.Show.{all_overhead, vm_overhead, frame_rows, vm_row, vm_rows, map_row, book_of}
+use Rattle.esx_plain.specs.Show.{frame_rows, vm_row, vm_rows, map_row, book_of}
 use Rattle.esx_plain.specs.Step.{admit, admitted, Outcome}
 use Rattle.esx_plain.specs.Sound.{IsSound}
-use Rattle.esx_plain.proofs.Changes.{same_inside}
-use Rattle.esx_plain.proofs.SoundSteps.{vm_changed, pages_kept, none_untouched}
+use Rattle.esx_plain.proofs.Callers.{admission_rows}
 use Rattle.esx_machine.specs.Tables.{Effect, admit_tables, admitted_row, row_at, with_row, memory_row, swap_row}
-use Rattle.esx_machine.proofs.Shown.{book_after, outcome_after, row_there, rows_kept}
+use Rattle.esx_machine.proofs.Shown.{book_after, outcome_after, row_there}
 
 shown_cond : (c : Config) (s : Site) (level : Level) (b : Bool) (e : Refusal) (x : Outcome) → outcome_after c s level (cond b (Err e) x) ≡ cond b (Err e) (outcome_after c s level x)
 shown_cond c s level true e x = refl
@@ -72,12 +71,11 @@ gates_same c s level spec false m w d o h =
 
 -- the tables after an admission
 admitted_shown : (c : Config) (s : Site) (level : Level) (n : ℕ) (spec : VmSpec) → n < length s.vms → vm_at s n ≡ None → with_row (book_of c s level) n (admitted_row spec) ≡ book_after c s (with_vm s n (admitted spec)) level
-unfolding all_overhead slow_average fast_average
+unfolding slow_average fast_average
 admitted_shown c s level n spec below empty =
     let w = admitted spec in
     let t = with_vm s n w in
-    let overhead : all_overhead t ≡ all_overhead s = same_inside vm_overhead None (Some w) s.vms t.vms (vm_changed s n None w below empty) refl in
-    let frames : frame_rows c.frames t ≡ frame_rows c.frames s = rows_kept s t c.frames overhead (λ f. pages_kept s n None w f below empty (sym (none_untouched f spec.max))) in
+    let frames = admission_rows s n c.frames spec below empty in
     let row : vm_row w ≡ admitted_row spec = ap (λ xs. record (admitted_row spec) { pages = xs }) (untouched_rows 0 spec.max) in
     let rows : vm_rows t.vms ≡ set (vm_rows s.vms) n (Some (admitted_row spec)) = map-set (option_map vm_row) s.vms n (Some w) ∙ ap (λ v. set (vm_rows s.vms) n (Some v)) row in
     sym (ap (λ xs. record (book_after c s t level) { frames = xs }) frames ∙ ap (λ xs. record (book_after c s t level) { frames = frame_rows c.frames s; vms = xs }) rows)

@@ -1,5 +1,6 @@
 -- An event on a machine is the model's event on the scene that the machine shows.
-use Rattle.std.proofs.Common.{◌≡◌, ◌≢◌, List, refl, sym, ap, ◌∙◌, Result, Ok, Err}
+use Rattle.std.proofs.Common.{◌≡◌, List, refl, sym, ap, ◌∙◌, subst, Result, Ok, Err}
+use Rattle.std.specs.Result.{IsOk}
 use Rattle.std.specs.List.{count_by}
 use Rattle.esx_types.specs.declared.config.Config.{Config}
 use Rattle.esx_types.specs.declared.level.Level.{Level}
@@ -7,7 +8,6 @@ use Rattle.esx_types.specs.declared.event.Event.{Event}
 use Rattle.esx_types.specs.declared.event.Event.TheVariants.{Admit, Start, Read, Write}
 use Rattle.esx_types.specs.declared.event.Answer.{Answer}
 use Rattle.esx_types.specs.declared.event.Refusal.{Refusal}
-use Rattle.esx_types.specs.declared.event.Refusal.TheVariants.{OutOfMemory}
 use Rattle.esx_plain.specs.declared.scene.Site.{Site}
 use Rattle.esx_plain.specs.declared.scene.Scene.{Scene}
 use Rattle.esx_plain.specs.declared.book.Book.{Book}
@@ -17,11 +17,11 @@ use Rattle.esx_plain.specs.Show.{book_of, shown}
 use Rattle.esx_plain.specs.Step.{Outcome, step}
 use Rattle.esx_plain.specs.Sound.{IsSound, NamesVm}
 use Rattle.esx_plain.specs.Replay.{next, settled}
-use Rattle.esx_plain.proofs.Frees.{free_rows}
-use Rattle.esx_plain.proofs.Laws.{step_sound, next_sound, ok_same}
+use Rattle.esx_plain.proofs.Callers.{step_keeps_sound, next_keeps_sound, free_rows}
 use Rattle.esx_machine.specs.declared.change.Change.{Change}
 use Rattle.esx_machine.specs.Tables.{Effect, next_tables, settled_tables, step_tables}
 use Rattle.esx_machine.specs.Changes.{Back, exchanged, flipped}
+use Rattle.esx_machine.specs.Plans.{Refused}
 use Rattle.esx_machine.specs.Machine.{Kept, IsKept, Shows, Trades, Accepts, Refuses}
 use Rattle.esx_machine.proofs.Shown.{shown_outcome, outcome_after, after_shown}
 use Rattle.esx_machine.proofs.Admits.{admit_refines}
@@ -38,7 +38,7 @@ step_after c s level (Write n page at new) small sound = write_refines c s level
 
 step_refines : (c : Config) (s : Site) (level : Level) (e : Event) → NamesVm e → IsSound c s → step_tables c (book_of c s level) e ≡ shown_outcome c level (step c s level e)
 step_refines c s level e small sound =
-    step_after c s level e small sound ∙ after_shown c s level (step c s level e) sound (λ r h. step_sound c s level e r small sound h)
+    step_after c s level e small sound ∙ after_shown c s level (step c s level e) sound (λ r h. step_keeps_sound c s level e r small sound h)
 
 abbrev shown_next : Config → Result (Answer × Scene) Refusal → Effect
 shown_next c (Err e) = Err e
@@ -51,6 +51,9 @@ settled_same c level (Ok r) = ap (λ k. let d : Effect = Ok (r.0, record (book_o
 next_refines : (c : Config) (t : Scene) (e : Event) → NamesVm e → IsSound c t.site → next_tables c (shown c t) e ≡ shown_next c (next c t e)
 unfolding next next_tables
 next_refines c t e small sound = ap (settled_tables c t.level) (step_refines c t.site t.level e small sound) ∙ settled_same c t.level (step c t.site t.level e)
+
+ok_same : {A E : Type 0} (x y : A) → (let a : Result A E = Ok x in a) ≡ Ok y → y ≡ x
+ok_same x y h = cc
 
 -- what an accepted event on the tables tells of the scene
 accepted_scene : (c : Config) (d : Result (Answer × Scene) Refusal) (a : Answer) (b : Book) → shown_next c d ≡ Ok (a, b) → (u : Scene) × (d ≡ Ok (a, u)) × (b ≡ shown c u)
@@ -75,7 +78,7 @@ record Leads (k : Kept) (t : Scene) (e : Event) (a : Answer) (b : Book) : Type 0
 leads : (k : Kept) (t : Scene) (e : Event) (a : Answer) (b : Book) → Shows k t → NamesVm e → next_tables k.config k.book e ≡ Ok (a, b) → Leads k t e a b
 leads k t e a b shows small h =
     let found = accepted_scene k.config (next k.config t e) a b (at_scene k t e (Ok (a, b)) shows small h) in
-    record { after = found.0; gives = found.1; shows = record { sound = next_sound k.config t found.0 e a small shows.sound found.1; book = found.2 } }
+    record { after = found.0; gives = found.1; shows = record { sound = next_keeps_sound k.config t found.0 e a small shows.sound found.1; book = found.2 } }
 
 -- An event made by trading changes.
 pub record Made (c : Config) (b mid : Book) (cs ds : List Change) (e : Event) (a : Answer) (level : Level) : Type 0 where
@@ -120,8 +123,26 @@ refused_next : (c : Config) (b : Book) (e : Event) (r : Refusal) → step_tables
 unfolding next_tables
 refused_next c b e r h = ap (settled_tables c b.level) h
 
-pub refused : (c : Config) (b : Book) (e : Event) (r : Refusal) → NamesVm e → (r ≢ OutOfMemory → step_tables c b e ≡ Err r)
+-- what is accepted on the tables is accepted of the scene
+ok_settled : (c : Config) (level : Level) (d : Effect) → IsOk d → IsOk (settled_tables c level d)
+ok_settled c level (Ok r) h = refl
+ok_settled c level (Err e) h = cc
+
+ok_next : (c : Config) (b : Book) (e : Event) → IsOk (step_tables c b e) → IsOk (next_tables c b e)
+unfolding next_tables
+ok_next c b e h = ok_settled c b.level (step_tables c b e) h
+
+ok_scene : (c : Config) (d : Result (Answer × Scene) Refusal) → IsOk (shown_next c d) → IsOk d
+ok_scene c (Ok r) h = refl
+ok_scene c (Err e) h = cc
+
+pub refused : (c : Config) (b : Book) (e : Event) (r : Refusal) → NamesVm e → Refused r (step_tables c b e)
     → (scene : Scene) → Shows (record { config = c; book = b }) scene → Refuses (record { config = c; book = b }) (record { config = c; book = b }) r (next c scene e)
 refused c b e r small h scene shows =
     let k : Kept = record { config = c; book = b } in
-    record { same = refl; why = λ other. refused_scene c (next c scene e) r (at_scene k scene e (Err r) shows small (refused_next c b e r (h other))) }
+    let P : Effect → Type 0 = IsOk in
+    record {
+      same = refl;
+      why = λ other. refused_scene c (next c scene e) r (at_scene k scene e (Err r) shows small (refused_next c b e r (h.why other)));
+      late = λ no_memory. ok_scene c (next c scene e) (subst P (sym (at_scene k scene e (next_tables c b e) shows small refl)) (ok_next c b e (h.late no_memory)));
+    }

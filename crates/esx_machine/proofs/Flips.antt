@@ -3,7 +3,7 @@ use Rattle.std.proofs.Common.{◌≡◌, List, sym, ap, ◌∙◌, subst}
 use Rattle.esx_types.specs.declared.config.Config.{Config}
 use Rattle.esx_types.specs.declared.level.Level.{Level}
 use Rattle.esx_plain.specs.declared.book.Book.{Book}
-use Rattle.esx_machine.specs.Machine.{Kept, IsKept, Trades}
+use Rattle.esx_machine.specs.Machine.{Kept, IsKept, Trades, turned}
 use Rattle.esx_machine.specs.declared.change.Change.{Change}
 use Rattle.esx_machine.specs.Changes.{Back, exchanged, flipped}
 use Rattle.esx_machine.proofs.Back.{flipped_back, exchanged_level}
@@ -13,6 +13,19 @@ pub flipped_by : (b : Book) (r : Back) (new : Book) (s : Back) → new ≡ recor
 unfolding flipped
 flipped_by b r new s e f = ap (λ (x : Book). (x, (flipped b r).1)) (sym e) ∙ ap (λ (x : Back). (new, x)) (sym f)
 
+-- a record flipped twice gives the tables back, and the record
+pub again : (r : Back) (here there : Kept) → Trades r here there → flipped there.book (turned r here) ≡ (here.book, r)
+again r here there t = ap (λ (x : Book). flipped x (turned r here)) t.book ∙ flipped_back here.book r
+
+-- a record that leads somewhere leads back once it is flipped
+pub leads_back : (r : Back) (here there : Kept) → IsKept here.config here.book → Trades r here there → Trades (turned r here) there here
+leads_back r here there kept t = record { config = sym t.config; book = sym (ap (λ (x : Book × Back). x.0) (again r here there t)); kept = kept }
+
+-- a record leads to one state
+pub leads_to_one : (r : Back) (here there other : Kept) → Trades r here there → Trades r here other → there ≡ other
+leads_to_one r here there other t u =
+    ap (λ (x : Config). record there { config = x }) (t.config ∙ sym u.config) ∙ ap (λ (x : Book). record other { book = x }) (t.book ∙ sym u.book)
+
 pub flip_kept : (here new : Kept) (r s : Back) → new.config ≡ here.config → flipped here.book r ≡ (new.book, s) → (there : Kept) → Trades r here there → IsKept new.config new.book
 flip_kept here new r s c e there t =
     let P : Config → Type 0 = λ x. IsKept x new.book in
@@ -20,18 +33,13 @@ flip_kept here new r s c e there t =
     subst P (t.config ∙ sym c) (subst Q (t.book ∙ ap (λ (x : Book × Back). x.0) e) t.kept)
 
 pub flip_leads : (here new : Kept) (r s : Back) → IsKept here.config here.book → new.config ≡ here.config → flipped here.book r ≡ (new.book, s)
-    → (there : Kept) → Trades r here there → (new ≡ there) × Trades s there here
+    → (there : Kept) → Trades r here there → (new ≡ there) × Trades s there here × (s ≡ turned r here)
 flip_leads here new r s kept c e there t =
     let book : new.book ≡ there.book = sym (ap (λ (x : Book × Back). x.0) e) ∙ sym t.book in
     let same : new ≡ there = ap (λ (x : Config). record new { config = x }) (c ∙ sym t.config) ∙ ap (λ (x : Book). record there { book = x }) book in
-    let again : flipped there.book s ≡ (here.book, r) = ap (λ (x : Book). flipped x s) (sym book) ∙ sym (ap (λ (x : Book × Back). flipped x.0 x.1) e) ∙ flipped_back here.book r in (
-      same,
-      record {
-        config = sym t.config;
-        book = sym (ap (λ (x : Book × Back). x.0) again);
-        kept = kept;
-      },
-    )
+    let after : s ≡ turned r here = sym (ap (λ (x : Book × Back). x.1) e) in
+    let P : Back → Type 0 = λ x. Trades x there here in
+    (same, subst P (sym after) (leads_back r here there kept t), after)
 
 -- the changes leave the level
 pub level_stays : (b : Book) (r : Back) → (exchanged b r.changes).0.level ≡ b.level

@@ -1,20 +1,18 @@
 -- The tables that show a site, and those after a step whose slots and shared frames are the old ones.
-use Rattle.std.proofs.Common.{suc, zero, ◌≡◌, ℕ, List, [], ◌∷◌, map, get_or, refl, sym, ap, ◌∙◌, cond, Option, None, Ok, Err, ◌==◌}
+use Rattle.std.proofs.Common.{suc, zero, ◌≡◌, ℕ, List, [], ◌∷◌, get_or, refl, sym, ap, ◌∙◌, Option, None, Ok, Err}
 use Rattle.std.specs.Option.{option_map}
-use Rattle.std.specs.List.{list_any, range_with_len}
 use Rattle.esx_types.specs.declared.config.Config.{Config}
 use Rattle.esx_types.specs.declared.level.Level.{Level}
 use Rattle.esx_types.specs.declared.event.Answer.{Answer}
-use Rattle.esx_types.specs.declared.table.FrameRow.TheVariants as frame_is
 use Rattle.esx_types.specs.declared.table.SlotRow.{SlotRow}
 use Rattle.esx_plain.specs.declared.scene.Vm.{Vm}
 use Rattle.esx_plain.specs.declared.scene.Site.{Site}
 use Rattle.esx_plain.specs.declared.book.KeyRow.{KeyRow}
 use Rattle.esx_plain.specs.declared.book.Book.{Book}
-use Rattle.esx_plain.specs.Show.{all_overhead, frame_row, frame_rows, slot_rows, shared_rows, row_of, vm_row, vm_rows, book_of}
+use Rattle.esx_plain.specs.Show.{frame_rows, slot_rows, shared_rows, vm_row, vm_rows, book_of}
 use Rattle.esx_plain.specs.Step.{Outcome}
-use Rattle.esx_plain.specs.Sound.{IsSound, pages_in}
-use Rattle.esx_plain.proofs.Tables.{slot_rows_kept, shared_rows_none}
+use Rattle.esx_plain.specs.Sound.{IsSound}
+use Rattle.esx_plain.proofs.Callers.{same_slots, none_shared}
 use Rattle.esx_machine.specs.Tables.{Effect}
 
 -- an outcome on the tables
@@ -33,27 +31,16 @@ outcome_after c s level (Ok r) = Ok (r.0, book_after c s r.1 level)
 
 same_after : (c : Config) (s t : Site) (level : Level) → IsSound c s → IsSound c t → book_after c s t level ≡ book_of c t level
 same_after c s t level before after =
-    ap (λ (rows : List SlotRow). record (book_after c s t level) { slots = rows }) (sym (slot_rows_kept c s t c.slots before after))
-    ∙ ap (λ (rows : List KeyRow). record (book_of c t level) { shared = rows }) (shared_rows_none c s c.frames before ∙ sym (shared_rows_none c t c.frames after))
+    ap (λ (rows : List SlotRow). record (book_after c s t level) { slots = rows }) (sym (same_slots c s t before after))
+    ∙ ap (λ (rows : List KeyRow). record (book_of c t level) { shared = rows }) (none_shared c s before ∙ sym (none_shared c t after))
 
 -- where the step leads to a sound site, these are the tables
 pub after_shown : (c : Config) (s : Site) (level : Level) (o : Outcome) → IsSound c s → ((r : Answer × Site) → o ≡ Ok r → IsSound c r.1) → outcome_after c s level o ≡ shown_outcome c level o
 after_shown c s level (Err e) before after = refl
 after_shown c s level (Ok r) before after = ap (λ (b : Book). let d : Effect = Ok (r.0, b) in d) (same_after c s r.1 level before (after r refl))
 
-pub map_same : {X Y : Type 0} (f g : X → Y) (xs : List X) → ((x : X) → f x ≡ g x) → map f xs ≡ map g xs
-map_same f g [] h = refl
-map_same f g (x ∷ xs) h = ap (λ y. y ∷ map f xs) (h x) ∙ ap (λ ys. g x ∷ ys) (map_same f g xs h)
-
 -- a machine's row among the rows
 pub row_there : (vms : List (Option Vm)) (n : ℕ) → get_or (vm_rows vms) n None ≡ option_map vm_row (get_or vms n None)
 row_there [] n = refl
 row_there (o ∷ os) zero = refl
 row_there (o ∷ os) (suc n) = row_there os n
-
--- the rows of frames stay where the pages in them and the overhead stay
-pub rows_kept : (s t : Site) (n : ℕ) → all_overhead t ≡ all_overhead s → ((f : ℕ) → pages_in t f ≡ pages_in s f) → frame_rows n t ≡ frame_rows n s
-unfolding frame_row
-rows_kept s t n overhead pages = map_same (frame_row t) (frame_row s) (range_with_len 0 n) (λ f.
-    ap (λ xs. cond (list_any (λ g. g == f) xs) frame_is.Overhead (row_of (pages_in t f))) overhead
-    ∙ ap (λ ps. cond (list_any (λ g. g == f) (all_overhead s)) frame_is.Overhead (row_of ps)) (pages f))

@@ -13,32 +13,30 @@ use Rattle.esx_plain.specs.declared.scene.Site.{Site}
 use Rattle.esx_plain.specs.Site.{least_free, vm_at, with_vm}
 use Rattle.esx_plain.specs.Show.{frame_rows, vm_row, vm_rows, book_of}
 use Rattle.esx_plain.specs.Step.{at_vm, start, start_vm, with_overhead, take_overhead}
-use Rattle.esx_plain.proofs.SoundSteps.{IsUnused, least_unused}
-use Rattle.esx_plain.proofs.Moves.{frame_rows_move, overhead_taken}
-use Rattle.esx_plain.proofs.Frees.{least_row}
+use Rattle.esx_plain.proofs.Callers.{least_row, overhead_rows}
 use Rattle.esx_machine.specs.Tables.{Effect, with_row, with_frame, start_tables, start_row, take_row, row_overhead, at_row}
 use Rattle.esx_machine.proofs.Shown.{book_after, outcome_after, row_there}
 
-started_shown : (c : Config) (s : Site) (level : Level) (n : ℕ) (v : Vm) (f : ℕ) → vm_at s n ≡ Some v → IsUnused c.frames s f
+started_shown : (c : Config) (s : Site) (level : Level) (n : ℕ) (v : Vm) (f : ℕ) → vm_at s n ≡ Some v → least_free c.frames s ≡ Some f
     → with_frame (with_row (book_of c s level) n (row_overhead (vm_row v) f)) f frame_is.Overhead ≡ book_after c s (with_vm s n (with_overhead v f)) level
-started_shown c s level n v f there unused =
+started_shown c s level n v f there least =
     let w = with_overhead v f in
     let t = with_vm s n w in
-    let frames : frame_rows c.frames t ≡ set (frame_rows c.frames s) f frame_is.Overhead = frame_rows_move s t f c.frames frame_is.Overhead (overhead_taken s n f c.frames v there unused) unused.below in
+    let frames = overhead_rows s n f c.frames v there least in
     let rows : vm_rows t.vms ≡ set (vm_rows s.vms) n (Some (vm_row w)) = map-set (option_map vm_row) s.vms n (Some w) in
     sym (ap (λ xs. record (book_after c s t level) { frames = xs }) frames ∙ ap (λ xs. record (book_after c s t level) { frames = set (frame_rows c.frames s) f frame_is.Overhead; vms = xs }) rows)
 
-take_shown : (c : Config) (s : Site) (level : Level) (n : ℕ) (v : Vm) (o : Option ℕ) → vm_at s n ≡ Some v → ((f : ℕ) → o ≡ Some f → IsUnused c.frames s f)
+take_shown : (c : Config) (s : Site) (level : Level) (n : ℕ) (v : Vm) (o : Option ℕ) → vm_at s n ≡ Some v → ((f : ℕ) → o ≡ Some f → least_free c.frames s ≡ Some f)
     → take_row (book_of c s level) n (vm_row v) o ≡ outcome_after c s level (take_overhead s n v o)
-take_shown c s level n v None there unused = refl
-take_shown c s level n v (Some f) there unused =
-    ap (λ x. let d : Effect = Ok (answers.Started f (length v.overhead + 1) v.spec.overhead (not (nat_lt (length v.overhead + 1) v.spec.overhead)), x) in d) (started_shown c s level n v f there (unused f refl))
+take_shown c s level n v None there least = refl
+take_shown c s level n v (Some f) there least =
+    ap (λ x. let d : Effect = Ok (answers.Started f (length v.overhead + 1) v.spec.overhead (not (nat_lt (length v.overhead + 1) v.spec.overhead)), x) in d) (started_shown c s level n v f there (least f refl))
 
 state_shown : (c : Config) (s : Site) (level : Level) (n : ℕ) (v : Vm) (st : VmState) → vm_at s n ≡ Some v → start_row (book_of c s level) n (vm_row v) st ≡ outcome_after c s level (start_vm c s n v st)
 state_shown c s level n v Stopping there = refl
 state_shown c s level n v Running there = refl
 state_shown c s level n v Starting there =
-    ap (take_row (book_of c s level) n (vm_row v)) (least_row s c.frames) ∙ take_shown c s level n v (least_free c.frames s) there (λ f e. least_unused c.frames s f e)
+    ap (take_row (book_of c s level) n (vm_row v)) (least_row s c.frames) ∙ take_shown c s level n v (least_free c.frames s) there (λ f e. e)
 
 vm_shown : (c : Config) (s : Site) (level : Level) (n : ℕ) (o : Option Vm) → vm_at s n ≡ o
     → at_row (option_map vm_row o) (λ v. start_row (book_of c s level) n v v.state) ≡ outcome_after c s level (at_vm o (λ v. start_vm c s n v v.state))

@@ -9,7 +9,7 @@ use Rattle.esx_plain.specs.declared.book.Book.{Book}
 use Rattle.esx_plain.specs.declared.scene.Scene.{Scene}
 use Rattle.esx_plain.specs.Site.{free_count}
 use Rattle.esx_plain.specs.Readings.{is_overhead, is_private, is_shared, is_free, sum_of}
-use Rattle.esx_plain.proofs.Frees.{free_rows}
+use Rattle.esx_plain.proofs.Callers.{free_rows}
 use Rattle.esx_machine.specs.Machine.{Kept, IsKept, Shows}
 use Rattle.esx_machine.proofs.Whole.{kept_frames}
 

@@ -15,12 +15,12 @@ use Rattle.esx_plain.specs.Site.{vm_at}
 use Rattle.esx_plain.specs.Show.{frame_row, map_row, vm_row}
 use Rattle.esx_plain.specs.Step.{place_at}
 use Rattle.esx_plain.specs.Sound.{IsPlace}
-use Rattle.esx_plain.proofs.Moves.{all_at}
+use Rattle.esx_plain.proofs.Callers.{page_is_place, page_row_in}
 use Rattle.esx_machine.specs.Changes.{frame_in}
 use Rattle.esx_machine.specs.Tables.{row_at, page_at}
 use Rattle.esx_machine.specs.Plans.{IsFull, IsWhole}
 use Rattle.esx_machine.specs.Machine.{IsKept}
-use Rattle.esx_machine.proofs.Accesses.{row_of_page, page_row}
+use Rattle.esx_machine.proofs.Accesses.{page_row}
 use Rattle.esx_machine.proofs.Shown.{row_there}
 
 pub kept_frames : (c : Config) (b : Book) → IsKept c b → length b.frames ≡ c.frames
@@ -59,13 +59,12 @@ kept_full c b kept n page f row there here =
     let s = kept.site in
     let found = vm_of_row c b kept n row there in
     let v = found.0 in
-    let fine = kept.sound.each n v found.1 in
     let at : Found (place_at v page) f = here_place v.epoch (place_at v page) f (sym (page_row v page) ∙ ap (λ (r : VmRow). page_at r page) (sym found.2) ∙ here) in
     let inside : page < length v.places = within v.places page at.bytes f at.shared at.is in
     let P : Place → Type 0 = IsPlace c in
-    let is : IsPlace c (Here at.bytes f at.shared) = subst P at.is (all_at (IsPlace c) v.places page Untouched fine.places inside) in
+    let is : IsPlace c (Here at.bytes f at.shared) = subst P at.is (page_is_place c s n page v kept.sound found.1 inside) in
     let was : place_at v page ≡ Here at.bytes f false = at.is ∙ ap (λ x. Here at.bytes f x) is.2 in
-    (at.bytes, ap (λ (x : Book). frame_in x f) kept.shows ∙ row_of_page c s n page f v at.bytes kept.sound found.1 inside was is.0, is.1)
+    (at.bytes, ap (λ (x : Book). frame_in x f) kept.shows ∙ page_row_in c s n page f v at.bytes kept.sound found.1 inside was is.0, is.1)
 
 kept_room : (c : Config) (b : Book) → IsKept c b → (n : ℕ) (row : VmRow) → row_at b n ≡ Some row → row.state ≡ Starting → length row.overhead < row.spec.overhead
 kept_room c b kept n row there starting =

@@ -1,5 +1,5 @@
 -- What a machine keeps, what its records do, and what an event gives.
-use Rattle.std.specs.Prelude.{◌≡◌, ◌≢◌, Result, Ok, Err}
+use Rattle.std.specs.Prelude.{◌≡◌, ◌≢◌, Result, Ok, Err, IsOk}
 use Rattle.esx_types.specs.Ranges.{IsConfig}
 use Rattle.esx_types.specs.declared.config.Config.{Config}
 use Rattle.esx_types.specs.declared.event.Answer.{Answer}
@@ -38,6 +38,10 @@ pub record Trades (r : Back) (here there : Kept) : Type 0 where
   pub book : there.book ≡ (flipped here.book r).0
   pub kept : IsKept there.config there.book
 
+-- a record after its flip
+abbrev pub turned : Back → Kept → Back
+turned r here = (flipped here.book r).1
+
 -- An event was accepted, where d is what it does to the scene that was shown.
 pub record Accepts (old new : Kept) (answer : Answer) (r : Back) (d : Result (Answer × Scene) Refusal) : Type 0 where
   pub after : Scene
@@ -46,10 +50,11 @@ pub record Accepts (old new : Kept) (answer : Answer) (r : Back) (d : Result (An
   pub config : new.config ≡ old.config
   pub back : Trades r new old
 
--- An event was refused: nothing changed, and memory aside the refusal is the scene's.
+-- An event was refused: nothing changed, and memory aside the refusal is the scene's. Memory runs out only where the event would be accepted.
 pub record Refuses (old new : Kept) (e : Refusal) (d : Result (Answer × Scene) Refusal) : Type 0 where
   pub same : new ≡ old
   pub why : e ≢ OutOfMemory → d ≡ Err e
+  pub late : e ≡ OutOfMemory → IsOk d
 
 abbrev pub Applies : Result (Answer × Back) Refusal → Kept → Kept → Result (Answer × Scene) Refusal → Type 0
 Applies (Ok r) old new d = Accepts old new r.0 r.1 d

@@ -1,5 +1,5 @@
 -- The changes that make an event, and what the plan of one may rest on.
-use Rattle.std.specs.Prelude.{◌≡◌, ◌≢◌, ℕ, ◌+◌, ◌||◌, ◌<◌, List, [], ◌∷◌, length, Some, nat_lt, if◌then◌else◌, Result, Ok, Err}
+use Rattle.std.specs.Prelude.{◌≡◌, ◌≢◌, ℕ, ◌+◌, ◌||◌, ◌<◌, List, [], ◌∷◌, length, Some, nat_lt, if◌then◌else◌, Result, Ok, Err, IsOk}
 use Rattle.esx_types.specs.Ranges.{IsConfig}
 use Rattle.esx_types.specs.declared.config.Config.{Config}
 use Rattle.esx_types.specs.declared.config.TheConstants.{VM_NUMBERS}
@@ -29,10 +29,15 @@ pub record IsWhole (c : Config) (b : Book) : Type 0 where
   pub full : IsFull c b
   pub room : (n : ℕ) (v : VmRow) → row_at b n ≡ Some v → v.state ≡ Starting → length v.overhead < v.spec.overhead
 
+-- memory aside the refusal is the event's; memory runs out only where the event would be accepted
+pub record Refused (e : Refusal) (d : Effect) : Type 0 where
+  pub why : e ≢ OutOfMemory → d ≡ Err e
+  pub late : e ≡ OutOfMemory → IsOk d
+
 -- what a plan may give, where d is what the event does to the tables
 abbrev pub Plans : Result Plan Refusal → Book → Effect → Type 0
 Plans (Ok p) b d = d ≡ Ok (p.answer, (exchanged b p.changes.items).0)
-Plans (Err e) b d = e ≢ OutOfMemory → d ≡ Err e
+Plans (Err e) b d = Refused e d
 
 -- a machine comes
 abbrev pub admit_changes : ℕ → VmSpec → List Change

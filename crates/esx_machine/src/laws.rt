@@ -1,15 +1,23 @@
-//! Laws of the machine's calls.
+//! Laws of records. A function here does nothing: its contract is the law.
 
-ghost use Rattle.std.specs.Prelude.{◌≡◌};
-ghost use Rattle.esx_machine.specs.Machine.{Kept, Trades};
+ghost use Rattle.std.specs.Prelude.{◌≡◌, Result};
+ghost use Rattle.esx_types.specs.declared.event.Answer.{Answer};
+ghost use Rattle.esx_types.specs.declared.event.Refusal.{Refusal};
+ghost use Rattle.esx_plain.specs.declared.scene.Scene.{Scene};
+ghost use Rattle.esx_machine.specs.Changes.{Back, flipped};
+ghost use Rattle.esx_machine.specs.Machine.{Kept, IsKept, Trades, turned, Accepts};
 
-use crate::machine::{Machine, Record};
+/// A record leads to one state. Flipped, it leads back, and flipped again it is as it was, and so are the tables.
+pub fn there_and_back()
+    ensures one { (r : Back) (here there other : Kept) → Trades r here there → Trades r here other → there ≡ other }
+    ensures leads_back { (r : Back) (here there : Kept) → IsKept here.config here.book → Trades r here there → Trades (turned r here) there here }
+    ensures again { (r : Back) (here there : Kept) → Trades r here there → flipped there.book (turned r here) ≡ (here.book, r) }
+{}
 
-/// Two flips with one record lead back, and the record serves again.
-pub fn there_and_back(machine: &mut Machine, back: &mut Record)
-    requires { (there : Kept) × Trades back.old machine.old there }
-    ensures { (there : Kept) → Trades back.old machine.old there → (machine.new ≡ machine.old) × Trades back.new machine.new there }
-{
-    machine.flip(back); // there
-    machine.flip(back); // and back
-}
+/// After an accepted event a flip leads to the state before it, and a second one to the state after it, with the event's own record.
+pub fn event_there_and_back()
+    ensures back { (old new : Kept) (answer : Answer) (r : Back) (d : Result (Answer × Scene) Refusal) → IsKept new.config new.book → Accepts old new answer r d
+        → Trades r new old × Trades (turned r new) old new }
+    ensures again { (old new : Kept) (answer : Answer) (r : Back) (d : Result (Answer × Scene) Refusal) → Accepts old new answer r d
+        → turned (turned r new) old ≡ r }
+{}

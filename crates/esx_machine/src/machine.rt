@@ -53,13 +53,14 @@ impl Machine {
     ghost use Rattle.esx_plain.specs.Site.{free_count};
     ghost use Rattle.esx_plain.specs.Readings.{sum_of, page_state};
     ghost use Rattle.esx_plain.specs.Replay.{next, opening};
-    ghost use Rattle.esx_machine.specs.Machine.{Kept, Shows, Trades, Applies, page_answer};
+    ghost use Rattle.esx_machine.specs.Machine.{Kept, Shows, Trades, turned, Applies, page_answer};
 
     /// A site with no virtual machines. `BadSpec` where one of its numbers is out of its range.
     pub fn open(alloc: Global, config: Config) -> Result<Machine, Refusal>
         ensures shows { IfOk result (λ m. (m.config ≡ config) × Shows m (opening config)) }
         ensures checked { IfOk result (λ m. IsConfig config) }
         ensures refused { IfErr result (λ e. e ≢ Refusal.OutOfMemory → (e ≡ Refusal.BadSpec) × (¬ IsConfig config)) }
+        ensures late { IfErr result (λ e. e ≡ Refusal.OutOfMemory → IsConfig config) }
     {
         let config = config.check()?;
         let tables = Tables::opening(alloc, &config)?;
@@ -135,7 +136,8 @@ impl Machine {
     /// Trades the record's rows with the machine's.
     pub fn flip(&mut self, back: &mut Record)
         requires fits { (there : Kept) × Trades back.old self.old there }
-        ensures { (there : Kept) → Trades back.old self.old there → (self.new ≡ there) × Trades back.new there self.old }
+        ensures { (there : Kept) → Trades back.old self.old there
+            → (self.new ≡ there) × Trades back.new there self.old × (back.new ≡ turned back.old self.old) }
     {
         exchange(&mut self.tables, &mut back.changes);
         mem::swap(&mut self.tables.level, &mut back.level);

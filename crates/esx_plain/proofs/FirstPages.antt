@@ -4,6 +4,7 @@ use Rattle.std.specs.List.{filter, find, list_any, count_by}
 use Rattle.std.proofs.lemmas.List.Sums.{length-filter, count_by-le-length, sum_by-cons}
 use Rattle.std.proofs.lemmas.List.Concat.{length-flat_map}
 use Rattle.esx_types.specs.declared.config.Config.{Config}
+use Rattle.esx_types.specs.declared.config.TheConstants.{VM_NUMBERS}
 use Rattle.esx_types.specs.declared.table.FrameRow.TheVariants as frame_is
 use Rattle.esx_plain.specs.declared.scene.Place.{Place}
 use Rattle.esx_plain.specs.declared.scene.Place.TheVariants.{Untouched, Here, Out, Lent}
@@ -83,7 +84,7 @@ few_places (o ∷ os) h =
 few_of_sound : (c : Config) (s : Site) → IsSound c s → (n : ℕ) (v : Vm) → get_or s.vms n None ≡ Some v → length v.places ≤ 65536
 few_of_sound c s sound n v there = let fine = sound.each n v there in let most = fine.good.most_max in let all = fine.pages in omega arith
 
-pub places_few : (c : Config) (s : Site) → IsSound c s → length (all_places s) ≤ 2097152
+pub places_few : (c : Config) (s : Site) → IsSound c s → length (all_places s) ≤ VM_NUMBERS * 65536
 unfolding all_places
 places_few c s sound =
     let total = length-flat_map vm_places s.vms in

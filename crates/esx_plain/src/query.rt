@@ -1,6 +1,6 @@
 //! What names a frame, what is free, what is reserved.
 
-ghost use Rattle.std.specs.Prelude.{◌≡◌, ◌+◌, ◌^◌, ◌<◌, ◌≤◌, ◌==◌, ◌-◌, Some, None, length, count_by, min, nat_lt};
+ghost use Rattle.std.specs.Prelude.{◌≡◌, ◌+◌, ◌*◌, ◌^◌, ◌<◌, ◌≤◌, ◌==◌, ◌-◌, Some, None, length, count_by, min, nat_lt};
 ghost use Rattle.std.specs.List.{list_any};
 ghost use Rattle.esx_types.specs.declared.config.TheConstants.{VM_NUMBERS};
 ghost use Rattle.esx_plain.specs.Site.{is_here_at, is_here, vm_names, is_named, least_free, free_count, resident, memory_reserve, swap_reserve, memory_reserved, swap_reserved};
@@ -153,7 +153,7 @@ impl Site {
     pub(crate) fn memory_reserved(&self) -> u64
         requires { length self.now.vms ≤ VM_NUMBERS }
         ensures value { result ≡ memory_reserved self.now }
-        ensures fits { result ≤ 2 ^ 38 }
+        ensures fits { result ≤ VM_NUMBERS * 2 ^ 33 }
     {
         let mut total = 0;
         for vm in self.vms.as_slice() {
@@ -165,7 +165,7 @@ impl Site {
     pub(crate) fn swap_reserved(&self) -> u64
         requires { length self.now.vms ≤ VM_NUMBERS }
         ensures value { result ≡ swap_reserved self.now }
-        ensures fits { result ≤ 2 ^ 38 }
+        ensures fits { result ≤ VM_NUMBERS * 2 ^ 33 }
     {
         let mut total = 0;
         for vm in self.vms.as_slice() {

@@ -1,5 +1,5 @@
 use super::*;
-use esx_types::{Config, Event, FrameRow, Level, MapRow, Refusal, VmId, VmSpec};
+use esx_types::{Config, Event, FrameRow, Level, MapRow, Refusal, VM_NUMBERS, VmId, VmSpec};
 use std::rt::HostRuntime;
 
 const SITE: Config = Config {
@@ -67,7 +67,7 @@ fn machines_are_right(vms: &[Option<VmRow>]) -> bool {
     match vms {
         [Some(vm), others @ ..] => {
             pages_are_right(vm.pages.as_slice())
-                && others.len() == 31
+                && vms.len() == VM_NUMBERS
                 && others.iter().all(|vm| vm.is_none())
         }
         _ => false,

@@ -1,5 +1,5 @@
 use Rattle.std.proofs.Common.{rules, ◌≡◌, ◌∙◌, sym, ap, subst, arith, refl, ◌<◌, ◌+◌, ◌^◌, length, List, Result, Ok, Err}
-use Rattle.std.specs.Prelude.{IsErrAnd}
+use Rattle.std.specs.Prelude.{IsErrAnd, IsOk}
 use Rattle.esx_types.specs.declared.event.Answer.{Answer}
 use Rattle.esx_types.specs.declared.event.Refusal.{Refusal}
 use Rattle.esx_machine.specs.Machine as machines
@@ -10,7 +10,7 @@ use Rattle.esx_journal.specs.Row.{grown}
 use Rattle.esx_journal.specs.Journal.{Kept, Holds, IsKept, Does, Refused, Accepted}
 use Rattle.esx_journal.proofs.Steps.{cursor_fits}
 use Rattle.esx_journal.proofs.Moves.{depth_small, no_row}
-use Rattle.esx_journal.proofs.Grows.{applied, refused, full_is, trades_back}
+use Rattle.esx_journal.proofs.Grows.{applied, accepted_is, refused, full_is, trades_back}
 use Rattle.esx_journal.proofs.journal.Journal.apply.Goals as goal
 
 err_is : (r : Result (Answer × Answer) Refusal) (e : Refusal) → IsErrAnd r (λ x. x ≡ e) → r ≡ Err e
@@ -21,6 +21,7 @@ pub returns-then-made-self : goal.returns-then-made-self
 returns-then-made-self c = λ m h. record {
   same = refl;
   why = λ _. full_is m c.args.event.now (let s = h.size in let l = h.limit in let v = ap (λ (x : Kept). x.nodes) c.self.view_is in let w = ap (λ (x : Kept). length x.rows) c.self.view_is in omega arith);
+  late = λ o. cc;
 }
 
 pub invariant_of-self : goal.invariant_of-self
@@ -43,7 +44,7 @@ returns-in_err-answer c =
     let l = h.limit in
     let s = h.size in
     let x = refused old c.apply.new.self m c.args.event.now r no_row h (omega arith) c.in_err-answer.ensures in
-    record { same = ap (λ q. record old { machine = q }) x.0; why = x.1 }) in
+    record { same = ap (λ q. record old { machine = q }) x.0; why = x.1; late = x.2 }) in
     let Q : Result (Answer × Answer) Refusal → Type 0 = λ q. (m : History) → Holds c.args.self.now m → Does q c.args.self.now new (do_event c.args.event.now m) in
     subst Q (sym (err_is c.from_residual.result r c.from_residual.ensures.1)) all
 
@@ -117,4 +118,10 @@ returns-in-Err c =
     let home = c.revert.ensures c.self.inside.machine (trades_back old c.apply.new.self k.history c.args.event.now c.in_ok-answer.answer c.in_ok-answer.back no_row k.holds c.in_ok-answer.ensures) in
     let all : record old { machine = c.revert.new.machine; rows = c.take_room.new.rows.items } ≡ old =
     ap (λ q. record old { machine = q; rows = c.take_room.new.rows.items }) home ∙ ap (λ q. record old { rows = q }) c.in-Err.ensures.items in
-    λ m h. record { same = all ∙ c.self.view_is; why = λ o. absurd (o refl) }
+    let P : Kept → Type 0 = λ j. (m : History) → Holds j m → IsOk (do_event c.args.event.now m) in
+    let accepted = subst P c.self.view_is (λ m h.
+    let l = h.limit in
+    let s = h.size in
+    let Q : Result (Answer × History) Refusal → Type 0 = IsOk in
+    subst Q (sym (accepted_is old c.apply.new.self m c.args.event.now c.in_ok-answer.answer c.in_ok-answer.back no_row h (omega arith) c.in_ok-answer.ensures)) refl) in
+    λ m h. record { same = all ∙ c.self.view_is; why = λ o. absurd (o refl); late = λ o. accepted m h }
