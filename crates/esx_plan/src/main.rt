@@ -1,6 +1,7 @@
 //! The program: a console over the standard streams.
 #![tactic(auto)]
 
+mod outgoing;
 mod site;
 mod streams;
 
@@ -9,9 +10,7 @@ use esx_types::Config;
 use std::alloc::AllocGlobal;
 use std::env::{self, Env};
 use std::io::{self, ErrorKind, Input, Print};
-use std::marker::Brand;
 use std::process::ExitCode;
-use std::sync::ledger::Blank;
 use streams::serve_streams;
 use thiserror::Error;
 
@@ -38,7 +37,13 @@ enum Failure {
 }
 
 impl Failure {
-    fn status(&self) -> u8 {
+    ghost use Rattle.std.specs.Prelude.{◌≡◌};
+    ghost use Rattle.esx_plan.specs.Status.{status_of};
+
+    /// The status that the program ends with.
+    fn status(&self) -> u8
+        ensures { result ≡ status_of self.now }
+    {
         match self {
             Failure::Words => 2,
             Failure::Serve(ServeFault::Read | ServeFault::Write) => 1,
@@ -63,14 +68,7 @@ fn count_words<R: Env + AllocGlobal>(rt: &R) -> Result<usize, Failure> {
 
 /// Serves the standard input to the standard output.
 fn run_console<R: Input + Print + AllocGlobal>(rt: &R) -> Result<(), Failure> {
-    match serve_streams::<_, _, Brand, Brand>(
-        rt.alloc(),
-        SITE,
-        rt.reader(),
-        io::writer(rt),
-        Blank::new(2),
-        Blank::new(2),
-    ) {
+    match serve_streams(rt.alloc(), SITE, rt.reader(), io::writer(rt)).ended {
         Ok(_) => Ok(()),
         Err(fault) => Err(Failure::Serve(fault)),
     }

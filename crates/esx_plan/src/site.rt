@@ -1,13 +1,13 @@
 //! One site, served from its opening on.
 
-ghost use Rattle.std.specs.Prelude.{◌≡◌, ◌+◌, ◌^◌, ◌<◌, ◌⊎◌, [], IfOk, IfErr, IsErrOf};
+ghost use Rattle.std.specs.Prelude.{◌≡◌, ◌+◌, ◌-◌, ◌^◌, ◌<◌, ◌≤◌, ◌⊎◌, [], IfOk, IfErr, IsErrOf};
 ghost use Rattle.esx_types.specs.Ranges.{IsConfig};
 ghost use Rattle.esx_plain.specs.Console.{Session};
 ghost use Rattle.esx_text.specs.Answers.{Answers, Faults, write_faults};
 ghost use Rattle.esx_plan.specs.Site.{at_opening};
 
 use esx_console::Console;
-use esx_text::{ServeFault, serve};
+use esx_text::{ServeFault, give_up, serve};
 use esx_types::{Config, Sink, Source};
 use std::alloc::Global;
 
@@ -26,12 +26,20 @@ pub fn serve_site<R: Source, W: Sink>(
         (R.remaining reader.old) (R.remaining reader.new) (W.contents writer.old) (W.contents writer.new)) }
     ensures fault { IfErr result (λ e. (after : Session) × Faults e 0 (at_opening config) after
         (R.remaining reader.old) (R.remaining reader.new) (W.contents writer.old) (W.contents writer.new)) }
+
+    // As of `serve`.
+    ensures reads { R.calls reader.new ≤ R.calls reader.old + 2 ^ 26 }
     ensures read { IsErrOf result ServeFault.Read
-        → (R.failures reader.old < R.failures reader.new) ⊎ (R.calls reader.new ≡ R.calls reader.old + 2 ^ 26) }
+        → (R.failures reader.new ≡ R.failures reader.old + 1)
+        ⊎ ((R.failures reader.new ≡ R.failures reader.old) × (R.calls reader.new ≡ R.calls reader.old + 2 ^ 26)) }
+    ensures no_read_fault { (IsErrOf result ServeFault.Read → ⊥) → R.failures reader.new ≡ R.failures reader.old }
     ensures write { W.failures writer.new ≡ W.failures writer.old + write_faults result }
+    ensures flushes { let failed = R.failures reader.new - R.failures reader.old + write_faults result in
+        W.flushes writer.new + R.calls reader.old + failed ≡ W.flushes writer.old + R.calls reader.new + 1 }
+    ensures sent { (IsErrOf result ServeFault.Write → ⊥) → W.waiting writer.new ≡ [] }
 {
     match Console::open(alloc, config) {
         Ok(mut console) => serve(alloc, &mut console, 0, reader, writer),
-        Err(_) => Err(ServeFault::OutOfMemory),
+        Err(_) => Err(give_up(writer)),
     }
 }

@@ -1,174 +1,126 @@
-//! The standard streams as the two ends of a console.
-//!
-//! Answers wait in a buffer until more input is asked for, so that a person at a terminal and a program
-//! on a pipe get every answer at once, and a million lines do not cost a million writes.
+//! A site, served between two streams.
 
-ghost use Rattle.std.specs.Prelude.{◌≡◌, ◌≤◌, ℕ, List, Option, None, IfOk};
-ghost use Rattle.esx_plain.specs.Console.{Session};
-ghost use Rattle.esx_text.specs.Answers.{Answers};
-ghost use Rattle.esx_plan.specs.Site.{at_opening};
+ghost use Rattle.std.specs.Prelude.{◌≡◌, ◌+◌, ◌-◌, ◌^◌, ◌<◌, ◌≤◌, ◌⊎◌, [], ℕ, List, Option, IfOk, IfErr, IsErrOf};
 ghost use Rattle.esx_types.specs.Ranges.{IsConfig};
+ghost use Rattle.esx_plain.specs.Console.{Session};
+ghost use Rattle.esx_text.specs.Answers.{Answers, Faults, write_faults};
+ghost use Rattle.esx_plan.specs.Site.{at_opening};
+ghost use Rattle.esx_plan.specs.Streams.{ComesOut};
 
+use crate::outgoing::{Outgoing, Waiting};
 use crate::site::serve_site;
-use esx_text::ServeFault;
-use esx_types::{Config, Counts, ReadSource, Sink, SinkFailed, Source, SourceFailed};
+use esx_text::{ServeFault, give_up};
+use esx_types::{Config, ReadSource, Sink, Source, WriteSink};
 use std::alloc::Global;
-use std::cell::RefCell;
-use std::io::{self, BufWriter, Read, Write};
-use std::rc::Rc;
+use std::io::{Read, Write};
+use std::marker::Brand;
 use std::sync::ledger::{Blank, Ledger};
 
-/// How many bytes of answers wait at most.
-const ROOM: usize = 65536;
+/// Serves a site, lets its answers wait until more input is asked for, and gives the sink back.
+///
+/// After a fault of writing the sink may lack some of the answers to the lines before it, and not of the
+/// last one alone.
+pub fn serve_buffered<R: Source, W: Sink + Drop, L: Ledger>(
+    alloc: Global,
+    config: Config,
+    reader: &mut R,
+    mut writer: W,
+    blank: Blank,
+) -> (Result<u64, ServeFault>, W)
+    requires config { IsConfig config }
+    requires name { blank.name ≡ L.name }
+    requires parts { blank.parts ≡ L.parts }
+    requires three { 3 ≤ blank.parts }
+    ensures ok { IfOk result.0 (λ n. (after : Session) × Answers 0 n (at_opening config) after
+        (R.remaining reader.old) (R.remaining reader.new) (W.contents writer) (W.contents result.1)) }
+    ensures fault { IfErr result.0 (λ e. (after : Session) × (taken : Option (List ℕ)) × Faults e 0 (at_opening config) after
+        (R.remaining reader.old) (R.remaining reader.new) (W.contents writer) taken
+        × ComesOut e taken (W.contents result.1)) }
 
-/// Answers on their way out. Once they could not be written, nothing more is.
+    // As of `serve`.
+    ensures reads { R.calls reader.new ≤ R.calls reader.old + 2 ^ 26 }
+    ensures read { IsErrOf result.0 ServeFault.Read
+        → (R.failures reader.new ≡ R.failures reader.old + 1)
+        ⊎ ((R.failures reader.new ≡ R.failures reader.old) × (R.calls reader.new ≡ R.calls reader.old + 2 ^ 26)) }
+    ensures no_read_fault { (IsErrOf result.0 ServeFault.Read → ⊥) → R.failures reader.new ≡ R.failures reader.old }
+    ensures write { W.failures result.1 ≡ W.failures writer + write_faults result.0 }
+    ensures flushes { let failed = R.failures reader.new - R.failures reader.old + write_faults result.0 in
+        W.flushes result.1 + R.calls reader.old + failed ≡ W.flushes writer + R.calls reader.new + 1 }
+    ensures sent { (IsErrOf result.0 ServeFault.Write → ⊥) → W.waiting result.1 ≡ [] }
+{
+    let Ok(waiting) = Waiting::new(alloc) else {
+        let fault = give_up(&mut writer);
+        return (Err(fault), writer);
+    };
+    let mut outgoing = Outgoing::<W, L>::new(writer, waiting, blank);
+    let served = serve_site(alloc, config, reader, &mut outgoing);
+    (served, outgoing.into_sink())
+}
+
+/// How a site was served, and the two streams as they are then.
 #[derive(Drop)]
-pub struct Outgoing<W: Write + Drop> {
-    writer: BufWriter<W>,
-    is_broken: bool,
+pub struct Served<R: Drop, W: Drop> {
+    pub ended: Result<u64, ServeFault>,
+    pub reader: R,
+    pub writer: W,
 }
 
-impl<W: Write + Drop> Outgoing<W> {
-    pub fn new(alloc: Global, writer: W) -> io::Result<Outgoing<W>> {
-        Ok(Outgoing {
-            writer: BufWriter::with_capacity(alloc, ROOM, writer)?,
-            is_broken: false,
-        })
-    }
-
-    fn write(&mut self, bytes: &[u8]) -> bool {
-        if !self.is_broken && self.writer.write_all(bytes).is_err() {
-            self.is_broken = true;
-        }
-        !self.is_broken
-    }
-
-    /// Sends what waits. Tells whether all went out so far.
-    fn flush(&mut self) -> bool {
-        if !self.is_broken && self.writer.flush().is_err() {
-            self.is_broken = true;
-        }
-        !self.is_broken
-    }
-}
-
-/// Input that sends the answers which wait before it asks for more.
-#[derive(Drop)]
-pub struct StreamSource<R: Read + Drop, W: Write + Drop, L: Ledger> {
-    source: ReadSource<R, L>,
-    answers: Rc<RefCell<Outgoing<W>>>,
-}
-
-impl<R: Read + Drop, W: Write + Drop, L: Ledger> StreamSource<R, W, L> {
-    pub fn new(source: ReadSource<R, L>, answers: Rc<RefCell<Outgoing<W>>>) -> StreamSource<R, W, L>
-        ensures { ⟦<StreamSource<R, W, L> as Source>⟧.remaining result ≡ ⟦<ReadSource<R, L> as Source>⟧.remaining source }
-    {
-        StreamSource { source, answers }
-    }
-}
-
-impl<R: Read + Drop, W: Write + Drop, L: Ledger> Source for StreamSource<R, W, L> {
-    ghost remaining = { λ s. ⟦<ReadSource<R, L> as Source>⟧.remaining s.source };
-
-    ghost calls = { λ s. ⟦<ReadSource<R, L> as Source>⟧.calls s.source };
-
-    ghost failures = { λ s. ⟦<ReadSource<R, L> as Source>⟧.failures s.source };
-
-    fn read(&mut self, buffer: &mut [u8]) -> Result<usize, SourceFailed> {
-        if let Ok(mut answers) = self.answers.try_borrow_mut() {
-            answers.flush();
-        }
-        self.source.read(buffer)
-    }
-}
-
-/// Output whose bytes wait until more input is asked for, or there is no more room for them.
-#[derive(Drop)]
-pub struct StreamSink<W: Write + Drop, L: Ledger> {
-    answers: Rc<RefCell<Outgoing<W>>>,
-    counts: Counts<L>,
-}
-
-impl<W: Write + Drop, L: Ledger> StreamSink<W, L> {
-    pub fn new(answers: Rc<RefCell<Outgoing<W>>>, blank: Blank) -> StreamSink<W, L>
-        requires name { blank.name ≡ L.name }
-        requires parts { blank.parts ≡ L.parts }
-        requires two { 2 ≤ blank.parts }
-    {
-        StreamSink {
-            answers,
-            counts: Counts::new(blank),
-        }
-    }
-
-    /// Sends what waits. Tells whether all answers went out.
-    pub fn finish(&mut self) -> bool {
-        match self.answers.try_borrow_mut() {
-            Ok(mut answers) => answers.flush(),
-            Err(_) => false,
-        }
-    }
-}
-
-fn write_to<W: Write + Drop>(answers: &RefCell<Outgoing<W>>, bytes: &[u8]) -> bool {
-    match answers.try_borrow_mut() {
-        Ok(mut answers) => answers.write(bytes),
-        Err(_) => false,
-    }
-}
-
-impl<W: Write + Drop, L: Ledger> Sink for StreamSink<W, L> {
-    ghost contents = { λ s. None };
-
-    ghost calls = { λ s. s.counts.calls };
-
-    ghost failures = { λ s. s.counts.failures };
-
-    fn write(&mut self, bytes: &[u8]) -> Result<usize, SinkFailed> {
-        if write_to(&self.answers, bytes) {
-            self.counts.count_done();
-            Ok(bytes.len())
-        } else {
-            self.counts.count_failed();
-            Err(SinkFailed)
-        }
-    }
-}
-
-/// Serves a site between a reader and a writer, and sends every answer. A writer that fails at the last
-/// of them is a fault of writing too.
-pub fn serve_streams<R: Read + Drop, W: Write + Drop, I: Ledger, O: Ledger>(
+fn serve_counted<R: Read + Drop, W: Write + Drop, I: Ledger, O: Ledger, L: Ledger>(
     alloc: Global,
     config: Config,
     reader: R,
     writer: W,
     calls_in: Blank,
     calls_out: Blank,
-) -> Result<u64, ServeFault>
+    calls_held: Blank,
+) -> Served<R, W>
     requires config { IsConfig config }
     requires name_in { calls_in.name ≡ I.name }
     requires parts_in { calls_in.parts ≡ I.parts }
-    requires two_in { 2 ≤ calls_in.parts }
+    requires three_in { 3 ≤ calls_in.parts }
     requires name_out { calls_out.name ≡ O.name }
     requires parts_out { calls_out.parts ≡ O.parts }
-    requires two_out { 2 ≤ calls_out.parts }
-    ensures { IfOk result (λ n. (left : Option (List ℕ)) × (after : Session) × Answers 0 n (at_opening config) after (R.remaining reader) left None None) }
+    requires three_out { 3 ≤ calls_out.parts }
+    requires name_held { calls_held.name ≡ L.name }
+    requires parts_held { calls_held.parts ≡ L.parts }
+    requires three_held { 3 ≤ calls_held.parts }
+    ensures ok { IfOk result.ended (λ n. (after : Session) × Answers 0 n (at_opening config) after
+        (R.remaining reader) (R.remaining result.reader) (W.contents writer) (W.contents result.writer)) }
+    ensures fault { IfErr result.ended (λ e. (after : Session) × (taken : Option (List ℕ)) × Faults e 0 (at_opening config) after
+        (R.remaining reader) (R.remaining result.reader) (W.contents writer) taken
+        × ComesOut e taken (W.contents result.writer)) }
 {
-    let Ok(answers) = Outgoing::new(alloc, writer) else {
-        return Err(ServeFault::OutOfMemory);
-    };
-    let Ok(answers) = Rc::new(alloc, RefCell::new(answers)) else {
-        return Err(ServeFault::OutOfMemory);
-    };
-    let Ok(shared) = answers.clone() else {
-        return Err(ServeFault::OutOfMemory);
-    };
-    let mut source = StreamSource::new(ReadSource::<R, I>::new(reader, calls_in), shared);
-    let mut sink = StreamSink::<W, O>::new(answers, calls_out);
-    let served = serve_site(alloc, config, &mut source, &mut sink);
-    if sink.finish() {
-        served
-    } else {
-        served.and(Err(ServeFault::Write))
+    let mut source = ReadSource::<R, I>::new(reader, calls_in);
+    let sink = WriteSink::<W, O>::new(writer, calls_out);
+    let (ended, sink) = serve_buffered::<_, _, L>(alloc, config, &mut source, sink, calls_held);
+    Served {
+        ended,
+        reader: source.into_reader(),
+        writer: sink.into_writer(),
     }
+}
+
+/// Serves a site between a reader and a writer of the standard library, and gives them back.
+pub fn serve_streams<R: Read + Drop, W: Write + Drop>(
+    alloc: Global,
+    config: Config,
+    reader: R,
+    writer: W,
+) -> Served<R, W>
+    requires { IsConfig config }
+    ensures ok { IfOk result.ended (λ n. (after : Session) × Answers 0 n (at_opening config) after
+        (R.remaining reader) (R.remaining result.reader) (W.contents writer) (W.contents result.writer)) }
+    ensures fault { IfErr result.ended (λ e. (after : Session) × (taken : Option (List ℕ)) × Faults e 0 (at_opening config) after
+        (R.remaining reader) (R.remaining result.reader) (W.contents writer) taken
+        × ComesOut e taken (W.contents result.writer)) }
+{
+    serve_counted::<_, _, Brand, Brand, Brand>(
+        alloc,
+        config,
+        reader,
+        writer,
+        Blank::new(3),
+        Blank::new(3),
+        Blank::new(3),
+    )
 }

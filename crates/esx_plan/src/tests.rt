@@ -1,5 +1,7 @@
 //! Worked examples, each through the whole console. What they answer was worked out by hand.
 
+mod ends;
+
 ghost use Rattle.std.specs.Prelude.{◌≡◌, ◌≤◌};
 ghost use Rattle.esx_types.specs.Ranges.{IsConfig};
 
@@ -96,8 +98,8 @@ const ROWS: [Row; 15] = [
     },
 ];
 
-/// Serves a site on bytes in memory, so many at a time.
-fn served<I: Ledger, O: Ledger>(
+/// Serves a site on bytes in memory, so many at a time, by a count of the calls at each end.
+fn served_counted<I: Ledger, O: Ledger>(
     alloc: Global,
     config: Config,
     input: &[u8],
@@ -108,10 +110,10 @@ fn served<I: Ledger, O: Ledger>(
     requires config { IsConfig config }
     requires name_in { calls_in.name ≡ I.name }
     requires parts_in { calls_in.parts ≡ I.parts }
-    requires two_in { 2 ≤ calls_in.parts }
+    requires three_in { 3 ≤ calls_in.parts }
     requires name_out { calls_out.name ≡ O.name }
     requires parts_out { calls_out.parts ≡ O.parts }
-    requires two_out { 2 ≤ calls_out.parts }
+    requires three_out { 3 ≤ calls_out.parts }
 {
     let mut source = MemorySource::<I>::new(input, most, calls_in);
     let mut sink = MemorySink::<O>::new(Vec::new(alloc), calls_out);
@@ -119,17 +121,21 @@ fn served<I: Ledger, O: Ledger>(
     (result, sink.into_bytes())
 }
 
+fn served(
+    alloc: Global,
+    config: Config,
+    input: &[u8],
+    most: usize,
+) -> (Result<u64, ServeFault>, Vec<u8>)
+    requires { IsConfig config }
+{
+    served_counted::<Brand, Brand>(alloc, config, input, most, Blank::new(3), Blank::new(3))
+}
+
 #[test]
 fn rows(rt: HostRuntime) -> Result<(), Fail> {
     for row in &ROWS {
-        let (result, bytes) = served::<Brand, Brand>(
-            rt.alloc(),
-            SITE,
-            row.input,
-            4096,
-            Blank::new(2),
-            Blank::new(2),
-        );
+        let (result, bytes) = served(rt.alloc(), SITE, row.input, 4096);
         assert!(rt; result.is_ok());
         assert!(rt; bytes.as_slice() == row.output);
     }
@@ -139,14 +145,7 @@ fn rows(rt: HostRuntime) -> Result<(), Fail> {
 #[test]
 fn rows_byte_by_byte(rt: HostRuntime) -> Result<(), Fail> {
     for row in &ROWS {
-        let (result, bytes) = served::<Brand, Brand>(
-            rt.alloc(),
-            SITE,
-            row.input,
-            1,
-            Blank::new(2),
-            Blank::new(2),
-        );
+        let (result, bytes) = served(rt.alloc(), SITE, row.input, 1);
         assert!(rt; result.is_ok());
         assert!(rt; bytes.as_slice() == row.output);
     }
@@ -159,14 +158,7 @@ fn long_line(rt: HostRuntime) -> Result<(), Fail> {
     let mut text = Vec::new(rt.alloc());
     text.resize(20000, b'a')?;
     text.extend_from_slice(b"\nsum\n")?;
-    let (result, bytes) = served::<Brand, Brand>(
-        rt.alloc(),
-        SITE,
-        text.as_slice(),
-        1000,
-        Blank::new(2),
-        Blank::new(2),
-    );
+    let (result, bytes) = served(rt.alloc(), SITE, text.as_slice(), 1000);
     assert_eq!(rt; result, Ok(2));
     assert!(rt;
         bytes.as_slice() == b"? line 1\noverhead 0 private 0 shared 0 free 20 high\n".as_slice()
@@ -181,14 +173,7 @@ fn full(rt: HostRuntime) -> Result<(), Fail> {
     let input = b"admit 0 2 6 1 1000 0\nstart 0\nread 0 0 0 1\nread 0 9 0 1\nundo 2\nsum\n";
     let output =
         b"ok memory 3/20 swap 4/8\nok frame 0 overhead 1/1 running\nno 25 Full\nno 25 Full\nat 0 depth 0 jumps 1\noverhead 0 private 0 shared 0 free 20 high\n";
-    let (result, bytes) = served::<Brand, Brand>(
-        rt.alloc(),
-        config,
-        input,
-        4096,
-        Blank::new(2),
-        Blank::new(2),
-    );
+    let (result, bytes) = served(rt.alloc(), config, input, 4096);
     assert_eq!(rt; result, Ok(6));
     assert!(rt; bytes.as_slice() == output.as_slice());
     Ok(())

@@ -90,7 +90,7 @@ stops_line Write caller before known input count line now after new new' later s
       ended = p.ended ++ p.rest ∷ more.ended;
       rest = more.rest;
       split = ends_then input p.ended p.rest later more.ended more.rest p.split more.ends;
-      stop = record {
+      stop = inl (record {
         done = map line_of p.ended;
         line = line_of p.rest;
         others = lines more.ended more.rest;
@@ -104,7 +104,7 @@ stops_line Write caller before known input count line now after new new' later s
         answered_last = numbered (count + 1) (length (map line_of p.ended) + 1) caller now (line_of p.rest) s.0 after (omega (arith, p.count_is, length-map p.ended line_of)) s.1;
         last_is = s.2.2;
         written = appends_more known new new' p.text s.2.0 p.written s.2.3;
-      };
+      });
     }
 stops_line OutOfMemory caller before known input count line now after new new' later served p =
     let s = served (line_of p.rest) (ended_keeps line.front line.long p.rest p.holds) in
@@ -135,7 +135,7 @@ stops_last Write caller before known input count line now after new new' some se
       ended = p.ended;
       rest = p.rest;
       split = p.split;
-      stop = record {
+      stop = inl (record {
         done = map line_of p.ended;
         line = p.rest;
         others = [];
@@ -149,7 +149,7 @@ stops_last Write caller before known input count line now after new new' some se
         answered_last = numbered (count + 1) (length (map line_of p.ended) + 1) caller now p.rest s.0 after (omega (arith, p.count_is, length-map p.ended line_of)) s.1;
         last_is = s.2.2;
         written = appends_more known new new' p.text s.2.0 p.written s.2.3;
-      };
+      });
     }
 stops_last OutOfMemory caller before known input count line now after new new' some served p =
     let s = served p.rest (last_keeps line.front line.long p.rest p.holds) in
@@ -171,18 +171,6 @@ stops_last OutOfMemory caller before known input count line now after new new' s
 pub stops_of : (fault : ServeFault) (caller : ℕ) (before after : Session) (input input' : List ℕ) (old new : Option (List ℕ))
     → input ≡ input' → Stops fault caller before after input old new → Stops fault caller before after input' old new
 stops_of fault caller before after input input' old new e s = rw e at s
-
-pub stops_at_once : (caller : ℕ) (before : Session) (unread known : Option (List ℕ)) → Faults OutOfMemory caller before before unread unread known known
-stops_at_once caller before unread known = record {
-  input = [];
-  read = consumes_nothing unread;
-  stops = record {
-    ended = [];
-    rest = [];
-    split = record { whole = refl; each = All-nil HasNoFeed; last = All-nil (λ b. b ≡ 10 → ⊥) };
-    stop = record { done = []; others = []; text = []; lines_are = refl; answered = (refl, refl); written = appends_nothing known };
-  };
-}
 
 -- the exit of a `?` that hands on the error as it is
 pub handed_on : {T E : Type 0} (r : Result T E) (x : E) (Q : E → Type 0) → IsErrAnd r (λ e. e ≡ x) → Q x → IfErr r Q

@@ -1,5 +1,5 @@
 -- What is written for what is read, and the session after it.
-use Rattle.std.specs.Prelude.{ℕ, List, [], ◌∷◌, ◌++◌, ◌≡◌, ◌+◌, ◌≤◌, codes, decimal, length, map, Option, Result, Ok, Err}
+use Rattle.std.specs.Prelude.{ℕ, List, [], ◌∷◌, ◌++◌, ◌≡◌, ◌+◌, ◌≤◌, ◌⊎◌, codes, decimal, length, map, Option, None, Some, Result, Ok, Err}
 use Rattle.std.specs.Io.KnownBytes.{Appends, Consumes, IsAtEnd}
 use Rattle.esx_types.specs.declared.call.Call.{Call}
 use Rattle.esx_plain.specs.Console.{Session, next_reply, lined}
@@ -67,7 +67,19 @@ pub record Answers (caller count : ℕ) (before after : Session) (unread left ol
   pub serves : Serves caller count before input text after
   pub written : Appends old new text
 
--- how many writes failed, by what a call answered
+-- 1 where reading is at fault
+abbrev pub read_faults : {T : Type 0} → Result T ServeFault → ℕ
+read_faults (Ok x) = 0
+read_faults (Err Read) = 1
+read_faults (Err Write) = 0
+read_faults (Err OutOfMemory) = 0
+
+-- 1 where writing is
+abbrev pub fault_writes : ServeFault → ℕ
+fault_writes Read = 0
+fault_writes Write = 1
+fault_writes OutOfMemory = 0
+
 abbrev pub write_faults : {T : Type 0} → Result T ServeFault → ℕ
 write_faults (Ok x) = 0
 write_faults (Err Read) = 0
@@ -100,9 +112,10 @@ pub record Cut (caller : ℕ) (before after : Session) (all : List (List ℕ)) (
   pub written : Appends old new (text ++ front)
 
 -- What was done at a fault, of the lines of the ended pieces and the rest. After a fault of reading it is all ended ones.
+-- A fault of writing comes in the middle of an answer, or between two, where those before it are handed on.
 abbrev pub StopsAt : ServeFault → ℕ → Session → Session → List (List ℕ) → List ℕ → Option (List ℕ) → Option (List ℕ) → Type 0
 StopsAt Read caller before after ended rest old new = (text : List ℕ) × AreAnswered 1 caller before (map line_of ended) text after × Appends old new text
-StopsAt Write caller before after ended rest old new = Cut caller before after (lines ended rest) old new
+StopsAt Write caller before after ended rest old new = Cut caller before after (lines ended rest) old new ⊎ First caller before after (lines ended rest) old new
 StopsAt OutOfMemory caller before after ended rest old new = First caller before after (lines ended rest) old new
 
 pub record Stops (fault : ServeFault) (caller : ℕ) (before after : Session) (input : List ℕ) (old new : Option (List ℕ)) : Type 0 where
@@ -116,3 +129,14 @@ pub record Faults (fault : ServeFault) (caller : ℕ) (before after : Session) (
   pub input : List ℕ
   pub read : Consumes unread left input
   pub stops : Stops fault caller before after input old new
+
+-- What a whole run came to: all lines were answered, so many, or there was a fault.
+abbrev pub Ends : Result ℕ ServeFault → ℕ → Session → Session → Option (List ℕ) → Option (List ℕ) → Option (List ℕ) → Option (List ℕ) → Type 0
+Ends (Ok n) caller before after unread left old new = Answers caller n before after unread left old new
+Ends (Err e) caller before after unread left old new = Faults e caller before after unread left old new
+
+-- The same of a run whose last answers wait, where an input with no end gives no number.
+abbrev pub Reaches : Result (Option ℕ) ServeFault → ℕ → Session → Session → Option (List ℕ) → Option (List ℕ) → Option (List ℕ) → Option (List ℕ) → Type 0
+Reaches (Ok (Some n)) caller before after unread left old new = Answers caller n before after unread left old new
+Reaches (Ok None) caller before after unread left old new = Faults Read caller before after unread left old new
+Reaches (Err e) caller before after unread left old new = Faults e caller before after unread left old new

@@ -47,6 +47,7 @@ fn answer_call<W: Sink>(
         → IsServed n caller console.old line console.new (W.contents writer.old) (W.contents writer.new) result }
     ensures empty { OnOk result (held.new ≡ []) }
     ensures failures { W.failures writer.new ≡ W.failures writer.old + write_faults result }
+    ensures flushes { W.flushes writer.new ≡ W.flushes writer.old }
     ensures reads { IsErrOf result ServeFault.Read → ⊥ }
 {
     let Ok(reply) = console.call(caller, call) else {
@@ -69,6 +70,7 @@ fn answer_unknown<W: Sink>(
         → IsServed number caller session line session (W.contents writer.old) (W.contents writer.new) result }
     ensures empty { OnOk result (held.new ≡ []) }
     ensures failures { W.failures writer.new ≡ W.failures writer.old + write_faults result }
+    ensures flushes { W.flushes writer.new ≡ W.flushes writer.old }
     ensures reads { IsErrOf result ServeFault.Read → ⊥ }
 {
     match write_pieces(
@@ -117,6 +119,7 @@ pub fn answer_line<W: Sink>(
         → IsServed asked.now.number caller console.old line console.new (W.contents writer.old) (W.contents writer.new) result }
     ensures empty { OnOk result (held.new ≡ []) }
     ensures failures { W.failures writer.new ≡ W.failures writer.old + write_faults result }
+    ensures flushes { W.flushes writer.new ≡ W.flushes writer.old }
     ensures reads { IsErrOf result ServeFault.Read → ⊥ }
 {
     if is_silent(asked.kept) {

@@ -14,4 +14,4 @@ mod writing;
 pub use command::{parse_command, print_command};
 pub use fault::{ServeFault, TextFault};
 pub use reply::print_reply;
-pub use service::serve;
+pub use service::{give_up, serve};

@@ -4,7 +4,7 @@ ghost use Rattle.std.specs.Prelude.{◌≡◌, ◌+◌, ◌≤◌, [], IfOk, OnO
 ghost use Rattle.esx_text.specs.Writing.{Writes, Puts, sink_faults};
 ghost use Rattle.esx_text.specs.Replies.{level_text, running_text, refusal_name, answer_text, sum_text, page_text, refusal_text, stand_text, said_text, reply_text};
 
-use crate::writing::{AnswerBuffer, Piece, flush, put_pieces};
+use crate::writing::{AnswerBuffer, Piece, put_pieces, write_held};
 use esx_types::{
     Answer, Level, MemorySink, PageState, Refusal, Reply, Said, Sink, SinkFailed, Stand, Sum,
 };
@@ -59,6 +59,7 @@ fn put_answer<W: Sink>(
     ensures bytes { Puts (W.contents sink.old) held.old (W.contents sink.new) held.new (answer_text answer.now) result }
     ensures utf8 { OnOk result (IsUtf8 (answer_text answer.now)) }
     ensures failures { W.failures sink.new ≡ W.failures sink.old + sink_faults result }
+    ensures flushes { W.flushes sink.new ≡ W.flushes sink.old }
 {
     match answer {
         Answer::Admitted {
@@ -118,6 +119,7 @@ fn put_sum<W: Sink>(sink: &mut W, held: &mut AnswerBuffer, sum: &Sum) -> Result<
     ensures bytes { Puts (W.contents sink.old) held.old (W.contents sink.new) held.new (sum_text sum.now) result }
     ensures utf8 { OnOk result (IsUtf8 (sum_text sum.now)) }
     ensures failures { W.failures sink.new ≡ W.failures sink.old + sink_faults result }
+    ensures flushes { W.flushes sink.new ≡ W.flushes sink.old }
 {
     put_pieces(
         sink,
@@ -146,6 +148,7 @@ fn put_page<W: Sink>(
     ensures bytes { Puts (W.contents sink.old) held.old (W.contents sink.new) held.new (page_text state.now) result }
     ensures utf8 { OnOk result (IsUtf8 (page_text state.now)) }
     ensures failures { W.failures sink.new ≡ W.failures sink.old + sink_faults result }
+    ensures flushes { W.flushes sink.new ≡ W.flushes sink.old }
 {
     match state {
         PageState::Untouched => put_pieces(sink, held, &[Piece::Text("untouched\n")]),
@@ -200,6 +203,7 @@ fn put_stand<W: Sink>(
     ensures bytes { Puts (W.contents sink.old) held.old (W.contents sink.new) held.new (stand_text stand.now jumps) result }
     ensures utf8 { OnOk result (IsUtf8 (stand_text stand.now jumps)) }
     ensures failures { W.failures sink.new ≡ W.failures sink.old + sink_faults result }
+    ensures flushes { W.flushes sink.new ≡ W.flushes sink.old }
 {
     put_pieces(
         sink,
@@ -224,6 +228,7 @@ fn put_refusal<W: Sink>(
     ensures bytes { Puts (W.contents sink.old) held.old (W.contents sink.new) held.new (refusal_text refusal) result }
     ensures utf8 { OnOk result (IsUtf8 (refusal_text refusal)) }
     ensures failures { W.failures sink.new ≡ W.failures sink.old + sink_faults result }
+    ensures flushes { W.flushes sink.new ≡ W.flushes sink.old }
 {
     put_pieces(
         sink,
@@ -246,6 +251,7 @@ fn put_reply<W: Sink>(
     ensures bytes { Puts (W.contents sink.old) held.old (W.contents sink.new) held.new (reply_text reply.now) result }
     ensures utf8 { OnOk result (IsUtf8 (reply_text reply.now)) }
     ensures failures { W.failures sink.new ≡ W.failures sink.old + sink_faults result }
+    ensures flushes { W.flushes sink.new ≡ W.flushes sink.old }
 {
     match &reply.said {
         Said::Done { answer } => put_answer(sink, held, answer),
@@ -267,16 +273,17 @@ pub fn write_reply<W: Sink>(
     ensures utf8 { OnOk result (IsUtf8 (reply_text reply.now)) }
     ensures empty { OnOk result (held.new ≡ []) }
     ensures failures { W.failures sink.new ≡ W.failures sink.old + sink_faults result }
+    ensures flushes { W.flushes sink.new ≡ W.flushes sink.old }
 {
     put_reply(sink, held, reply)?;
-    flush(sink, held)
+    write_held(sink, held)
 }
 
 /// The line of a reply, by a count of the writes.
 fn reply_bytes<L: Ledger>(alloc: Global, reply: &Reply, blank: Blank) -> Result<Vec<u8>, AllocError>
     requires name { blank.name ≡ L.name }
     requires parts { blank.parts ≡ L.parts }
-    requires two { 2 ≤ blank.parts }
+    requires three { 3 ≤ blank.parts }
     ensures bytes { IfOk result (λ bytes. bytes.items ≡ reply_text reply.now) }
     ensures utf8 { IfOk result (λ bytes. IsUtf8 bytes.items) }
 {
@@ -292,7 +299,7 @@ fn reply_bytes<L: Ledger>(alloc: Global, reply: &Reply, blank: Blank) -> Result<
 pub fn print_reply(alloc: Global, reply: &Reply) -> Result<String, AllocError>
     ensures { IfOk result (λ text. string_bytes text ≡ reply_text reply.now) }
 {
-    let bytes = reply_bytes::<Brand>(alloc, reply, Blank::new(2))?;
+    let bytes = reply_bytes::<Brand>(alloc, reply, Blank::new(3))?;
     match String::from_utf8(bytes) {
         Ok(text) => Ok(text),
         Err(_) => unreachable!(),

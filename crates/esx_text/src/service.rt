@@ -1,18 +1,19 @@
 //! The loop that serves a console line by line.
 
-ghost use Rattle.std.specs.Prelude.{◌≡◌, ◌+◌, ◌*◌, ◌<◌, ◌≤◌, ◌^◌, ◌++◌, ◌∷◌, [], ℕ, List, Option, IfOk, IfErr, OnOk, IsErrOf, ◌⊎◌, length};
-ghost use Rattle.std.specs.Io.KnownBytes.{Consumes, IsAtEnd};
+ghost use Rattle.std.specs.Prelude.{◌≡◌, ◌+◌, ◌-◌, ◌<◌, ◌≤◌, ◌^◌, ◌++◌, ◌∷◌, [], ℕ, List, Option, Ok, None, IfOk, IfErr, OnOk, IsErrOf, ◌⊎◌, length};
+ghost use Rattle.std.specs.Io.KnownBytes.{Keeps, Consumes, IsAtEnd};
+ghost use Rattle.esx_types.specs.Ends.{call_successes};
 ghost use Rattle.esx_plain.specs.Console.{Session};
 ghost use Rattle.esx_text.specs.Lines.{Holds, HasNoFeed};
-ghost use Rattle.esx_text.specs.Answers.{Progress, Answers, Stops, Faults, write_faults};
+ghost use Rattle.esx_text.specs.Answers.{Progress, Answers, Stops, Faults, Reaches, Ends, fault_writes, read_faults, write_faults};
 
 use crate::answer::{Asked, answer_line};
 use crate::fault::ServeFault;
 use crate::line::{LineBuffer, split_line, without_return};
 use crate::writing::AnswerBuffer;
 use esx_console::Console;
-use esx_types::{Sink, Source};
-use std::alloc::Global;
+use esx_types::{Sink, SinkFailed, Source};
+use std::alloc::{AllocError, Global};
 
 /// How many bytes are read at once.
 const CHUNK: usize = 65536;
@@ -27,6 +28,20 @@ struct Work {
     line: LineBuffer,
     answer: AnswerBuffer,
     count: u64,
+}
+
+impl Work {
+    fn new(alloc: Global) -> Result<Work, AllocError>
+        ensures empty { IfOk result (λ work. work.answer ≡ []) }
+        ensures none { IfOk result (λ work. work.count ≡ 0) }
+        ensures start { IfOk result (λ work. Holds work.line []) }
+    {
+        Ok(Work {
+            line: LineBuffer::new(alloc)?,
+            answer: AnswerBuffer::new(alloc)?,
+            count: 0,
+        })
+    }
 }
 
 /// Takes the bytes up to a line feed, and answers the line that they end.
@@ -50,6 +65,7 @@ fn serve_line<W: Sink>(
     ensures empty { OnOk result (work.new.answer ≡ []) }
     ensures count { work.new.count ≡ work.old.count + 1 }
     ensures failures { W.failures writer.new ≡ W.failures writer.old + write_faults result }
+    ensures flushes { W.flushes writer.new ≡ W.flushes writer.old }
     ensures reads { IsErrOf result ServeFault.Read → ⊥ }
 {
     work.line.extend(piece);
@@ -90,6 +106,7 @@ fn serve_bytes<W: Sink>(
     ensures empty { OnOk result (work.new.answer ≡ []) }
     ensures count { work.new.count ≤ work.old.count + length bytes.now }
     ensures failures { W.failures writer.new ≡ W.failures writer.old + write_faults result }
+    ensures flushes { W.flushes writer.new ≡ W.flushes writer.old }
     ensures reads { IsErrOf result ServeFault.Read → ⊥ }
 {
     let mut rest = bytes;
@@ -119,6 +136,7 @@ fn serve_end<W: Sink>(
         → Progress caller before known input work.old.count work.old.line console.old (W.contents writer.old)
         → Stops e caller before console.new input known (W.contents writer.new)) }
     ensures failures { W.failures writer.new ≡ W.failures writer.old + write_faults result }
+    ensures flushes { W.flushes writer.new ≡ W.flushes writer.old }
     ensures reads { IsErrOf result ServeFault.Read → ⊥ }
 {
     if work.line.bytes().is_empty() {
@@ -140,7 +158,41 @@ fn serve_end<W: Sink>(
     Ok(work.count)
 }
 
-/// Reads lines to the end of the input, over an empty line and a room for what is read.
+/// Hands on the answers that wait.
+fn send<W: Sink>(writer: &mut W) -> Result<(), ServeFault>
+    ensures bytes { Keeps (W.contents writer.old) (W.contents writer.new) }
+    ensures sent { OnOk result (W.waiting writer.new ≡ []) }
+    ensures fault { IfErr result (λ e. e ≡ ServeFault.Write) }
+    ensures failures { W.failures writer.new ≡ W.failures writer.old + write_faults result }
+    ensures flushes { W.flushes writer.new ≡ W.flushes writer.old + call_successes result }
+{
+    match writer.flush() {
+        Ok(()) => Ok(()),
+        Err(SinkFailed) => Err(ServeFault::Write),
+    }
+}
+
+/// Hands on the answers that wait, where memory ran out. This is also what serving comes to where it ran
+/// out before the first line.
+pub fn give_up<W: Sink>(writer: &mut W) -> ServeFault
+    ensures fault { (caller : ℕ) (before after : Session) (unread left old : Option (List ℕ))
+        → Faults ServeFault.OutOfMemory caller before after unread left old (W.contents writer.old)
+        → Faults result caller before after unread left old (W.contents writer.new) }
+    ensures at_once { (caller : ℕ) (session : Session) (unread : Option (List ℕ))
+        → Faults result caller session session unread unread (W.contents writer.old) (W.contents writer.new) }
+    ensures read { result ≡ ServeFault.Read → ⊥ }
+    ensures write { W.failures writer.new ≡ W.failures writer.old + fault_writes result }
+    ensures flushes { W.flushes writer.new + fault_writes result ≡ W.flushes writer.old + 1 }
+    ensures sent { (result ≡ ServeFault.Write → ⊥) → W.waiting writer.new ≡ [] }
+{
+    match send(writer) {
+        Ok(()) => ServeFault::OutOfMemory,
+        Err(fault) => fault,
+    }
+}
+
+/// Reads lines to the end of the input, over an empty line and a room for what is read, and hands on
+/// the answers before each read. It gives the number of lines, or none where the input had no end.
 fn serve_reads<R: Source, W: Sink>(
     alloc: Global,
     console: &mut Console,
@@ -149,34 +201,65 @@ fn serve_reads<R: Source, W: Sink>(
     writer: &mut W,
     work: &mut Work,
     chunk: &mut [u8],
-) -> Result<u64, ServeFault>
+) -> Result<Option<u64>, ServeFault>
     requires empty { work.old.answer ≡ [] }
     requires none { work.old.count ≡ 0 }
     requires start { Holds work.old.line [] }
     requires room { length chunk.old ≡ 65536 }
-    ensures ok { IfOk result (λ n. Answers caller n console.old console.new
-        (R.remaining reader.old) (R.remaining reader.new) (W.contents writer.old) (W.contents writer.new)) }
-    ensures fault { IfErr result (λ e. Faults e caller console.old console.new
-        (R.remaining reader.old) (R.remaining reader.new) (W.contents writer.old) (W.contents writer.new)) }
-    ensures read { IsErrOf result ServeFault.Read
-        → (R.failures reader.old < R.failures reader.new) ⊎ (R.calls reader.new ≡ R.calls reader.old + 2 ^ 26) }
+    ensures served { Reaches result caller console.old console.new
+        (R.remaining reader.old) (R.remaining reader.new) (W.contents writer.old) (W.contents writer.new) }
+    ensures reads { R.calls reader.new ≤ R.calls reader.old + 2 ^ 26 }
+    ensures endless { result ≡ Ok None → R.calls reader.new ≡ R.calls reader.old + 2 ^ 26 }
+    ensures read { R.failures reader.new ≡ R.failures reader.old + read_faults result }
     ensures write { W.failures writer.new ≡ W.failures writer.old + write_faults result }
+    ensures flushes { W.flushes writer.new + R.calls reader.old ≡ W.flushes writer.old + R.calls reader.new }
+    ensures sent { IsErrOf result ServeFault.Read → W.waiting writer.new ≡ [] }
 {
     for _ in 0..READS {
+        send(writer)?;
         let Ok(given) = reader.read(chunk) else {
             return Err(ServeFault::Read);
         };
         if given == 0 {
-            return serve_end(alloc, console, caller, writer, work);
+            let count = serve_end(alloc, console, caller, writer, work)?;
+            return Ok(Some(count));
         }
         let (bytes, _) = chunk.split_at(given);
         serve_bytes(alloc, console, caller, writer, work, bytes)?;
     }
-    Err(ServeFault::Read)
+    Ok(None)
+}
+
+/// Hands on the last answers, where no end has failed.
+fn finish<W: Sink>(
+    writer: &mut W,
+    served: Result<Option<u64>, ServeFault>,
+) -> Result<u64, ServeFault>
+    ensures served { (caller : ℕ) (before after : Session) (unread left old : Option (List ℕ))
+        → Reaches served caller before after unread left old (W.contents writer.old)
+        → Ends result caller before after unread left old (W.contents writer.new) }
+    ensures read { IsErrOf result ServeFault.Read → IsErrOf served ServeFault.Read ⊎ (served ≡ Ok None) }
+    ensures no_read_fault { (IsErrOf result ServeFault.Read → ⊥) → read_faults served ≡ 0 }
+    ensures write { W.failures writer.new + write_faults served ≡ W.failures writer.old + write_faults result }
+    ensures flushes { W.flushes writer.new + read_faults served + write_faults result ≡ W.flushes writer.old + 1 }
+    ensures sent { (IsErrOf served ServeFault.Read → W.waiting writer.old ≡ [])
+        → (IsErrOf result ServeFault.Write → ⊥) → W.waiting writer.new ≡ [] }
+{
+    match served {
+        Ok(found) => {
+            send(writer)?;
+            found.ok_or(ServeFault::Read)
+        }
+        Err(fault) => match fault {
+            ServeFault::OutOfMemory => Err(give_up(writer)),
+            ServeFault::Read | ServeFault::Write => Err(fault),
+        },
+    }
 }
 
 /// Reads lines to the end of the input, and writes each answer whole before it makes the next line's
-/// call. It answers the number of lines.
+/// call. Before it asks for more input, and at its end, it hands on what it has written. It answers
+/// the number of lines.
 ///
 /// A carriage return directly before a line feed is no part of the line. An empty line, and one that
 /// begins with `#`, is answered by nothing; any other that is no command, or has more than 16,384
@@ -193,26 +276,30 @@ pub fn serve<R: Source, W: Sink>(
     ensures fault { IfErr result (λ e. Faults e caller console.old console.new
         (R.remaining reader.old) (R.remaining reader.new) (W.contents writer.old) (W.contents writer.new)) }
 
-    // Each fault only where its end failed. A source also fails by going on for too long.
+    // The source fails once where reading is at fault, or gives no end, and never elsewhere.
+    ensures reads { R.calls reader.new ≤ R.calls reader.old + 2 ^ 26 }
     ensures read { IsErrOf result ServeFault.Read
-        → (R.failures reader.old < R.failures reader.new) ⊎ (R.calls reader.new ≡ R.calls reader.old + 2 ^ 26) }
+        → (R.failures reader.new ≡ R.failures reader.old + 1)
+        ⊎ ((R.failures reader.new ≡ R.failures reader.old) × (R.calls reader.new ≡ R.calls reader.old + 2 ^ 26)) }
+    ensures no_read_fault { (IsErrOf result ServeFault.Read → ⊥) → R.failures reader.new ≡ R.failures reader.old }
+
+    // The sink fails once where writing is at fault, and never elsewhere.
     ensures write { W.failures writer.new ≡ W.failures writer.old + write_faults result }
+
+    // A flush goes before each read, and one more at the end where neither end failed. Since any call may
+    // fail, the counts also tell the order: nothing is written between a flush and the read behind it.
+    ensures flushes { let failed = R.failures reader.new - R.failures reader.old + write_faults result in
+        W.flushes writer.new + R.calls reader.old + failed ≡ W.flushes writer.old + R.calls reader.new + 1 }
+    ensures sent { (IsErrOf result ServeFault.Write → ⊥) → W.waiting writer.new ≡ [] }
 {
-    let Ok(line) = LineBuffer::new(alloc) else {
-        return Err(ServeFault::OutOfMemory);
-    };
-    let Ok(answer) = AnswerBuffer::new(alloc) else {
-        return Err(ServeFault::OutOfMemory);
+    let Ok(mut work) = Work::new(alloc) else {
+        return Err(give_up(writer));
     };
     let Ok(mut chunk) = vec![in alloc; 0u8; CHUNK] else {
-        return Err(ServeFault::OutOfMemory);
+        return Err(give_up(writer));
     };
-    let mut work = Work {
-        line,
-        answer,
-        count: 0,
-    };
-    serve_reads(
+    let served = serve_reads(
         alloc, console, caller, reader, writer, &mut work, &mut chunk,
-    )
+    );
+    finish(writer, served)
 }

@@ -79,6 +79,7 @@ impl AnswerBuffer {
 fn put_all<W: Sink>(sink: &mut W, bytes: &[u8]) -> Result<(), SinkFailed>
     ensures bytes { Writes (W.contents sink.old) (W.contents sink.new) bytes.now result }
     ensures failures { W.failures sink.new ≡ W.failures sink.old + sink_faults result }
+    ensures flushes { W.flushes sink.new ≡ W.flushes sink.old }
 {
     let mut rest = bytes;
     while !rest.is_empty() {
@@ -93,10 +94,11 @@ fn put_all<W: Sink>(sink: &mut W, bytes: &[u8]) -> Result<(), SinkFailed>
 }
 
 /// Writes what is held.
-pub fn flush<W: Sink>(sink: &mut W, held: &mut AnswerBuffer) -> Result<(), SinkFailed>
+pub fn write_held<W: Sink>(sink: &mut W, held: &mut AnswerBuffer) -> Result<(), SinkFailed>
     ensures bytes { Writes (W.contents sink.old) (W.contents sink.new) held.old result }
     ensures empty { OnOk result (held.new ≡ []) }
     ensures failures { W.failures sink.new ≡ W.failures sink.old + sink_faults result }
+    ensures flushes { W.flushes sink.new ≡ W.flushes sink.old }
 {
     put_all(sink, held.as_slice())?;
     held.clear();
@@ -107,12 +109,13 @@ pub fn flush<W: Sink>(sink: &mut W, held: &mut AnswerBuffer) -> Result<(), SinkF
 fn put<W: Sink>(sink: &mut W, held: &mut AnswerBuffer, bytes: &[u8]) -> Result<(), SinkFailed>
     ensures bytes { Puts (W.contents sink.old) held.old (W.contents sink.new) held.new bytes.now result }
     ensures failures { W.failures sink.new ≡ W.failures sink.old + sink_faults result }
+    ensures flushes { W.flushes sink.new ≡ W.flushes sink.old }
 {
     if bytes.len() <= held.room() {
         held.push(bytes);
         return Ok(());
     }
-    flush(sink, held)?;
+    write_held(sink, held)?;
     if bytes.len() <= held.room() {
         held.push(bytes);
         return Ok(());
@@ -134,6 +137,7 @@ fn hex_digits<'a>(bytes: &[u8], room: &'a mut [u8; 128]) -> &'a [u8]
 fn put_hex<W: Sink>(sink: &mut W, held: &mut AnswerBuffer, bytes: &[u8]) -> Result<(), SinkFailed>
     ensures bytes { Puts (W.contents sink.old) held.old (W.contents sink.new) held.new (encode_lower bytes.now) result }
     ensures failures { W.failures sink.new ≡ W.failures sink.old + sink_faults result }
+    ensures flushes { W.flushes sink.new ≡ W.flushes sink.old }
 {
     let mut room = [0u8; 2 * HEX_AT_ONCE];
     let mut rest = bytes;
@@ -150,6 +154,7 @@ fn put_piece<W: Sink>(sink: &mut W, held: &mut AnswerBuffer, piece: Piece) -> Re
     ensures bytes { Puts (W.contents sink.old) held.old (W.contents sink.new) held.new (piece_text piece.entry) result }
     ensures utf8 { IsUtf8 (piece_text piece.entry) }
     ensures failures { W.failures sink.new ≡ W.failures sink.old + sink_faults result }
+    ensures flushes { W.flushes sink.new ≡ W.flushes sink.old }
 {
     match piece {
         Piece::Text(text) => put(sink, held, text.as_bytes()),
@@ -167,6 +172,7 @@ pub fn put_pieces<W: Sink>(
     ensures bytes { Puts (W.contents sink.old) held.old (W.contents sink.new) held.new (flat_map piece_text pieces.now) result }
     ensures utf8 { OnOk result (IsUtf8 (flat_map piece_text pieces.now)) }
     ensures failures { W.failures sink.new ≡ W.failures sink.old + sink_faults result }
+    ensures flushes { W.flushes sink.new ≡ W.flushes sink.old }
 {
     for piece in pieces {
         put_piece(sink, held, *piece)?;
@@ -184,7 +190,8 @@ pub fn write_pieces<W: Sink>(
     ensures bytes { Writes (W.contents sink.old) (W.contents sink.new) (flat_map piece_text pieces.now) result }
     ensures empty { OnOk result (held.new ≡ []) }
     ensures failures { W.failures sink.new ≡ W.failures sink.old + sink_faults result }
+    ensures flushes { W.flushes sink.new ≡ W.flushes sink.old }
 {
     put_pieces(sink, held, pieces)?;
-    flush(sink, held)
+    write_held(sink, held)
 }

@@ -1,11 +1,15 @@
-use Rattle.esx_text.proofs.FaultLemmas.{stops_at_once}
+use Rattle.esx_text.proofs.SendingLemmas.{ends_ok, ends_fault, unread_once}
 use Rattle.esx_text.proofs.service.serve.Goals as goal
 
-pub returns-in_default-clause-fault : goal.returns-in_default-clause-fault
-returns-in_default-clause-fault g c = stops_at_once c.args.caller _ _ _
+pub returns-clause-ok : goal.returns-clause-ok
+returns-clause-ok g c = ends_ok c.finish.result _ _ _ _ _ _ _ (c.finish.ensures.served _ _ _ _ _ _ c.serve_reads-served.ensures.served)
 
-pub returns-in_default-new-clause-fault : goal.returns-in_default-new-clause-fault
-returns-in_default-new-clause-fault g c = stops_at_once c.args.caller _ _ _
+pub returns-clause-fault : goal.returns-clause-fault
+returns-clause-fault g c = ends_fault c.finish.result _ _ _ _ _ _ _ (c.finish.ensures.served _ _ _ _ _ _ c.serve_reads-served.ensures.served)
 
-pub returns-in_default-vec-clause-fault : goal.returns-in_default-vec-clause-fault
-returns-in_default-vec-clause-fault g c = stops_at_once c.args.caller _ _ _
+pub returns-clause-read : goal.returns-clause-read
+returns-clause-read g c = λ at_fault.
+    unread_once c.serve_reads-served.result _ _ _ _ (c.finish.ensures.read at_fault) c.serve_reads-served.ensures.read c.serve_reads-served.ensures.endless
+
+pub returns-clause-sent : goal.returns-clause-sent
+returns-clause-sent g c = c.finish.ensures.sent c.serve_reads-served.ensures.sent

@@ -16,6 +16,7 @@ loop-piece-preserved g c =
             (c.in_ok-serve_line.ensures.ok before known (input ++ p.0) (p.2 before known input start)),
       );
       failures = omega (arith, c.loop-piece.invariant.failures, c.in_ok-serve_line.ensures.failures);
+      flushes = c.serve_line.ensures.flushes ∙ c.loop-piece.invariant.flushes;
       empty = c.in_ok-serve_line.ensures.empty;
       count = omega (arith, c.loop-piece.invariant.count, c.in_ok-serve_line.ensures.count, length_behind c.loop-piece.rest.now c.in-Some.piece.now c.in-Some.later.now is);
     }

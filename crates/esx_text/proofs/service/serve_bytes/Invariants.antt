@@ -9,6 +9,7 @@ invariant-loop-piece g l = record {
       → Progress l.caller before known input l.initial.work.count l.initial.work.line l.initial.console (g.W.Sink.contents l.initial.writer)
       → Progress l.caller before known (input ++ front) l.work.count l.work.line l.console (g.W.Sink.contents l.writer));
   failures : g.W.Sink.failures l.writer ≡ g.W.Sink.failures l.initial.writer;
+  flushes : g.W.Sink.flushes l.writer ≡ g.W.Sink.flushes l.initial.writer;
   empty : l.work.answer ≡ [];
   count : l.work.count + length l.rest ≤ l.initial.work.count + length l.bytes;
 }

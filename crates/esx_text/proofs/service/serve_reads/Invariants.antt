@@ -11,5 +11,6 @@ invariant-loop g l = record {
   reads : g.R.Source.failures l.reader ≡ g.R.Source.failures l.initial.reader;
   empty : l.work.answer ≡ [];
   count : l.work.count ≤ 65536 * l.counter;
+  flushes : g.W.Sink.flushes l.writer ≡ g.W.Sink.flushes l.initial.writer + l.counter;
   calls : g.R.Source.calls l.reader ≡ g.R.Source.calls l.initial.reader + l.counter;
 }

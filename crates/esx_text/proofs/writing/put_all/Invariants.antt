@@ -6,6 +6,7 @@ abbrev pub invariant-loop-rest : goal.invariant-loop-rest
 invariant-loop-rest g l = record {
   written : (front : List ℕ) × (l.bytes ≡ front ++ l.rest) × Appends (g.W.Sink.contents l.initial.sink) (g.W.Sink.contents l.sink) front;
   failures : g.W.Sink.failures l.sink ≡ g.W.Sink.failures l.initial.sink;
+  flushes : g.W.Sink.flushes l.sink ≡ g.W.Sink.flushes l.initial.sink;
 }
 
 abbrev pub decreases-loop-rest : goal.decreases-loop-rest

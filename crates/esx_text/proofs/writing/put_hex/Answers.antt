@@ -5,7 +5,7 @@ use Rattle.esx_text.proofs.WritingLemmas.{passes_nothing, passes_more, passes_st
 use Rattle.esx_text.proofs.writing.put_hex.Goals as goal
 
 pub loop-rest-init : goal.loop-rest-init
-loop-rest-init g c = record { passed = ([], refl, rw hex_of_nothing (passes_nothing _ c.args.held.now)); failures = refl }
+loop-rest-init g c = record { passed = ([], refl, rw hex_of_nothing (passes_nothing _ c.args.held.now)); failures = refl; flushes = refl }
 
 pub loop-rest-preserved : goal.loop-rest-preserved
 loop-rest-preserved g c =
@@ -20,6 +20,7 @@ loop-rest-preserved g c =
             (passes_more _ _ _ _ c.loop-rest.held _ _ (encode_lower c.split_at.result.0.now) p.2 (rw c.hex_digits.ensures at c.in_ok-put.ensures.bytes)),
       );
       failures = omega (arith, c.in_ok-put.ensures.failures, c.loop-rest.invariant.failures);
+      flushes = c.put.ensures.flushes ∙ c.loop-rest.invariant.flushes;
     }
 
 pub returns-in_err-put-clause-bytes : goal.returns-in_err-put-clause-bytes

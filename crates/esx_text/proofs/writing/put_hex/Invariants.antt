@@ -7,6 +7,7 @@ abbrev pub invariant-loop-rest : goal.invariant-loop-rest
 invariant-loop-rest g l = record {
   passed : (front : List ℕ) × (l.bytes ≡ front ++ l.rest) × Passes (g.W.Sink.contents l.initial.sink) l.initial.held (g.W.Sink.contents l.sink) l.held (encode_lower front);
   failures : g.W.Sink.failures l.sink ≡ g.W.Sink.failures l.initial.sink;
+  flushes : g.W.Sink.flushes l.sink ≡ g.W.Sink.flushes l.initial.sink;
 }
 
 abbrev pub decreases-loop-rest : goal.decreases-loop-rest

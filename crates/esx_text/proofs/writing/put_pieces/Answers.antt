@@ -1,4 +1,4 @@
-use Rattle.std.proofs.Common.{flat_map, arith}
+use Rattle.std.proofs.Common.{flat_map, arith, ◌∙◌}
 use Rattle.esx_text.specs.Writing.{piece_text}
 use Rattle.esx_text.proofs.WritingLemmas.{passes_more, passes_same, passes_stop, puts_error, flat_parts_at, flat_parts_more, utf8_more}
 use Rattle.esx_text.proofs.writing.put_pieces.Goals as goal
@@ -17,4 +17,5 @@ loop-piece-preserved g c = record {
       (passes_more _ _ _ c.args.held.now c.loop-piece.held _ _ _ c.loop-piece.invariant.passed c.in_ok-put_piece.ensures.bytes);
   utf8 = utf8_more _ _ _ (flat_parts_more piece_text c.args.pieces.now c.loop-piece.piece-index _ c.loop-piece-test.true) c.loop-piece.invariant.utf8 c.in_ok-put_piece.ensures.utf8;
   failures = omega (arith, c.in_ok-put_piece.ensures.failures, c.loop-piece.invariant.failures);
+  flushes = c.put_piece.ensures.flushes ∙ c.loop-piece.invariant.flushes;
 }

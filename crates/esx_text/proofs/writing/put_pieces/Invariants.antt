@@ -8,4 +8,5 @@ invariant-loop-piece g l = record {
   passed : Passes (g.W.Sink.contents l.initial.sink) l.initial.held (g.W.Sink.contents l.sink) l.held (flat_map piece_text (take l.piece-index l.pieces));
   utf8 : IsUtf8 (flat_map piece_text (take l.piece-index l.pieces));
   failures : g.W.Sink.failures l.sink ≡ g.W.Sink.failures l.initial.sink;
+  flushes : g.W.Sink.flushes l.sink ≡ g.W.Sink.flushes l.initial.sink;
 }

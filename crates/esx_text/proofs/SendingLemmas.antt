@@ -1,0 +1,213 @@
+-- What stands after the answers that wait were handed on, and after that failed.
+use Rattle.std.proofs.Common.{◌≡◌, ℕ, List, [], ◌++◌, ◌+◌, ◌⊎◌, inl, inr, refl, arith, sym, ◌∙◌, append-nil, Option, None, Some, Result, Ok, Err, map}
+use Rattle.std.specs.Io.KnownBytes.{Keeps, Appends, Consumes}
+use Rattle.std.specs.Result.{IfOk, IfErr, IsErrAnd, IsErrOf}
+use Rattle.std.proofs.lemmas.List.Elements.{All-nil}
+use Rattle.esx_plain.specs.Console.{Session}
+use Rattle.esx_text.specs.declared.fault.ServeFault.{ServeFault}
+use Rattle.esx_text.specs.declared.fault.ServeFault.TheVariants.{Read, Write, OutOfMemory}
+use Rattle.esx_text.specs.Lines.{HasNoFeed, line_of, last_line, lines, Held}
+use Rattle.esx_text.specs.Answers.{Progress, Answers, First, Stops, Faults, Ends, Reaches, read_faults}
+use Rattle.esx_text.proofs.WritingLemmas.{appends_nothing}
+use Rattle.esx_text.proofs.ProgressLemmas.{consumes_nothing}
+
+pub appends_kept : (a b c : Option (List ℕ)) (x : List ℕ) → Appends a b x → Keeps b c → Appends a c x
+appends_kept None b c x p k = tt
+appends_kept (Some xs) None c x p k = absurd p
+appends_kept (Some xs) (Some ys) None x p k = absurd k
+appends_kept (Some xs) (Some ys) (Some zs) x p k = k ∙ p
+
+pub progress_kept : (caller : ℕ) (before : Session) (known : Option (List ℕ)) (input : List ℕ) (count : ℕ) (line : Held) (now : Session) (new new' : Option (List ℕ))
+    → Keeps new new' → Progress caller before known input count line now new → Progress caller before known input count line now new'
+progress_kept caller before known input count line now new new' k p = record {
+  ended = p.ended;
+  rest = p.rest;
+  text = p.text;
+  split = p.split;
+  holds = p.holds;
+  count_is = p.count_is;
+  answered = p.answered;
+  written = appends_kept known new new' p.text p.written k;
+}
+
+pub answers_kept : (caller count : ℕ) (before after : Session) (unread left old new new' : Option (List ℕ))
+    → Keeps new new' → Answers caller count before after unread left old new → Answers caller count before after unread left old new'
+answers_kept caller count before after unread left old new new' k a = record {
+  input = a.input;
+  text = a.text;
+  read = a.read;
+  end = a.end;
+  serves = a.serves;
+  written = appends_kept old new new' a.text a.written k;
+}
+
+first_kept : (caller : ℕ) (before after : Session) (all : List (List ℕ)) (old new new' : Option (List ℕ))
+    → Keeps new new' → First caller before after all old new → First caller before after all old new'
+first_kept caller before after all old new new' k f = record {
+  done = f.done;
+  others = f.others;
+  text = f.text;
+  lines_are = f.lines_are;
+  answered = f.answered;
+  written = appends_kept old new new' f.text f.written k;
+}
+
+pub read_kept : (caller : ℕ) (before after : Session) (unread left old new new' : Option (List ℕ))
+    → Keeps new new' → Faults Read caller before after unread left old new → Faults Read caller before after unread left old new'
+read_kept caller before after unread left old new new' k f =
+    let s = f.stops in
+    record {
+      input = f.input;
+      read = f.read;
+      stops = record { ended = s.ended; rest = s.rest; split = s.split; stop = (s.stop.0, s.stop.1, appends_kept old new new' s.stop.0 s.stop.2 k) };
+    }
+
+pub memory_kept : (caller : ℕ) (before after : Session) (unread left old new new' : Option (List ℕ))
+    → Keeps new new' → Faults OutOfMemory caller before after unread left old new → Faults OutOfMemory caller before after unread left old new'
+memory_kept caller before after unread left old new new' k f =
+    let s = f.stops in
+    record {
+      input = f.input;
+      read = f.read;
+      stops = record { ended = s.ended; rest = s.rest; split = s.split; stop = first_kept caller before after (lines s.ended s.rest) old new new' k s.stop };
+    }
+
+pub consumes_kept : (a b c : Option (List ℕ)) (x : List ℕ) → Consumes a b x → Keeps b c → Consumes a c x
+consumes_kept None b c x p k = tt
+consumes_kept (Some xs) None c x p k = absurd p
+consumes_kept (Some xs) (Some ys) None x p k = absurd k
+consumes_kept (Some xs) (Some ys) (Some zs) x p k = rw k p
+
+-- reading is at fault, and all that ended before was answered
+pub progress_unread : (caller : ℕ) (before : Session) (known : Option (List ℕ)) (input : List ℕ) (count : ℕ) (line : Held) (now : Session) (new : Option (List ℕ))
+    → Progress caller before known input count line now new → Stops Read caller before now input known new
+progress_unread caller before known input count line now new p = record {
+  ended = p.ended;
+  rest = p.rest;
+  split = p.split;
+  stop = (p.text, p.answered, p.written);
+}
+
+-- the answers so far were not all handed on
+pub progress_unsent : (caller : ℕ) (before : Session) (known : Option (List ℕ)) (input : List ℕ) (count : ℕ) (line : Held) (now : Session) (new new' : Option (List ℕ))
+    → Keeps new new' → Progress caller before known input count line now new → Stops Write caller before now input known new'
+progress_unsent caller before known input count line now new new' k p = record {
+  ended = p.ended;
+  rest = p.rest;
+  split = p.split;
+  stop = inr (record {
+    done = map line_of p.ended;
+    others = last_line p.rest;
+    text = p.text;
+    lines_are = refl;
+    answered = p.answered;
+    written = appends_kept known new new' p.text p.written k;
+  });
+}
+
+pub answers_unsent : (caller count : ℕ) (before after : Session) (unread left old new new' : Option (List ℕ))
+    → Keeps new new' → Answers caller count before after unread left old new → Faults Write caller before after unread left old new'
+answers_unsent caller count before after unread left old new new' k a =
+    let s = a.serves in
+    record {
+      input = a.input;
+      read = a.read;
+      stops = record {
+        ended = s.ended;
+        rest = s.rest;
+        split = s.split;
+        stop = inr (record {
+          done = lines s.ended s.rest;
+          others = [];
+          text = a.text;
+          lines_are = sym (append-nil (lines s.ended s.rest));
+          answered = s.answered;
+          written = appends_kept old new new' a.text a.written k;
+        });
+      };
+    }
+
+pub read_unsent : (caller : ℕ) (before after : Session) (unread left old new new' : Option (List ℕ))
+    → Keeps new new' → Faults Read caller before after unread left old new → Faults Write caller before after unread left old new'
+read_unsent caller before after unread left old new new' k f =
+    let s = f.stops in
+    record {
+      input = f.input;
+      read = f.read;
+      stops = record {
+        ended = s.ended;
+        rest = s.rest;
+        split = s.split;
+        stop = inr (record {
+          done = map line_of s.ended;
+          others = last_line s.rest;
+          text = s.stop.0;
+          lines_are = refl;
+          answered = s.stop.1;
+          written = appends_kept old new new' s.stop.0 s.stop.2 k;
+        });
+      };
+    }
+
+pub memory_unsent : (caller : ℕ) (before after : Session) (unread left old new new' : Option (List ℕ))
+    → Keeps new new' → Faults OutOfMemory caller before after unread left old new → Faults Write caller before after unread left old new'
+memory_unsent caller before after unread left old new new' k f =
+    let s = f.stops in
+    record {
+      input = f.input;
+      read = f.read;
+      stops = record { ended = s.ended; rest = s.rest; split = s.split; stop = inr (first_kept caller before after (lines s.ended s.rest) old new new' k s.stop) };
+    }
+
+-- no line was served
+pub at_once : (caller : ℕ) (before : Session) (unread known : Option (List ℕ)) → Faults OutOfMemory caller before before unread unread known known
+at_once caller before unread known = record {
+  input = [];
+  read = consumes_nothing unread;
+  stops = record {
+    ended = [];
+    rest = [];
+    split = record { whole = refl; each = All-nil HasNoFeed; last = All-nil (λ b. b ≡ 10 → ⊥) };
+    stop = record { done = []; others = []; text = []; lines_are = refl; answered = (refl, refl); written = appends_nothing known };
+  };
+}
+
+-- the exit of a `?` that hands on the fault as it is
+pub reaches_err : (r : Result (Option ℕ) ServeFault) (e : ServeFault) (caller : ℕ) (before after : Session) (unread left old new : Option (List ℕ))
+    → IsErrAnd r (λ f. f ≡ e) → Faults e caller before after unread left old new → Reaches r caller before after unread left old new
+reaches_err (Ok v) e caller before after unread left old new h f = absurd h
+reaches_err (Err d) e caller before after unread left old new h f = rw h f
+
+pub ends_err : (r : Result ℕ ServeFault) (e : ServeFault) (caller : ℕ) (before after : Session) (unread left old new : Option (List ℕ))
+    → IsErrAnd r (λ f. f ≡ e) → Faults e caller before after unread left old new → Ends r caller before after unread left old new
+ends_err (Ok n) e caller before after unread left old new h f = absurd h
+ends_err (Err d) e caller before after unread left old new h f = rw h f
+
+-- the last answers were not all handed on
+pub reaches_unsent : (served : Result (Option ℕ) ServeFault) (found : Option ℕ) (caller : ℕ) (before after : Session) (unread left old new new' : Option (List ℕ))
+    → served ≡ Ok found → Keeps new new' → Reaches served caller before after unread left old new → Faults Write caller before after unread left old new'
+reaches_unsent served None caller before after unread left old new new' is k r = read_unsent caller before after unread left old new new' k (rw is at r)
+reaches_unsent served (Some n) caller before after unread left old new new' is k r = answers_unsent caller n before after unread left old new new' k (rw is at r)
+
+pub ends_ok : (r : Result ℕ ServeFault) (caller : ℕ) (before after : Session) (unread left old new : Option (List ℕ))
+    → Ends r caller before after unread left old new → IfOk r (λ n. Answers caller n before after unread left old new)
+ends_ok (Ok n) caller before after unread left old new f = f
+ends_ok (Err e) caller before after unread left old new f = tt
+
+pub ends_fault : (r : Result ℕ ServeFault) (caller : ℕ) (before after : Session) (unread left old new : Option (List ℕ))
+    → Ends r caller before after unread left old new → IfErr r (λ e. Faults e caller before after unread left old new)
+ends_fault (Ok n) caller before after unread left old new f = tt
+ends_fault (Err e) caller before after unread left old new f = f
+
+-- reading is at fault once, or the input had no end
+pub unread_once : (r : Result (Option ℕ) ServeFault) (failures failures' calls calls' : ℕ)
+    → IsErrOf r Read ⊎ (r ≡ Ok None) → failures' ≡ failures + read_faults r → (r ≡ Ok None → calls' ≡ calls)
+    → (failures' ≡ failures + 1) ⊎ ((failures' ≡ failures) × (calls' ≡ calls))
+unread_once (Ok None) failures failures' calls calls' why f e = inr (omega (arith, f), e refl)
+unread_once (Ok (Some n)) failures failures' calls calls' (inl why) f e = absurd (cc)
+unread_once (Ok (Some n)) failures failures' calls calls' (inr why) f e = absurd (cc)
+unread_once (Err Read) failures failures' calls calls' why f e = inl f
+unread_once (Err Write) failures failures' calls calls' (inl why) f e = absurd (cc)
+unread_once (Err Write) failures failures' calls calls' (inr why) f e = absurd (cc)
+unread_once (Err OutOfMemory) failures failures' calls calls' (inl why) f e = absurd (cc)
+unread_once (Err OutOfMemory) failures failures' calls calls' (inr why) f e = absurd (cc)
