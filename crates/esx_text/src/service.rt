@@ -33,7 +33,7 @@ struct Work {
 fn serve_line<W: Sink>(
     alloc: Global,
     console: &mut Console,
-    caller: u8,
+    caller: u16,
     writer: &mut W,
     work: &mut Work,
     piece: &[u8],
@@ -74,7 +74,7 @@ fn serve_line<W: Sink>(
 fn serve_bytes<W: Sink>(
     alloc: Global,
     console: &mut Console,
-    caller: u8,
+    caller: u16,
     writer: &mut W,
     work: &mut Work,
     bytes: &[u8],
@@ -105,7 +105,7 @@ fn serve_bytes<W: Sink>(
 fn serve_end<W: Sink>(
     alloc: Global,
     console: &mut Console,
-    caller: u8,
+    caller: u16,
     writer: &mut W,
     work: &mut Work,
 ) -> Result<u64, ServeFault>
@@ -144,7 +144,7 @@ fn serve_end<W: Sink>(
 fn serve_reads<R: Source, W: Sink>(
     alloc: Global,
     console: &mut Console,
-    caller: u8,
+    caller: u16,
     reader: &mut R,
     writer: &mut W,
     work: &mut Work,
@@ -184,7 +184,7 @@ fn serve_reads<R: Source, W: Sink>(
 pub fn serve<R: Source, W: Sink>(
     alloc: Global,
     console: &mut Console,
-    caller: u8,
+    caller: u16,
     reader: &mut R,
     writer: &mut W,
 ) -> Result<u64, ServeFault>
