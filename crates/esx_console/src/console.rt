@@ -54,7 +54,7 @@ impl Console {
     }
 
     /// Makes a call and logs it with its reply. Where memory runs out nothing changes, and there is no line.
-    pub fn call(&mut self, caller: u8, call: Call) -> Result<Reply, AllocError>
+    pub fn call(&mut self, caller: u16, call: Call) -> Result<Reply, AllocError>
         ensures ok { IfOk result (λ reply. (reply ≡ next_reply self.old call) × (self.new ≡ lined self.old caller call)) }
         ensures err { OnErr result (self.new ≡ self.old) }
     {

@@ -1,6 +1,6 @@
 -- Each step keeps the lock's rule.
 use Rattle.std.proofs.Common.{◌≡◌, ◌≢◌, ◌⊎◌, ℕ, zero, suc, ◌+◌, ◌*◌, ◌%◌, ◌^◌, ◌<◌, ◌≤◌, eqb, ltb, cond, Bool, true, false, List, [], ◌∷◌, ◌++◌, length, get_or, set, refl, ap, sym, ◌∙◌, subst, ⊎_elim, arith, append_assoc, append-nil, add-zero, ltb-false, eq-eqb, ne_eqb, Option, Some, None}
-use Rattle.std.proofs.lemmas.List.{set-get_or, append_cancel_left}
+use Rattle.std.proofs.lemmas.List.{set-get_or}
 use Rattle.std.proofs.lemmas.Bool.{false_from_ne_true, cases_Bool, ltb-true}
 use mathlib.Core.List.{IsPrefix}
 use mathlib.Core.Option as optional
@@ -19,31 +19,25 @@ use Rattle.esx_types.proofs.Bits.{no_one}
 use Rattle.esx_lock.specs.declared.view.Hold.{Hold}
 use Rattle.esx_lock.specs.declared.view.Hold.TheVariants.{Free, Moving, Held}
 use Rattle.esx_lock.specs.declared.view.View.{View}
-use Rattle.esx_lock.specs.Logs.{Callers, NoneOf, OnlyOf, Follows, bits}
+use Rattle.esx_lock.specs.Logs.{OnlyOf, Follows}
+use Rattle.esx_lock.specs.Words.{bits}
 use Rattle.esx_lock.specs.Rule.{Where, home, with_seat, no_note, newcomer, spent, held_bit, homes_of, Fits, Roll, Holds, OthersFree, Stands, Kept}
 use Rattle.esx_lock.specs.Plays.{having_seen, having_read, having_failed, moving, holding, released, compared, with_ids, joined, Sees, looked, taken, settled, fetched, gave, recalled}
-use Rattle.esx_lock.proofs.Logs.{callers_append, callers_map, callers_right, prefix_trans, prefix_of, follows_self, follows_more, follows_shorter, follows_either, follows_fewer, callers_never, callers_both}
+use Rattle.esx_lock.proofs.Logs.{callers_append, callers_map, prefix_trans, prefix_of, follows_self, follows_more, follows_shorter, follows_either, follows_fewer, follows_whole}
 use Rattle.atomic_table.proofs.Lists.{at_set, set_else}
 use Rattle.esx_lock.proofs.Seats.{off, set_swap, roll_set, alone, roll_end, free_set, free_end, holds_other, holds_own, holds_end, holder_is}
 
 -- a join, by which log is the longer
 pub joined_cases : (all : Ids) (v u : View) (P : View → Type 0)
-    → (length v.seen < length u.seen → P record { site = v.site; ids = all; seen = u.seen; last = v.last; by_exchange = v.by_exchange; hold = v.hold; note = record { ids = v.ids; seen = v.seen } })
-    → (length u.seen ≤ length v.seen → P record { site = v.site; ids = all; seen = v.seen; last = v.last; by_exchange = v.by_exchange; hold = v.hold; note = record { ids = u.ids; seen = u.seen } })
+    → (length v.seen < length u.seen → P record { site = v.site; callers = v.callers; ids = all; seen = u.seen; last = v.last; by_exchange = v.by_exchange; hold = v.hold; note = record { ids = v.ids; seen = v.seen } })
+    → (length u.seen ≤ length v.seen → P record { site = v.site; callers = v.callers; ids = all; seen = v.seen; last = v.last; by_exchange = v.by_exchange; hold = v.hold; note = record { ids = u.ids; seen = u.seen } })
     → P (joined all v u)
 joined_cases all v u P shorter longer =
-    let a : View = record { site = v.site; ids = all; seen = u.seen; last = v.last; by_exchange = v.by_exchange; hold = v.hold; note = record { ids = v.ids; seen = v.seen } } in
-    let b : View = record { site = v.site; ids = all; seen = v.seen; last = v.last; by_exchange = v.by_exchange; hold = v.hold; note = record { ids = u.ids; seen = u.seen } } in ⊎_elim
+    let a : View = record { site = v.site; callers = v.callers; ids = all; seen = u.seen; last = v.last; by_exchange = v.by_exchange; hold = v.hold; note = record { ids = v.ids; seen = v.seen } } in
+    let b : View = record { site = v.site; callers = v.callers; ids = all; seen = v.seen; last = v.last; by_exchange = v.by_exchange; hold = v.hold; note = record { ids = u.ids; seen = u.seen } } in ⊎_elim
     (λ (t : ltb (length v.seen) (length u.seen) ≡ true). subst (λ (c : Bool). P (cond c a b)) (sym t) (shorter (ltb-true (length v.seen) (length u.seen) t)))
     (λ (t : ltb (length v.seen) (length u.seen) ≡ false). subst (λ (c : Bool). P (cond c a b)) (sym t) (longer (ltb-false (length v.seen) (length u.seen) t)))
     (cases_Bool (ltb (length v.seen) (length u.seen)))
-
-pub none_of_none : (xs : List Line) → NoneOf no_ids xs
-none_of_none [] = tt
-none_of_none (x ∷ xs) = (no_one x.caller, none_of_none xs)
-
-pub note_none : (xs : List Line) → Follows no_ids [] xs
-note_none xs = (xs, refl, none_of_none xs)
 
 module _ {X : Type 0} (site_of : X → Config) (lines : X → List Line) (legal : Config → List Line → Type 0) (gauge : Config → List Line → ℕ × Level) (n : ℕ) (site : Config) (base : List Line) where
   abbrev St : Type 0
@@ -102,21 +96,23 @@ module _ {X : Type 0} (site_of : X → Config) (lines : X → List Line) (legal 
   }
 
   -- what a seat knows that has seen the log
-  up_to_date : (s : St) (r : Rule s) (v w : View) → Fits n site base r.log v → w.site ≡ v.site → w.ids ≡ v.ids → w.seen ≡ r.log → w.note ≡ no_note → Fits n site base r.log w
-  up_to_date s r v w f at ids seen note = record {
+  up_to_date : (s : St) (r : Rule s) (v w : View) → Fits n site base r.log v → w.site ≡ v.site → w.callers ≡ v.callers → w.ids ≡ v.ids → w.seen ≡ r.log → w.note ≡ no_note w.seen → Fits n site base r.log w
+  up_to_date s r v w f at told ids seen note = record {
     at_site = at ∙ f.at_site;
-    begins = subst (IsPrefix base) (sym seen) (prefix_trans base v.seen r.log f.begins (prefix_of v.ids v.seen r.log f.follows));
-    follows = subst (λ (l : List Line). Follows w.ids l r.log) (sym seen) (follows_self w.ids r.log);
-    noted = subst (λ (z : _). Follows z.ids z.seen w.seen) (sym note) (note_none w.seen);
+    told = told ∙ f.told;
+    begins = subst (IsPrefix base) (sym seen) (prefix_trans base v.seen r.log f.begins (prefix_of n v.ids v.seen r.log f.follows));
+    follows = subst (λ (l : List Line). Follows n w.ids l r.log) (sym seen) (follows_self n w.ids r.log);
+    noted = subst (λ (z : _). Follows n z.ids z.seen w.seen) (sym note) (follows_self n no_ids w.seen);
     below = λ k own. f.below k (subst (λ (i : Ids). has i k ≡ true) ids own);
   }
 
   -- the same seat, where what it knows of the log stays
-  same_fit : (log : List Line) (v w : View) → Fits n site base log v → w.site ≡ v.site → w.ids ≡ v.ids → w.seen ≡ v.seen → Follows w.note.ids w.note.seen w.seen → Fits n site base log w
-  same_fit log v w f at ids seen noted = record {
+  same_fit : (log : List Line) (v w : View) → Fits n site base log v → w.site ≡ v.site → w.callers ≡ v.callers → w.ids ≡ v.ids → w.seen ≡ v.seen → Follows n w.note.ids w.note.seen w.seen → Fits n site base log w
+  same_fit log v w f at told ids seen noted = record {
     at_site = at ∙ f.at_site;
+    told = told ∙ f.told;
     begins = subst (IsPrefix base) (sym seen) f.begins;
-    follows = subst (λ (z : Ids × List Line). Follows z.0 z.1 log) (λ i. (sym ids i, sym seen i)) f.follows;
+    follows = subst (λ (z : Ids × List Line). Follows n z.0 z.1 log) (λ i. (sym ids i, sym seen i)) f.follows;
     noted = noted;
     below = λ k own. f.below k (subst (λ (i : Ids). has i k ≡ true) ids own);
   }
@@ -130,7 +126,7 @@ module _ {X : Type 0} (site_of : X → Config) (lines : X → List Line) (legal 
       (λ j k u ne e own f. f) roll
 
   sees : (s : St) (r : Rule s) (v : View) → Fits n site base r.log v → Sees site_of lines legal gauge v r.log
-  sees s r v f = (f.follows, subst (λ (z : Config). legal z r.log) (sym f.at_site) r.legal_log)
+  sees s r v f = (subst (λ (c : ℕ). Follows c v.ids v.seen r.log) (sym f.told) f.follows, subst (λ (z : Config). legal z r.log) (sym f.at_site) r.legal_log)
 
   word_is : (s : St) (r : Rule s) → get_or s.words 0 0 ≡ bits (gauge site r.log) + held_bit r.at
   word_is s r = ap (λ (ws : List ℕ). get_or ws 0 0) r.word
@@ -149,7 +145,7 @@ module _ {X : Type 0} (site_of : X → Config) (lines : X → List Line) (legal 
         tt,
         unmoved s r r.at s.homes (set s.views id w) refl r.homes
             (stands_same r.log s.views r.at id k me.0 w there refl (λ _. refl) own r.stands)
-            (rolls r.log s.views id me.0 w there refl (λ j o g. up_to_date s r me.0 w g refl refl refl refl) r.roll),
+            (rolls r.log s.views id me.0 w there refl (λ j o g. up_to_date s r me.0 w g refl refl refl refl refl) r.roll),
         (r.log, held_bit r.at, bit_below r.at, word_is s r ∙ ap (λ (z : Config). bits (gauge z r.log) + held_bit r.at) (sym f.at_site), subst (λ (z : Config). (gauge z r.log).0 < 2 ^ 32) (sym f.at_site) r.small, sees s r me.0 f, refl),
       )
 
@@ -162,13 +158,13 @@ module _ {X : Type 0} (site_of : X → Config) (lines : X → List Line) (legal 
         tt,
         unmoved s r r.at s.homes (set s.views id w) refl r.homes
             (stands_same r.log s.views r.at id k me.0 w there refl (λ e. e) own r.stands)
-            (rolls r.log s.views id me.0 w there refl (λ j o g. same_fit r.log me.0 w g refl refl refl (note_none me.0.seen)) r.roll),
-        (refl, f.noted),
+            (rolls r.log s.views id me.0 w there refl (λ j o g. same_fit r.log me.0 w g refl refl refl refl (follows_self n no_ids me.0.seen)) r.roll),
+        (refl, subst (λ (c : ℕ). Follows c me.0.note.ids me.0.note.seen me.0.seen) (sym f.told) f.noted),
       )
 
   free_at_home : (s : St) (r : Rule s) (at : Where X) → get_or s.words 0 0 ≡ bits (gauge site r.log) + held_bit at → get_or s.words 0 0 % 2 ≡ 0 → held_bit at ≡ 0
   free_at_home s r (home x) e even = refl
-  free_at_home s r (with_seat p h) e even = let g = gauge site r.log in let a : ℕ = g.0 in let b : ℕ = Rattle.esx_lock.specs.Logs.level_number g.1 in let e' : get_or s.words 0 0 ≡ 8 * a + 2 * b + 1 = e in absurd (omega arith)
+  free_at_home s r (with_seat p h) e even = let g = gauge site r.log in let a : ℕ = g.0 in let b : ℕ = Rattle.esx_lock.specs.Words.level_number g.1 in let e' : get_or s.words 0 0 ≡ 8 * a + 2 * b + 1 = e in absurd (omega arith)
 
   take_at : (s : St) (r : Rule s) (at : Where X) → held_bit at ≡ 0 → s.homes ≡ homes_of at → Standing r.log s.views at → (x : X) × (s.homes ≡ some (Some x) ∷ []) × (site_of x ≡ site) × (lines x ≡ r.log) × ((i : ℕ) (v : View) → get_elem? s.views i ≡ some v → v.hold ≡ Free)
   take_at s r (home x) z homes st = (x, homes, st.0, st.1, st.2)
@@ -205,7 +201,7 @@ module _ {X : Type 0} (site_of : X → Config) (lines : X → List Line) (legal 
           word = ap (λ (ws : List ℕ). set ws 0 new) r.word ∙ ap (λ (z : ℕ). z ∷ []) word;
           homes = ap (λ (hs : _). set hs 0 none) t.1;
           stands = holds_own r.log Moving s.views id me.0 w k there refl not_free_moving t.3 own (λ i v _ e. t.4 i v e);
-          roll = rolls r.log s.views id me.0 w there refl (λ j o g. up_to_date s r me.0 w g refl refl t.3 refl) r.roll;
+          roll = rolls r.log s.views id me.0 w there refl (λ j o g. up_to_date s r me.0 w g refl refl refl t.3 refl) r.roll;
         },
         ((λ _. (x, t.2 ∙ sym f.at_site, free_word ∙ (λ i. bits (gauge (sym f.at_site i) (sym t.3 i))), subst (Sees site_of lines legal gauge me.0) (sym t.3) (sees s r me.0 f), λ i. (w, (0, Some x) ∷ empty i))), λ miss. absurd (miss hit)),
       ))
@@ -216,7 +212,7 @@ module _ {X : Type 0} (site_of : X → Config) (lines : X → List Line) (legal 
         subst (λ b. Rule (stepped s 0 (either b new found) id me.1 w keeps)) (sym (ne_eqb found old miss))
             (unmoved s r r.at s.homes (set s.views id w) refl r.homes
             (stands_same r.log s.views r.at id k me.0 w there refl (λ e. e) own r.stands)
-            (rolls r.log s.views id me.0 w there refl (λ j o g. same_fit r.log me.0 w g refl refl refl g.noted) r.roll)),
+            (rolls r.log s.views id me.0 w there refl (λ j o g. same_fit r.log me.0 w g refl refl refl refl g.noted) r.roll)),
         ((λ hit. absurd (miss hit)), λ _. refl),
       ))
 
@@ -235,7 +231,7 @@ module _ {X : Type 0} (site_of : X → Config) (lines : X → List Line) (legal 
         unmoved s r (with_seat Held id) (homes_after s.homes me.1 gives) (set s.views id w) (ap held_bit (sym h.0))
             ((λ i. homes_after ((r.homes ∙ ap homes_of h.0) i) (carried i) gives))
             (holds_own r.log Held s.views id me.0 w k there refl not_free_held h.2 own h.1)
-            (rolls r.log s.views id me.0 w there refl (λ j o g. same_fit r.log me.0 w g refl refl refl g.noted) r.roll),
+            (rolls r.log s.views id me.0 w there refl (λ j o g. same_fit r.log me.0 w g refl refl refl refl g.noted) r.roll),
         (λ i. (w, rest (carried i))),
       )
 
@@ -250,7 +246,7 @@ module _ {X : Type 0} (site_of : X → Config) (lines : X → List Line) (legal 
         unmoved s r (with_seat Moving id) (set s.homes 0 none) (set s.views id w) (ap held_bit (sym h.0))
             (ap (λ (hs : _). set hs 0 none) homes)
             (holds_own r.log Moving s.views id me.0 w k there refl not_free_moving h.2 own h.1)
-            (rolls r.log s.views id me.0 w there refl (λ j o g. same_fit r.log me.0 w g refl refl refl g.noted) r.roll),
+            (rolls r.log s.views id me.0 w there refl (λ j o g. same_fit r.log me.0 w g refl refl refl refl g.noted) r.roll),
         (λ i. (w, (0, None) ∷ empty i)),
       )
 
@@ -269,9 +265,10 @@ module _ {X : Type 0} (site_of : X → Config) (lines : X → List Line) (legal 
         let others : (j i : ℕ) (u : View) → j ≢ id → get_elem? s.views j ≡ some u → has u.ids i ≡ true → Fits n site base r.log u → Fits n site base log' u =
         λ j i u ne e o g. record {
           at_site = g.at_site;
+          told = g.told;
           begins = g.begins;
-          follows = subst (Follows u.ids u.seen) longer (follows_more u.ids u.seen r.log new g.follows
-              (callers_map (λ (c : ℕ). has me.0.ids c ≡ true) (λ (c : ℕ). has u.ids c ≡ false) (λ c m. false_from_ne_true (has u.ids c) (λ b. alone n site base r.log s.views id me.0 there r.roll j c u ne e b m)) new mine));
+          follows = subst (Follows n u.ids u.seen) longer (follows_more n u.ids u.seen r.log new g.follows
+              (callers_map (λ (c : ℕ). has me.0.ids c ≡ true) (λ (c : ℕ). (c < n) × (has u.ids c ≡ false)) (λ c m. (f.below c m, false_from_ne_true (has u.ids c) (λ b. alone n site base r.log s.views id me.0 there r.roll j c u ne e b m))) new mine));
           noted = g.noted;
           below = g.below;
         } in (
@@ -299,9 +296,10 @@ module _ {X : Type 0} (site_of : X → Config) (lines : X → List Line) (legal 
             roll = roll_set n site base r.log log' s.views id w
                 (λ j o. record {
                   at_site = f.at_site;
+                  told = f.told;
                   begins = prefix_trans base me.0.seen log' f.begins (new, grows);
-                  follows = follows_self me.0.ids log';
-                  noted = note_none log';
+                  follows = follows_self n me.0.ids log';
+                  noted = follows_self n no_ids log';
                   below = f.below;
                 })
                 (λ j i u ne e o o'. alone n site base r.log s.views id me.0 there r.roll j i u ne e o o')
@@ -318,8 +316,9 @@ module _ {X : Type 0} (site_of : X → Config) (lines : X → List Line) (legal 
       let fits : (ids : Ids) → ((c : ℕ) → has ids c ≡ true → has v.ids c ≡ true) → (c : ℕ) → has ids c ≡ true → Fits n site base r.log (with_ids v ids) =
       λ ids part c o. let f = r.roll.each id c v there (part c o) in record {
         at_site = f.at_site;
+        told = f.told;
         begins = f.begins;
-        follows = follows_fewer v.ids ids v.seen r.log (λ b out. false_from_ne_true (has ids b) (λ t. off (has v.ids b) (part b t) out)) f.follows;
+        follows = follows_fewer n v.ids ids v.seen r.log (λ b out. false_from_ne_true (has ids b) (λ t. off (has v.ids b) (part b t) out)) f.follows;
         noted = f.noted;
         below = λ b t. f.below b (part b t);
       } in
@@ -357,16 +356,18 @@ module _ {X : Type 0} (site_of : X → Config) (lines : X → List Line) (legal 
       let fits : Fits n site base r.log w = joined_cases all v u (Fits n site base r.log)
       (λ lt. record {
         at_site = f.at_site;
+        told = f.told;
         begins = g.begins;
-        follows = follows_either v.ids u.ids all v.seen u.seen r.log f.follows g.follows (omega (arith, lt)) out;
-        noted = follows_shorter v.ids u.ids v.seen u.seen r.log f.follows g.follows (omega (arith, lt));
+        follows = follows_either n v.ids u.ids all v.seen u.seen r.log f.follows g.follows (omega (arith, lt)) out;
+        noted = follows_shorter n v.ids u.ids v.seen u.seen r.log f.follows g.follows (omega (arith, lt));
         below = below;
       })
       (λ ge. record {
         at_site = f.at_site;
+        told = f.told;
         begins = f.begins;
-        follows = follows_either u.ids v.ids all u.seen v.seen r.log g.follows f.follows ge (λ c a b. out c b a);
-        noted = follows_shorter u.ids v.ids u.seen v.seen r.log g.follows f.follows ge;
+        follows = follows_either n u.ids v.ids all u.seen v.seen r.log g.follows f.follows ge (λ c a b. out c b a);
+        noted = follows_shorter n u.ids v.ids u.seen v.seen r.log g.follows f.follows ge;
         below = below;
       }) in
       let without : List View = set s.views other spent in
@@ -396,7 +397,7 @@ module _ {X : Type 0} (site_of : X → Config) (lines : X → List Line) (legal 
         roll = subst (Roll n site base r.log) same second;
       }
 
-  pub opens : (x : X) (ids : Ids) (w : ℕ) → w ≡ bits (gauge (site_of x) (lines x)) → (gauge (site_of x) (lines x)).0 < 2 ^ 32 → site_of x ≡ site → lines x ≡ base → legal site base → ((c : ℕ) → has ids c ≡ true → c < n) → Rule (opening (w ∷ []) (Some x ∷ []) (newcomer site ids base))
+  pub opens : (x : X) (ids : Ids) (w : ℕ) → w ≡ bits (gauge (site_of x) (lines x)) → (gauge (site_of x) (lines x)).0 < 2 ^ 32 → site_of x ≡ site → lines x ≡ base → legal site base → ((c : ℕ) → has ids c ≡ true → c < n) → Rule (opening (w ∷ []) (Some x ∷ []) (newcomer n site ids base))
   opens x ids w word low at start ok below = record {
     log = base;
     at = home x;
@@ -411,16 +412,17 @@ module _ {X : Type 0} (site_of : X → Config) (lines : X → List Line) (legal 
     roll = record {
       each = λ i k v e own. subst (Fits n site base base) (first_is i v e).1 record {
         at_site = refl;
+        told = refl;
         begins = ([], append-nil base);
-        follows = follows_self ids base;
-        noted = note_none base;
+        follows = follows_self n ids base;
+        noted = follows_self n no_ids base;
         below = below;
       };
       apart = λ i j k v u e e' _ _. (first_is i v e).0 ∙ sym (first_is j u e').0;
     };
   }
     where
-      first_is : (i : ℕ) (v : View) → get_elem? (newcomer site ids base ∷ []) i ≡ some v → (i ≡ 0) × (newcomer site ids base ≡ v)
+      first_is : (i : ℕ) (v : View) → get_elem? (newcomer n site ids base ∷ []) i ≡ some v → (i ≡ 0) × (newcomer n site ids base ≡ v)
       first_is zero v e = (refl, some-injective _ _ e)
       first_is (suc i) v e = absurd (some-ne-none v (sym e))
 
@@ -442,10 +444,5 @@ module _ {X : Type 0} (site_of : X → Config) (lines : X → List Line) (legal 
       let there = final.1.1 in
       let c = closes_at id v s r r.at free all positive there r.homes r.stands in
       let f = r.roll.each id 0 v there (all 0 positive) in
-      let begun = f.begins in
-      -- the lines that the seat hasn't seen are after the opening's, so their callers are below n
-      let tail : begun.0 ++ f.follows.0 ≡ r.later = append_cancel_left base (begun.0 ++ f.follows.0) r.later (sym (append_assoc base begun.0 f.follows.0) ∙ (ap (λ (l : List Line). l ++ f.follows.0) begun.1 ∙ (f.follows.1 ∙ sym r.begins))) in
-      let callers : Callers (λ c. c < n) f.follows.0 = callers_right (λ c. c < n) begun.0 f.follows.0 (subst (Callers (λ c. c < n)) (sym tail) r.callers) in
-      let none_left : f.follows.0 ≡ [] = callers_never (λ c. (c < n) × (has v.ids c ≡ false)) (λ c p. off (has v.ids c) (all c p.0) p.1) f.follows.0 (callers_both (λ c. c < n) (λ c. has v.ids c ≡ false) (λ c. (c < n) × (has v.ids c ≡ false)) (λ c a b. (a, b)) f.follows.0 callers f.follows.2) in
-      let whole : v.seen ≡ r.log = sym (append-nil v.seen) ∙ (ap (λ (l : List Line). v.seen ++ l) (sym none_left) ∙ f.follows.1) in
+      let whole : v.seen ≡ r.log = sym (follows_whole n v.ids v.seen r.log all f.follows) in
       (c.0, final.4 0 (Some c.0) (ap (λ (hs : _). get_elem? hs 0) c.1), c.2 ∙ sym whole, c.3 ∙ sym f.at_site)

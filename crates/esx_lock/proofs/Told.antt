@@ -6,7 +6,8 @@ use Rattle.esx_types.specs.declared.call.Line.{Line}
 use Rattle.esx_types.specs.declared.level.Level.{Level}
 use Rattle.esx_types.specs.declared.config.Config.{Config}
 use Rattle.esx_lock.specs.declared.view.View.{View}
-use Rattle.esx_lock.specs.Logs.{Follows, bits}
+use Rattle.esx_lock.specs.Logs.{Follows}
+use Rattle.esx_lock.specs.Words.{bits}
 use Rattle.esx_lock.specs.Plays.{having_seen, having_read, moving, holding, joined, Sees}
 use Rattle.esx_lock.specs.Passes.{Took, Missed, Learns, IsSame, Meet}
 use Rattle.esx_lock.proofs.Logs.{follows_trans, follows_self}
@@ -32,10 +33,10 @@ pub of_left : (a b : Bool) → a ≡ true → (a || b) ≡ true
 of_left a b e = ap (λ (c : Bool). c || b) e
 
 -- what a join told, once the note was compared
-pub met : (ids : Ids) (v u : View) → Follows (joined ids v u).note.ids (joined ids v u).note.seen (joined ids v u).seen → Meet v u (joined ids v u).seen
-met ids v u = joined_cases ids v u (λ z. Follows z.note.ids z.note.seen z.seen → Meet v u z.seen)
-    (λ _ f. (inr refl, f, follows_self u.ids u.seen))
-    (λ _ f. (inl refl, follows_self v.ids v.seen, f))
+pub met : (ids : Ids) (v u : View) → Follows (joined ids v u).callers (joined ids v u).note.ids (joined ids v u).note.seen (joined ids v u).seen → Meet v u (joined ids v u).seen
+met ids v u = joined_cases ids v u (λ z. Follows z.callers z.note.ids z.note.seen z.seen → Meet v u z.seen)
+    (λ _ f. (inr refl, f, follows_self v.callers u.ids u.seen))
+    (λ _ f. (inl refl, follows_self v.callers v.ids v.seen, f))
 
 module _ {X : Type 0} (site_of : X → Config) (lines : X → List Line) (legal : Config → List Line → Type 0) (gauge : Config → List Line → ℕ × Level) where
   pub took : (me₀ me₁ me₂ me₃ me₄ : Me (Option X) View) (log : List Line) (r again : ℕ) (x y : X) (result : Option X)
@@ -56,22 +57,22 @@ module _ {X : Type 0} (site_of : X → Config) (lines : X → List Line) (legal 
       let found : r ≡ bits (gauge (site_of x) (lines x)) = sym hit ∙ (word ∙ ap (λ (z : Config). bits (gauge z (lines x))) (sym at)) in
       subst (λ (z : X). Took legal gauge v me₄.0 (site_of z) (lines z)) same
       (subst (λ (z : View). Took legal gauge v z (site_of x) (lines x)) (sym v₄) record {
-        same = (refl, refl);
+        same = (refl, refl, refl);
         held = refl;
         at_site = there;
         seen = refl;
-        learnt = (follows_trans v.ids v.seen log (lines x) s₁.0 s₂'.0, s₂'.1);
+        learnt = (follows_trans v.callers v.ids v.seen log (lines x) s₁.0 s₂'.0, s₂'.1);
         word = found;
         loaded = refl;
       })
 
   -- what is known of a pass, from a view that it had before
-  pub learns_on : (v u : View) (log : List Line) → IsSame v u → Follows v.ids v.seen u.seen → Learns legal u log → Learns legal v log
-  learns_on v u log same f l = (follows_trans v.ids v.seen u.seen log f (subst (λ (i : Ids). Follows i u.seen log) same.1 l.0), subst (λ (z : Config). legal z log) same.0 l.1)
+  pub learns_on : (v u : View) (log : List Line) → IsSame v u → Follows v.callers v.ids v.seen u.seen → Learns legal u log → Learns legal v log
+  learns_on v u log same f l = (follows_trans v.callers v.ids v.seen u.seen log f (subst (λ (z : ℕ × Ids). Follows z.0 z.1 u.seen log) (λ i. (same.2 i, same.1 i)) l.0), subst (λ (z : Config). legal z log) same.0 l.1)
 
-  pub took_on : (v u w : View) (site : Config) (log : List Line) → IsSame v u → Follows v.ids v.seen u.seen → Took legal gauge u w site log → Took legal gauge v w site log
+  pub took_on : (v u w : View) (site : Config) (log : List Line) → IsSame v u → Follows v.callers v.ids v.seen u.seen → Took legal gauge u w site log → Took legal gauge v w site log
   took_on v u w site log same f t = record {
-    same = (t.same.0 ∙ same.0, t.same.1 ∙ same.1);
+    same = (t.same.0 ∙ same.0, t.same.1 ∙ same.1, t.same.2 ∙ same.2);
     held = t.held;
     at_site = t.at_site ∙ same.0;
     seen = t.seen;
@@ -80,5 +81,5 @@ module _ {X : Type 0} (site_of : X → Config) (lines : X → List Line) (legal 
     loaded = t.loaded;
   }
 
-  pub missed_on : (v u w : View) (word : ℕ) → IsSame v u → Follows v.ids v.seen u.seen → Missed legal u w word → IsSame v w × Follows v.ids v.seen w.seen
-  missed_on v u w word same f t = ((t.same.0 ∙ same.0, t.same.1 ∙ same.1), (learns_on v u w.seen same f t.learnt).0)
+  pub missed_on : (v u w : View) (word : ℕ) → IsSame v u → Follows v.callers v.ids v.seen u.seen → Missed legal u w word → IsSame v w × Follows v.callers v.ids v.seen w.seen
+  missed_on v u w word same f t = ((t.same.0 ∙ same.0, t.same.1 ∙ same.1, t.same.2 ∙ same.2), (learns_on v u w.seen same f t.learnt).0)

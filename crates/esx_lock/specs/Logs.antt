@@ -1,9 +1,7 @@
 -- Logs, and what is known of one.
-use Rattle.std.specs.Prelude.{◌≡◌, ℕ, ◌+◌, ◌*◌, true, false, List, [], ◌∷◌, ◌++◌}
+use Rattle.std.specs.Prelude.{◌≡◌, ℕ, ◌<◌, true, false, List, [], ◌∷◌, ◌++◌}
 use Rattle.esx_types.specs.declared.ids.Ids.{Ids}
 use Rattle.esx_types.specs.declared.call.Line.{Line}
-use Rattle.esx_types.specs.declared.level.Level.{Level}
-use Rattle.esx_types.specs.declared.level.Level.TheVariants.{High, Soft, Hard, Low}
 use Rattle.esx_types.specs.Ids.{has}
 
 -- the caller of each line is as P says
@@ -11,24 +9,14 @@ abbrev pub Callers : (ℕ → Type 0) → List Line → Type 0
 Callers P [] = Unit {0}
 Callers P (x ∷ xs) = P x.caller × Callers P xs
 
--- no line is one of these callers'
-abbrev pub NoneOf : Ids → List Line → Type 0
-NoneOf ids = Callers (λ k. has ids k ≡ false)
+-- each line is of a caller below n, and of none of these
+abbrev pub OthersOf : ℕ → Ids → List Line → Type 0
+OthersOf n ids = Callers (λ k. (k < n) × (has ids k ≡ false))
 
 -- each line is one of these callers'
 abbrev pub OnlyOf : Ids → List Line → Type 0
 OnlyOf ids = Callers (λ k. has ids k ≡ true)
 
--- the log begins with what was seen, and has no later line of these callers
-abbrev pub Follows : Ids → List Line → List Line → Type 0
-Follows ids seen log = (later : List Line) × (seen ++ later ≡ log) × NoneOf ids later
-
-abbrev pub level_number : Level → ℕ
-level_number High = 0
-level_number Soft = 1
-level_number Hard = 2
-level_number Low = 3
-
--- the word of a lock that is free
-abbrev pub bits : ℕ × Level → ℕ
-bits g = 8 * g.0 + 2 * level_number g.1
+-- the log begins with what was seen, and goes on with lines of others alone
+abbrev pub Follows : ℕ → Ids → List Line → List Line → Type 0
+Follows n ids seen log = (later : List Line) × (seen ++ later ≡ log) × OthersOf n ids later

@@ -10,7 +10,8 @@ use Rattle.esx_types.specs.Ids.{has}
 use Rattle.esx_lock.specs.declared.view.Hold.TheVariants.{Free, Held}
 use Rattle.esx_lock.specs.declared.view.View.{View}
 use Rattle.esx_lock.specs.Rule.{spent}
-use Rattle.esx_lock.specs.Logs.{OnlyOf, Follows, bits}
+use Rattle.esx_lock.specs.Logs.{OnlyOf, Follows}
+use Rattle.esx_lock.specs.Words.{bits}
 
 -- which lock it is, and for how many callers
 pub record LockView : Type 0 where
@@ -45,13 +46,17 @@ IsPass ids views = (v : View) × (views ≡ v ∷ []) × (v.ids ≡ ids) × ((k 
 abbrev pub SomeId : Ids → Type 0
 SomeId ids = (k : ℕ) × (has ids k ≡ true)
 
+-- it speaks for all callers
+abbrev pub IsWhole : View → Type 0
+IsWhole v = (k : ℕ) → k < v.callers → has v.ids k ≡ true
+
 -- one pass, before and after
 abbrev pub IsSame : View → View → Type 0
-IsSame v w = (w.site ≡ v.site) × (w.ids ≡ v.ids)
+IsSame v w = (w.site ≡ v.site) × (w.ids ≡ v.ids) × (w.callers ≡ v.callers)
 
--- a legal log that goes on from what was seen, with no new line of the pass's ids
+-- a legal log that begins with what was seen, and goes on with lines of others alone
 abbrev pub Learns : (Config → List Line → Type 0) → View → List Line → Type 0
-Learns legal v log = Follows v.ids v.seen log × legal v.site log
+Learns legal v log = Follows v.callers v.ids v.seen log × legal v.site log
 
 -- the word that was read last is as before
 abbrev pub ReadAsBefore : View → View → Type 0
@@ -83,18 +88,18 @@ Grows v log = (new : List Line) × (v.seen ++ new ≡ log) × OnlyOf v.ids new
 
 -- a part of a pass has seen and read as much, and holds as little
 abbrev pub IsAlike : View → View → Type 0
-IsAlike v w = (w.site ≡ v.site) × (w.seen ≡ v.seen) × (w.hold ≡ v.hold) × ReadAsBefore v w
+IsAlike v w = (w.site ≡ v.site) × (w.seen ≡ v.seen) × (w.hold ≡ v.hold) × (w.callers ≡ v.callers) × ReadAsBefore v w
 
--- what two passes have seen together: what one of them has seen, which begins with what the other has, and then has no line of its ids
+-- what two passes have seen together: what one of them has seen, which for the other is as much, and then lines of others alone
 abbrev pub Meet : View → View → List Line → Type 0
-Meet v w log = ((log ≡ v.seen) ⊎ (log ≡ w.seen)) × Follows v.ids v.seen log × Follows w.ids w.seen log
+Meet v w log = ((log ≡ v.seen) ⊎ (log ≡ w.seen)) × Follows v.callers v.ids v.seen log × Follows v.callers w.ids w.seen log
 
-abbrev pub IsNew : Config → List Line → View → Type 0
-IsNew site log v = (v.site ≡ site) × (v.seen ≡ log) × (v.hold ≡ Free)
+abbrev pub IsNew : ℕ → Config → List Line → View → Type 0
+IsNew n site log v = (v.site ≡ site) × (v.seen ≡ log) × (v.hold ≡ Free) × (v.callers ≡ n)
 
 -- the pass number j of those that a lock opened with: its one id is j
-abbrev pub IsOpened : TableId → Config → List Line → ℕ → Known → Type 0
-IsOpened table site log j p = (p.table ≡ table) × IsNew site log p.view × (has p.view.ids j ≡ true) × ((k : ℕ) → has p.view.ids k ≡ true → k ≡ j)
+abbrev pub IsOpened : TableId → ℕ → Config → List Line → ℕ → Known → Type 0
+IsOpened table n site log j p = (p.table ≡ table) × IsNew n site log p.view × (has p.view.ids j ≡ true) × ((k : ℕ) → has p.view.ids k ≡ true → k ≡ j)
 
-abbrev pub AreOpened : TableId → Config → List Line → List Known → Type 0
-AreOpened table site log passes = (j : ℕ) (p : Known) → slice_get passes j ≡ Some p → IsOpened table site log j p
+abbrev pub AreOpened : TableId → ℕ → Config → List Line → List Known → Type 0
+AreOpened table n site log passes = (j : ℕ) (p : Known) → slice_get passes j ≡ Some p → IsOpened table n site log j p

@@ -7,39 +7,40 @@ use Rattle.esx_types.specs.declared.level.Level.{Level}
 use Rattle.esx_types.specs.declared.config.Config.{Config}
 use Rattle.esx_lock.specs.declared.view.Hold.TheVariants.{Free, Moving, Held}
 use Rattle.esx_lock.specs.declared.view.View.{View}
-use Rattle.esx_lock.specs.Logs.{Follows, bits}
+use Rattle.esx_lock.specs.Logs.{Follows}
+use Rattle.esx_lock.specs.Words.{bits}
 use Rattle.esx_lock.specs.Rule.{no_note}
 
 -- the view after the log was seen, with no note any more
 abbrev pub having_seen : View → List Line → View
-having_seen v log = record { site = v.site; ids = v.ids; seen = log; last = v.last; by_exchange = v.by_exchange; hold = v.hold; note = no_note }
+having_seen v log = record { site = v.site; callers = v.callers; ids = v.ids; seen = log; last = v.last; by_exchange = v.by_exchange; hold = v.hold; note = no_note log }
 
 abbrev pub having_read : View → ℕ → View
-having_read v found = record { site = v.site; ids = v.ids; seen = v.seen; last = found; by_exchange = false; hold = v.hold; note = v.note }
+having_read v found = record { site = v.site; callers = v.callers; ids = v.ids; seen = v.seen; last = found; by_exchange = false; hold = v.hold; note = v.note }
 
 abbrev pub having_failed : View → ℕ → View
-having_failed v found = record { site = v.site; ids = v.ids; seen = v.seen; last = found; by_exchange = true; hold = v.hold; note = v.note }
+having_failed v found = record { site = v.site; callers = v.callers; ids = v.ids; seen = v.seen; last = found; by_exchange = true; hold = v.hold; note = v.note }
 
 abbrev pub moving : View → View
-moving v = record { site = v.site; ids = v.ids; seen = v.seen; last = v.last; by_exchange = v.by_exchange; hold = Moving; note = v.note }
+moving v = record { site = v.site; callers = v.callers; ids = v.ids; seen = v.seen; last = v.last; by_exchange = v.by_exchange; hold = Moving; note = v.note }
 
 abbrev pub holding : View → View
-holding v = record { site = v.site; ids = v.ids; seen = v.seen; last = v.last; by_exchange = v.by_exchange; hold = Held; note = v.note }
+holding v = record { site = v.site; callers = v.callers; ids = v.ids; seen = v.seen; last = v.last; by_exchange = v.by_exchange; hold = Held; note = v.note }
 
 abbrev pub released : View → View
-released v = record { site = v.site; ids = v.ids; seen = v.seen; last = v.last; by_exchange = v.by_exchange; hold = Free; note = v.note }
+released v = record { site = v.site; callers = v.callers; ids = v.ids; seen = v.seen; last = v.last; by_exchange = v.by_exchange; hold = Free; note = v.note }
 
 abbrev pub compared : View → View
-compared v = record { site = v.site; ids = v.ids; seen = v.seen; last = v.last; by_exchange = v.by_exchange; hold = v.hold; note = no_note }
+compared v = record { site = v.site; callers = v.callers; ids = v.ids; seen = v.seen; last = v.last; by_exchange = v.by_exchange; hold = v.hold; note = no_note v.seen }
 
 abbrev pub with_ids : View → Ids → View
-with_ids v ids = record { site = v.site; ids = ids; seen = v.seen; last = v.last; by_exchange = v.by_exchange; hold = v.hold; note = v.note }
+with_ids v ids = record { site = v.site; callers = v.callers; ids = ids; seen = v.seen; last = v.last; by_exchange = v.by_exchange; hold = v.hold; note = v.note }
 
 -- of two views the longer log, and the other as a note
 abbrev pub joined : Ids → View → View → View
 joined ids v w = cond (ltb (length v.seen) (length w.seen))
-    (record { site = v.site; ids = ids; seen = w.seen; last = v.last; by_exchange = v.by_exchange; hold = v.hold; note = record { ids = v.ids; seen = v.seen } })
-    (record { site = v.site; ids = ids; seen = v.seen; last = v.last; by_exchange = v.by_exchange; hold = v.hold; note = record { ids = w.ids; seen = w.seen } })
+    (record { site = v.site; callers = v.callers; ids = ids; seen = w.seen; last = v.last; by_exchange = v.by_exchange; hold = v.hold; note = record { ids = v.ids; seen = v.seen } })
+    (record { site = v.site; callers = v.callers; ids = ids; seen = v.seen; last = v.last; by_exchange = v.by_exchange; hold = v.hold; note = record { ids = w.ids; seen = w.seen } })
 
 module _ {X : Type 0} (site_of : X → Config) (lines : X → List Line) (legal : Config → List Line → Type 0) (gauge : Config → List Line → ℕ × Level) where
   abbrev Sat : Type 0
@@ -47,7 +48,7 @@ module _ {X : Type 0} (site_of : X → Config) (lines : X → List Line) (legal 
 
   -- a log that goes on from what the view had seen, and is legal
   abbrev pub Sees : View → List Line → Type 0
-  Sees v log = Follows v.ids v.seen log × legal v.site log
+  Sees v log = Follows v.callers v.ids v.seen log × legal v.site log
 
   -- a load: the log is seen, and the word is its gauge's, with the held bit
   abbrev pub looked : Step (Option X) → Sat → ℕ → Sat → Type 0
@@ -72,4 +73,4 @@ module _ {X : Type 0} (site_of : X → Config) (lines : X → List Line) (legal 
 
   -- what was noted is a beginning of what was seen
   abbrev pub recalled : Step (Option X) → Sat → ℕ → Sat → Type 0
-  recalled st m r m' = (m' ≡ (compared m.0, m.1)) × Follows m.0.note.ids m.0.note.seen m.0.seen
+  recalled st m r m' = (m' ≡ (compared m.0, m.1)) × Follows m.0.callers m.0.note.ids m.0.note.seen m.0.seen

@@ -13,25 +13,27 @@ use Rattle.esx_lock.specs.declared.view.Hold.{Hold}
 use Rattle.esx_lock.specs.declared.view.Hold.TheVariants.{Free, Moving, Held}
 use Rattle.esx_lock.specs.declared.view.Note.{Note}
 use Rattle.esx_lock.specs.declared.view.View.{View}
-use Rattle.esx_lock.specs.Logs.{Callers, Follows, bits}
+use Rattle.esx_lock.specs.Logs.{Callers, Follows}
+use Rattle.esx_lock.specs.Words.{bits}
 
 -- where the value is: at home, or with a seat, which holds the lock
 pub data Where (X : Type 0) : Type 0 where
   home : X → Where X
   with_seat : Hold → ℕ → Where X
 
-abbrev pub no_note : Note
-no_note = record { ids = no_ids; seen = [] }
+-- a note of nobody, who has seen as much
+abbrev pub no_note : List Line → Note
+no_note seen = record { ids = no_ids; seen = seen }
 
-abbrev pub newcomer : Config → Ids → List Line → View
-newcomer site ids seen = record { site = site; ids = ids; seen = seen; last = 0; by_exchange = false; hold = Free; note = no_note }
+abbrev pub newcomer : ℕ → Config → Ids → List Line → View
+newcomer n site ids seen = record { site = site; callers = n; ids = ids; seen = seen; last = 0; by_exchange = false; hold = Free; note = no_note seen }
 
 abbrev pub no_site : Config
 no_site = record { frames = 0; page = 0; slots = 0; tau = 0; high = 0; soft = 0; hard = 0; low = 0; nodes = 0 }
 
 -- what a join leaves
 abbrev pub spent : View
-spent = newcomer no_site no_ids []
+spent = newcomer 0 no_site no_ids []
 
 module _ {X : Type 0} where
   abbrev pub held_bit : Where X → ℕ
@@ -48,9 +50,10 @@ module _ {X : Type 0} where
 module _ (n : ℕ) (site : Config) (base log : List Line) where
   pub record Fits (v : View) : Type 0 where
     pub at_site : v.site ≡ site
+    pub told : v.callers ≡ n
     pub begins : IsPrefix base v.seen
-    pub follows : Follows v.ids v.seen log
-    pub noted : Follows v.note.ids v.note.seen v.seen
+    pub follows : Follows n v.ids v.seen log
+    pub noted : Follows n v.note.ids v.note.seen v.seen
     pub below : (k : ℕ) → has v.ids k ≡ true → k < n
 
   pub record Roll (views : List View) : Type 0 where

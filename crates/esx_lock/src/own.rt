@@ -3,7 +3,7 @@
 ghost use Rattle.std.specs.Prelude.{◌≡◌, ℕ, ◌+◌, ◌^◌, ◌<◌, ◌≤◌, ◌↔◌, ◌&&◌, ◌||◌, not, IsTrue, true, false, [], MatchResult, IfOk, length};
 ghost use Rattle.esx_types.specs.Ids.{has};
 ghost use Rattle.esx_lock.specs.declared.view.Hold.TheVariants.{Free, Held};
-ghost use Rattle.esx_lock.specs.Logs.{bits};
+ghost use Rattle.esx_lock.specs.Words.{bits};
 ghost use Rattle.esx_lock.specs.Passes.{SomeId, IsSame, ReadAsBefore, Learns, Took, Missed, Grows, IsAlike, Meet, IsNew, AreOpened};
 ghost use Rattle.esx_lock.specs.Plays.{with_ids};
 
@@ -59,7 +59,7 @@ impl<V: Gauged> OwnLock<V> {
         V: Drop,
         requires { (0 < callers) × (callers ≤ CALLERS) }
         ensures lock { IfOk result (λ r. r.0.callers ≡ callers) }
-        ensures passes { IfOk result (λ r. (length r.1.items ≡ callers) × AreOpened r.0.table (V.site value) (V.lines value) r.1.items) }
+        ensures passes { IfOk result (λ r. (length r.1.items ≡ callers) × AreOpened r.0.table callers (V.site value) (V.lines value) r.1.items) }
     {
         let passes = Vec::with_capacity(alloc, callers)?;
         let (lock, pass) = OwnLock::with_pass(alloc, value, callers)?;
@@ -176,7 +176,7 @@ impl<V: Gauged> OwnLock<V> {
     pub fn join(&self, one: Pass, other: Pass) -> Pass
         requires own { (one.table ≡ self.now.table) × (other.table ≡ one.table) }
         requires free { (one.view.hold ≡ Free) × (other.view.hold ≡ Free) }
-        ensures same { (result.table ≡ one.table) × (result.view.site ≡ one.view.site) × (result.view.hold ≡ Free) × ReadAsBefore one.view result.view }
+        ensures same { (result.table ≡ one.table) × (result.view.site ≡ one.view.site) × (result.view.hold ≡ Free) × (result.view.callers ≡ one.view.callers) × ReadAsBefore one.view result.view }
         ensures ids { (k : ℕ) → has result.view.ids k ≡ (has one.view.ids k || has other.view.ids k) }
         ensures meet { Meet one.view other.view result.view.seen }
     {
@@ -192,7 +192,7 @@ impl<V: Gauged> OwnLock<V> {
         V: Drop,
         requires { (0 < callers) × (callers ≤ CALLERS) }
         ensures lock { IfOk result (λ r. (r.0.callers ≡ callers) × (r.1.table ≡ r.0.table)) }
-        ensures view { IfOk result (λ r. IsNew (V.site value) (V.lines value) r.1.view) }
+        ensures view { IfOk result (λ r. IsNew callers (V.site value) (V.lines value) r.1.view) }
         ensures ids { IfOk result (λ r. ((k : ℕ) → k < callers → has r.1.view.ids k ≡ true) × ((k : ℕ) → has r.1.view.ids k ≡ true → k < callers)) }
     {
         let first = word_of(&value);
@@ -216,7 +216,7 @@ impl<V: Gauged> OwnLock<V> {
         requires free { pass.view.hold ≡ Free }
         requires ids { ((k : ℕ) → k < self.now.callers → has pass.view.ids k ≡ true) × ((k : ℕ) → has pass.view.ids k ≡ true → k < self.now.callers) }
         requires none { passes.items ≡ [] }
-        ensures { IfOk result (λ all. (length all.items ≡ self.now.callers) × AreOpened pass.table pass.view.site pass.view.seen all.items) }
+        ensures { IfOk result (λ all. (length all.items ≡ self.now.callers) × AreOpened pass.table pass.view.callers pass.view.site pass.view.seen all.items) }
     {
         let mut rest = pass;
         for i in 0..self.callers - 1 {
@@ -348,7 +348,7 @@ impl<V: Gauged> OwnLock<V> {
         requires some { SomeId seat.old.me.0.ids × SomeId other.me.0.ids }
         requires union { (k : ℕ) → has ids.now k ≡ (has seat.old.me.0.ids k || has other.me.0.ids k) }
         ensures same { (seat.new.table_id ≡ seat.old.table_id) × (seat.new.id ≡ seat.old.id) × (seat.new.me.1 ≡ []) }
-        ensures view { (seat.new.me.0.ids ≡ ids.now) × (seat.new.me.0.hold ≡ Free) × (seat.new.me.0.site ≡ seat.old.me.0.site) }
+        ensures view { (seat.new.me.0.ids ≡ ids.now) × (seat.new.me.0.hold ≡ Free) × (seat.new.me.0.site ≡ seat.old.me.0.site) × (seat.new.me.0.callers ≡ seat.old.me.0.callers) }
         ensures last { ReadAsBefore seat.old.me.0 seat.new.me.0 }
         ensures meet { Meet seat.old.me.0 other.me.0 seat.new.me.0.seen }
     {

@@ -17,13 +17,19 @@ pub struct Note {
     pub seen: LinkedList<Line>,
 }
 
-/// The site, the callers that a pass speaks for, the log that it has seen, the word that it read last, with
-/// whether an exchange that failed read it, and whether it holds the lock.
+/// What a pass knows, and whether it holds the lock. Site and number of callers are the lock's, and never
+/// change.
 pub struct View {
     pub site: Config,
+    /// How many callers the lock has: each caller's number is below this.
+    pub callers: usize,
+    /// The callers that the pass speaks for.
     pub ids: Ids,
+    /// The log as far as the pass has seen it.
     pub seen: LinkedList<Line>,
+    /// The word that was read last.
     pub last: u64,
+    /// Did an exchange that failed read that word? Otherwise a load did.
     pub by_exchange: bool,
     pub hold: Hold,
     pub note: Note,

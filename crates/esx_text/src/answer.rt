@@ -37,7 +37,7 @@ fn call_of_line(alloc: Global, line: &[u8]) -> Result<Option<Call>, AllocError>
 /// Makes a call and writes its reply. Between the two no memory is taken.
 fn answer_call<W: Sink>(
     console: &mut Console,
-    caller: u8,
+    caller: u16,
     writer: &mut W,
     held: &mut AnswerBuffer,
     call: Call,
@@ -109,7 +109,7 @@ pub struct Asked<'a> {
 pub fn answer_line<W: Sink>(
     alloc: Global,
     console: &mut Console,
-    caller: u8,
+    caller: u16,
     writer: &mut W,
     held: &mut AnswerBuffer,
     asked: &Asked,

@@ -48,7 +48,7 @@ impl Work {
 fn serve_line<W: Sink>(
     alloc: Global,
     console: &mut Console,
-    caller: u8,
+    caller: u16,
     writer: &mut W,
     work: &mut Work,
     piece: &[u8],
@@ -90,7 +90,7 @@ fn serve_line<W: Sink>(
 fn serve_bytes<W: Sink>(
     alloc: Global,
     console: &mut Console,
-    caller: u8,
+    caller: u16,
     writer: &mut W,
     work: &mut Work,
     bytes: &[u8],
@@ -122,7 +122,7 @@ fn serve_bytes<W: Sink>(
 fn serve_end<W: Sink>(
     alloc: Global,
     console: &mut Console,
-    caller: u8,
+    caller: u16,
     writer: &mut W,
     work: &mut Work,
 ) -> Result<u64, ServeFault>
@@ -196,7 +196,7 @@ pub fn give_up<W: Sink>(writer: &mut W) -> ServeFault
 fn serve_reads<R: Source, W: Sink>(
     alloc: Global,
     console: &mut Console,
-    caller: u8,
+    caller: u16,
     reader: &mut R,
     writer: &mut W,
     work: &mut Work,
@@ -267,7 +267,7 @@ fn finish<W: Sink>(
 pub fn serve<R: Source, W: Sink>(
     alloc: Global,
     console: &mut Console,
-    caller: u8,
+    caller: u16,
     reader: &mut R,
     writer: &mut W,
 ) -> Result<u64, ServeFault>

@@ -96,7 +96,7 @@ impl Reply {
 /// A line of a log: who called, the call, and the reply to it.
 #[derive(Debug, Drop)]
 pub struct Line {
-    pub caller: u8,
+    pub caller: u16,
     pub call: Call,
     pub reply: Reply,
 }

@@ -1,7 +1,7 @@
 //! What is run of the own lock, over a small value.
 #![tactic(auto)]
 
-#[cfg(test)]
-mod tally;
+pub mod plays;
+pub mod tally;
 #[cfg(test)]
 mod tests;

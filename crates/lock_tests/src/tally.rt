@@ -49,7 +49,7 @@ impl Tally {
         }
     }
 
-    pub fn add(&mut self, caller: u8, number: u64) -> Result<(), AllocError>
+    pub fn add(&mut self, caller: u16, number: u64) -> Result<(), AllocError>
         ensures site { self.new.site ≡ self.old.site }
         ensures ok { OnOk result (self.new.log.items ≡ self.old.log.items ++ line_of caller number ∷ []) }
         ensures err { OnErr result (self.new.log.items ≡ self.old.log.items) }

@@ -7,5 +7,5 @@ pub whole_and_part-whole-requires-clause-ids : goal.whole_and_part-whole-require
 whole_and_part-whole-requires-clause-ids g c =
     let first = c.in_ok-lock.first.view.ids in
     let second = c.in_ok-lock.second.view.ids in
-    let ids = c.in_ok-lock.ensures.ids in
-    (c.join.ensures.ids 0 ∙ ap (λ (b : Bool). b || has second 0) ids.0, c.join.ensures.ids 1 ∙ (ap (λ (b : Bool). has first 1 || b) ids.1 ∙ or-true (has first 1)))
+    let both = c.in_ok-lock.ensures.passes in
+    (c.join.ensures.ids 0 ∙ ap (λ (b : Bool). b || has second 0) both.0.2, c.join.ensures.ids 1 ∙ (ap (λ (b : Bool). has first 1 || b) both.1.2 ∙ or-true (has first 1)))

@@ -1,5 +1,5 @@
 use Rattle.lock_tests.specs.Passes.{IsIdle}
-use Rattle.lock_tests.proofs.tests.submit_all.Given as goal
+use Rattle.lock_tests.proofs.plays.submit_all.Given as goal
 
 abbrev pub invariant-loop-number : goal.invariant-loop-number
 invariant-loop-number g l = IsIdle l.lock l.pass

@@ -2,7 +2,7 @@ use Rattle.std.proofs.Common.{◌∙◌, ap}
 use Rattle.esx_types.specs.Ids.{has}
 use Rattle.esx_lock.proofs.Grown.{grows_one}
 use Rattle.lock_tests.specs.Tally.{line_of}
-use Rattle.lock_tests.proofs.tests.submit.Goals as goal
+use Rattle.lock_tests.proofs.plays.submit.Goals as goal
 
 pub give-requires-clause-grows : goal.give-requires-clause-grows
 give-requires-clause-grows g c =
