@@ -1,6 +1,7 @@
 use Rattle.std.proofs.Common.{◌≡◌, ◌+◌, ◌-◌, ◌*◌, ◌≤◌, length, slice_index, arith}
 use Rattle.std.proofs.lemmas.Nat.{mul-le}
 use Rattle.std.proofs.lemmas.List.{get_or_read}
+use Rattle.esx_types.specs.declared.config.TheConstants.{VM_NUMBERS}
 use Rattle.esx_plain.specs.Payers.{IsFirstBelow, AreNoneBelow}
 use Rattle.esx_average.proofs.RowLaws.{rows_few, spare_few}
 use Rattle.esx_average.proofs.ChunkLaws.{IsStep, partial_begins, partial_count, partial_step, partial_some, partial_ends, partial_most}
@@ -21,8 +22,8 @@ overflow_cast-rows c = omega (arith, rows_few c.args.rows.now c.requires.rows)
 
 pub overflow_mul-rows : goal.overflow_mul-rows
 overflow_mul-rows c =
-    let most : length c.args.rows.now * (c.loop-left.chunk - 1) ≤ 32 * 65536 =
-    mul-le (length c.args.rows.now) (c.loop-left.chunk - 1) 32 65536 (rows_few c.args.rows.now c.requires.rows) (omega (arith, c.loop-left.invariant.most)) in
+    let most : length c.args.rows.now * (c.loop-left.chunk - 1) ≤ VM_NUMBERS * 65536 =
+    mul-le (length c.args.rows.now) (c.loop-left.chunk - 1) VM_NUMBERS 65536 (rows_few c.args.rows.now c.requires.rows) (omega (arith, c.loop-left.invariant.most)) in
     omega arith
 
 pub next_payer-requires-clause-count : goal.next_payer-requires-clause-count
