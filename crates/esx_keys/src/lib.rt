@@ -3,12 +3,16 @@
 #![tactic(auto)]
 
 mod arena;
+mod chains;
 mod content;
 mod entry;
+mod index;
+mod listings;
 mod table;
 #[cfg(test)]
 mod tests;
 
 pub use content::key;
 pub use entry::{Entry, Kind};
+pub use listings::Listings;
 pub use table::Keys;
