@@ -1,5 +1,5 @@
 -- What becomes of chains when a number goes into one or comes out of it.
-use Rattle.std.proofs.Common.{◌≡◌, ◌≢◌, ℕ, ◌+◌, ◌<◌, ◌≤◌, List, length, Option, Some, None, ◌⊎◌, inl, inr, refl, sym, ap, subst, ◌∙◌, arith, get_or}
+use Rattle.std.proofs.Common.{◌≡◌, ◌≢◌, ℕ, ◌+◌, ◌<◌, ◌≤◌, List, length, Option, Some, None, ◌⊎◌, inl, inr, refl, sym, ap, subst, ◌∙◌, arith, get_or, set, get_or-set_same, get_or-set_other}
 use Rattle.std.proofs.lemmas.Bool.{cases_eq}
 use Rattle.esx_keys.specs.Chains.{after, link_at, IsIn, AreApart, Leads, IsChained, IsBefore, IsMoved}
 
@@ -11,7 +11,7 @@ same_or_apart group b c None (Some k) h i = inr tt
 same_or_apart group b c (Some j) None h i = inr tt
 same_or_apart group b c (Some j) (Some k) h i =
     elim (cases_eq j k) [
-      | inl e ↦ let same : b ≡ c = cc in inl (same, ap Some e)
+      | inl e ↦ let same : b ≡ c = cc (h, i, e) in inl (same, ap Some e)
       | inr d ↦ inr d
     ]
 
@@ -116,8 +116,20 @@ IsChained-unlinked n group moved heads next heads' next' c f p same fits chained
           let off : link_at heads next b o ≢ f = λ e.
             let to_f : Leads n group b (after o) f = subst (λ t. Leads n group b (after o) t) e leads in
             let one : Some b ≡ Some c = sym (to_f.lands fits) ∙ here in
-            other_place group b c f o p cc was apart to_f.onward to_f.skips before in
+            other_place group b c f o p (cc one) was apart to_f.onward to_f.skips before in
           rw (others b o apart) (leads_aside n group moved b (after o) f (link_at heads next b o) None moves (λ _ _ x. cc) off leads)
+    ]
+
+-- a place of a chain after a number came in is the one after it, or was one before
+new_or_old : (group moved : ℕ → Option ℕ) (b c f : ℕ) (o : Option ℕ) → IsMoved group f (Some c) moved → IsIn moved b o → ((b ≡ c) × (o ≡ Some f)) ⊎ (IsIn group b o × AreApart b o c (Some f))
+new_or_old group moved b c f None moves h = inr (tt, tt)
+new_or_old group moved b c f (Some k) moves h =
+    elim (cases_eq k f) [
+      | inl e ↦
+          let there : moved k ≡ Some c = ap moved e ∙ moves.there in
+          let same : b ≡ c = cc (there, h) in
+          inl (same, ap Some e)
+      | inr d ↦ inr (sym (moves.others k d) ∙ h, d)
     ]
 
 pub IsChained-linked : (n : ℕ) (group moved : ℕ → Option ℕ) (heads next heads' next' : List ℕ) (c f : ℕ) (p : Option ℕ) → length heads' ≡ length heads → f < n → IsChained n group heads next → group f ≡ None → c < length heads → IsBefore group c f p → get_or next' f 0 ≡ link_at heads next c p → link_at heads' next' c p ≡ f → ((b : ℕ) (o : Option ℕ) → AreApart b o c p → AreApart b o c (Some f) → link_at heads' next' b o ≡ link_at heads next b o) → IsMoved group f (Some c) moved → IsChained n moved heads' next'
@@ -139,7 +151,22 @@ IsChained-linked n group moved heads next heads' next' c f p same fits chained o
                   let nothing : None ≡ Some b = sym out ∙ to_f.lands fits in
                   cc in
                 let over : after o ≤ f → f < link_at heads next b o → Some c ≢ Some b = λ from below e.
-                  other_place group b c f o p cc old.0 apart from (λ k past under. leads.skips k past (omega arith)) before in
+                  other_place group b c f o p (cc e) old.0 apart from (λ k past under. leads.skips k past (omega arith)) before in
                 rw (others b o apart old.1) (leads_aside n group moved b (after o) f (link_at heads next b o) (Some c) moves over off leads)
           ]
     ]
+
+-- the links where the number that comes in was first given the one after it
+links_aside : (heads next : List ℕ) (b c f to : ℕ) (o : Option ℕ) → AreApart b o c (Some f) → link_at heads (set next f to) b o ≡ link_at heads next b o
+links_aside heads next b c f to None apart = refl
+links_aside heads next b c f to (Some k) apart = get_or-set_other next f k to 0 apart
+
+before_is_apart : (group : ℕ → Option ℕ) (c f : ℕ) (p : Option ℕ) → IsBefore group c f p → AreApart c (Some f) c p
+before_is_apart group c f None before = tt
+before_is_apart group c f (Some k) before = λ e. let below : k + 1 ≤ f = before.below in omega arith
+
+pub IsChained-entered : (n : ℕ) (group moved : ℕ → Option ℕ) (heads next heads' next' : List ℕ) (c f : ℕ) (p : Option ℕ) → length heads' ≡ length heads → n ≡ length next → f < n → IsChained n group heads next → group f ≡ None → c < length heads → IsBefore group c f p → link_at heads' next' c p ≡ f → ((b : ℕ) (o : Option ℕ) → AreApart b o c p → link_at heads' next' b o ≡ link_at heads (set next f (link_at heads next c p)) b o) → IsMoved group f (Some c) moved → IsChained n moved heads' next'
+IsChained-entered n group moved heads next heads' next' c f p same size fits chained out small before there others moves =
+    let inside : f < length next = omega arith in
+    let on : get_or next' f 0 ≡ link_at heads next c p = others c (Some f) (before_is_apart group c f p before) ∙ get_or-set_same next f (link_at heads next c p) 0 inside in
+    IsChained-linked n group moved heads next heads' next' c f p same fits chained out small before on there (λ b o apart aside. others b o apart ∙ links_aside heads next b c f (link_at heads next c p) o aside) moves

@@ -1,11 +1,39 @@
 -- How far a walk along a chain has come.
-use Rattle.std.proofs.Common.{◌≡◌, ℕ, ◌%◌, ◌<◌, false, List, length, Some}
+use Rattle.std.proofs.Common.{◌≡◌, ℕ, ◌+◌, ◌%◌, ◌<◌, ◌≤◌, Bool, true, false, List, length, Option, Some, None, position, get_or, refl, sym, ap, ◌∙◌, inl, inr, arith}
+use Rattle.std.proofs.lemmas.Bool.{cases_Bool, cases_lt, false≢true}
+use Rattle.esx_index.specs.Lists.{position_is, position_none}
 use Rattle.esx_types.specs.declared.table.Listing.{Listing}
+use Rattle.esx_types.specs.declared.table.Listing.TheVariants.{Unlisted, Shared, Hinted}
+use Rattle.esx_keys.specs.declared.index.Index.{Index}
 use Rattle.esx_keys.specs.declared.entry.Kind.{Kind}
+use Rattle.esx_keys.specs.declared.entry.Kind.TheVariants.{Shared as SharedKind, Hint as HintKind}
+use Rattle.esx_keys.specs.Chains.{Leads}
 use Rattle.esx_keys.specs.Listed.{listing_at}
-use Rattle.esx_keys.specs.Index.{is_under, frame_chain}
+use Rattle.esx_keys.specs.Index.{is_under, chain_of, chain_in, IsIndex}
 
 -- no frame before this one is what is looked for, and this one is in its chain
-pub record Walked (heads : ℕ) (listings : List Listing) (kind : Kind) (key at : ℕ) : Type 0 where
-  pub before : (k : ℕ) → k < at → is_under kind key (listing_at listings k) ≡ false
-  pub here : at < length listings → frame_chain heads listings at ≡ Some (key % heads)
+pub record Walked (index : Index) (kind : Kind) (key at : ℕ) : Type 0 where
+  pub before : (k : ℕ) → k < at → is_under kind key (listing_at index.listings.items k) ≡ false
+  pub here : at < length index.listings.items → chain_in index at ≡ Some (key % length index.heads.items)
+
+-- what stands under a key is in its chain
+chain_under : (heads key : ℕ) (kind : Kind) (listing : Listing) → is_under kind key listing ≡ true → chain_of heads listing ≡ Some (key % heads)
+chain_under heads key SharedKind Unlisted e = absurd (false≢true e)
+chain_under heads key SharedKind (Shared own) e = ap (λ k. Some (k % heads)) (eqb-eq own key e)
+chain_under heads key SharedKind (Hinted vm page own) e = absurd (false≢true e)
+chain_under heads key HintKind Unlisted e = absurd (false≢true e)
+chain_under heads key HintKind (Shared own) e = absurd (false≢true e)
+chain_under heads key HintKind (Hinted vm page own) e = ap (λ k. Some (k % heads)) (eqb-eq own key e)
+
+-- past frames that are not in the chain the walk is as far
+walked_on : (index : Index) (kind : Kind) (key i to : ℕ) → ((k : ℕ) → k < i → is_under kind key (listing_at index.listings.items k) ≡ false) → Leads (length index.listings.items) (chain_in index) (key % length index.heads.items) i to → Walked index kind key to
+walked_on index kind key i to before leads = record {
+  before = λ k below. elim (cases_lt k i) [
+    | inl l ↦ before k l
+    | inr m ↦ elim (cases_Bool (is_under kind key (listing_at index.listings.items k))) [
+      | inl yes ↦ absurd (leads.skips k m below (chain_under (length index.heads.items) key kind (listing_at index.listings.items k) yes))
+      | inr no_match ↦ no_match
+    ]
+  ];
+  here = leads.lands;
+}

@@ -5,7 +5,8 @@ use Rattle.esx_types.specs.declared.table.Listing.{Listing}
 use Rattle.esx_types.specs.declared.table.Listing.TheVariants.{Unlisted, Shared, Hinted}
 use Rattle.esx_keys.specs.declared.entry.Kind.{Kind}
 use Rattle.esx_keys.specs.declared.entry.Kind.TheVariants.{Shared as SharedKind, Hint as HintKind}
-use Rattle.esx_keys.specs.Chains.{IsChained}
+use Rattle.esx_keys.specs.declared.index.Index.{Index}
+use Rattle.esx_keys.specs.Chains.{IsChained, link_at}
 use Rattle.esx_keys.specs.Listed.{listing_at, is_shared_under, is_hinted_under}
 
 -- what a look-up of a kind looks for
@@ -23,9 +24,23 @@ chain_of heads (Hinted vm page key) = Some (key % heads)
 abbrev pub frame_chain : ℕ → List Listing → ℕ → Option ℕ
 frame_chain heads listings frame = chain_of heads (listing_at listings frame)
 
+-- the same in an index
+abbrev pub chain_in : Index → ℕ → Option ℕ
+chain_in index = frame_chain (length index.heads.items) index.listings.items
+
+-- the frame that a place of a chain leads to
+abbrev pub link_in : Index → ℕ → Option ℕ → ℕ
+link_in index = link_at index.heads.items index.next.items
+
 -- the frames that stand under keys are chained, each in the chain of its key
-pub record IsIndex (listings : List Listing) (heads next : List ℕ) : Type 0 where
-  pub fits : length listings < 2 ^ 32
-  pub links : length next ≡ length listings
-  pub power : IsPowerOfTwo (length heads)
-  pub chained : IsChained (length listings) (frame_chain (length heads) listings) heads next
+pub record IsIndex (index : Index) : Type 0 where
+  pub fits : length index.listings.items < 2 ^ 32
+  pub links : length index.next.items ≡ length index.listings.items
+  pub power : IsPowerOfTwo (length index.heads.items)
+  pub chained : IsChained (length index.listings.items) (chain_in index) index.heads.items index.next.items
+
+-- as many frames and chains as before
+pub record SameSizes (before now : Index) : Type 0 where
+  pub heads : length now.heads.items ≡ length before.heads.items
+  pub next : length now.next.items ≡ length before.next.items
+  pub listings : now.listings.items ≡ before.listings.items

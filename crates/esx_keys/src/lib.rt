@@ -3,7 +3,6 @@
 #![tactic(auto)]
 
 mod arena;
-mod chains;
 mod content;
 mod entry;
 mod index;

@@ -5,13 +5,10 @@ ghost use Rattle.esx_types.specs.declared.table.Listing.TheVariants.{Unlisted};
 ghost use Rattle.esx_keys.specs.Listed.{listing_at, is_shared_under, is_hinted_under};
 
 use crate::entry::Kind;
-use crate::index;
+use crate::index::Index;
 use esx_types::Listing;
 use std::alloc::{AllocError, Global};
 use std::marker::Model;
-
-/// The number that names no frame.
-const NO_FRAME: u32 = u32::MAX;
 
 /// What each frame stands under, seen as the list of it, and an index by key over it; a frame's number is
 /// its place.
@@ -21,11 +18,7 @@ const NO_FRAME: u32 = u32::MAX;
 /// of two that is not less than the frames.
 #[derive(Drop)]
 pub struct Listings {
-    listings: Vec<Listing>,
-    /// The first frame of each chain.
-    heads: Vec<u32>,
-    /// The next frame of a frame's chain.
-    next: Vec<u32>,
+    index: Index,
 }
 
 impl Model for Listings {
@@ -35,9 +28,9 @@ impl Model for Listings {
 
     ghost Value = { List Listing };
 
-    ghost view = { λ a. a.listings.items };
+    ghost view = { λ a. a.index.listings.items };
 
-    ghost invariant = { λ a. IsIndex a.listings.items a.heads.items a.next.items };
+    ghost invariant = { λ a. IsIndex a.index };
 }
 
 impl Listings {
@@ -45,29 +38,22 @@ impl Listings {
     pub fn new(alloc: Global, frames: u32) -> Result<Listings, AllocError>
         ensures { IfOk result (λ l. l ≡ replicate frames Unlisted) }
     {
-        let frames = frames as usize;
-        let heads = vec![in alloc; NO_FRAME; frames.next_power_of_two()]?;
-        let next = vec![in alloc; NO_FRAME; frames]?;
-        let listings = vec![in alloc; Listing::Unlisted; frames]?;
-        Ok(Listings {
-            listings,
-            heads,
-            next,
-        })
+        let index = Index::new(alloc, frames)?;
+        Ok(Listings { index })
     }
 
     /// How many frames there are.
     pub fn len(&self) -> u32
         ensures { result ≡ length self.now }
     {
-        self.listings.len() as u32
+        self.index.listings.len() as u32
     }
 
     /// What a frame stands under; past the last frame, nothing.
     pub fn get(&self, frame: u32) -> Listing
         ensures { result ≡ listing_at self.now frame }
     {
-        match self.listings.get(frame as usize) {
+        match self.index.listings.get(frame as usize) {
             Some(listing) => *listing,
             None => Listing::Unlisted,
         }
@@ -77,14 +63,14 @@ impl Listings {
     pub fn shared_under(&self, key: u64) -> Option<u32>
         ensures { result ≡ position (is_shared_under key) self.now }
     {
-        index::find(&self.listings, &self.heads, &self.next, Kind::Shared, key)
+        self.index.find(Kind::Shared, key)
     }
 
     /// The least frame whose page is a hint under a key.
     pub fn hinted_under(&self, key: u64) -> Option<u32>
         ensures { result ≡ position (is_hinted_under key) self.now }
     {
-        index::find(&self.listings, &self.heads, &self.next, Kind::Hint, key)
+        self.index.find(Kind::Hint, key)
     }
 
     /// Trades what a frame stands under with what is handed over. Past the last frame nothing changes.
@@ -99,25 +85,21 @@ impl Listings {
         }
     }
 
+    /// Takes a frame off what it stands under.
     fn unlist(&mut self, frame: u32) -> Listing
         requires { frame < length self.old }
         ensures listings { self.new ≡ slice_set self.old frame Unlisted }
         ensures result { result ≡ listing_at self.old frame }
     {
-        index::unlist(&mut self.listings, &mut self.heads, &mut self.next, frame)
+        self.index.unlist(frame)
     }
 
+    /// Puts a frame that stands under nothing under a key.
     fn enlist(&mut self, frame: u32, listing: Listing)
         requires frame { frame < length self.old }
         requires unlisted { listing_at self.old frame ≡ Unlisted }
         ensures { self.new ≡ slice_set self.old frame listing }
     {
-        index::enlist(
-            &mut self.listings,
-            &mut self.heads,
-            &mut self.next,
-            frame,
-            listing,
-        );
+        self.index.enlist(frame, listing);
     }
 }

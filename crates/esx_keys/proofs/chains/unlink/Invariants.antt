@@ -1,4 +1,0 @@
-use Rattle.esx_keys.proofs.chains.unlink.Given as goal
-
-abbrev pub ghost-last_below : goal.ghost-last_below
-ghost-last_below g a = g.group
