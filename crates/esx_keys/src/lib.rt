@@ -7,6 +7,7 @@ mod content;
 mod entry;
 mod index;
 mod listings;
+mod order;
 mod table;
 #[cfg(test)]
 mod tests;
