@@ -1,5 +1,5 @@
 -- How far a walk along a chain has come.
-use Rattle.std.proofs.Common.{◌≡◌, ℕ, ◌+◌, ◌%◌, ◌<◌, ◌≤◌, Bool, true, false, List, length, Option, Some, None, position, get_or, refl, sym, ap, ◌∙◌, inl, inr, arith, below_more}
+use Rattle.std.proofs.Common.{◌≡◌, ℕ, ◌+◌, ◌%◌, ◌<◌, ◌≤◌, true, false, length, Some, None, position, get_or, sym, ap, inl, inr, arith, below_more}
 use Rattle.std.proofs.lemmas.Bool.{cases_Bool, cases_lt, false≢true, eqb-true}
 use Rattle.esx_index.specs.Lists.{position_is, position_none}
 use Rattle.esx_types.specs.declared.table.Listing.{Listing}

@@ -6,6 +6,7 @@ mod arena;
 mod content;
 mod entry;
 mod index;
+pub mod laws;
 mod listings;
 mod order;
 mod table;

@@ -1,5 +1,4 @@
-use Rattle.std.proofs.Common.{◌≡◌, ◌+◌, ◌∙◌, ap, sym, set, subst, length}
-use Rattle.esx_keys.specs.Chains.{link_at, AreApart}
+use Rattle.std.proofs.Common.{sym}
 use Rattle.esx_keys.specs.Index.{chain_in}
 use Rattle.esx_keys.proofs.Chained.{IsChained-entered}
 use Rattle.esx_keys.proofs.index.Index.enlink.Goals as goal
