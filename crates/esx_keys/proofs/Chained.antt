@@ -132,8 +132,8 @@ new_or_old group moved b c f (Some k) moves h =
       | inr d ↦ inr (sym (moves.others k d) ∙ h, d)
     ]
 
-pub IsChained-linked : (n : ℕ) (group moved : ℕ → Option ℕ) (heads next heads' next' : List ℕ) (c f : ℕ) (p : Option ℕ) → length heads' ≡ length heads → f < n → IsChained n group heads next → group f ≡ None → c < length heads → IsBefore group c f p → get_or next' f 0 ≡ link_at heads next c p → link_at heads' next' c p ≡ f → ((b : ℕ) (o : Option ℕ) → AreApart b o c p → AreApart b o c (Some f) → link_at heads' next' b o ≡ link_at heads next b o) → IsMoved group f (Some c) moved → IsChained n moved heads' next'
-IsChained-linked n group moved heads next heads' next' c f p same fits chained out small before on there others moves = λ b o less h.
+inserted_links : (n : ℕ) (group moved : ℕ → Option ℕ) (heads next heads' next' : List ℕ) (c f : ℕ) (p : Option ℕ) → length heads' ≡ length heads → f < n → IsChained n group heads next → group f ≡ None → c < length heads → IsBefore group c f p → get_or next' f 0 ≡ link_at heads next c p → link_at heads' next' c p ≡ f → ((b : ℕ) (o : Option ℕ) → AreApart b o c p → AreApart b o c (Some f) → link_at heads' next' b o ≡ link_at heads next b o) → IsMoved group f (Some c) moved → IsChained n moved heads' next'
+inserted_links n group moved heads next heads' next' c f p same fits chained out small before on there others moves = λ b o less h.
     let inside : b < length heads = omega arith in
     elim (new_or_old group moved b c f o moves h) [
       | inl e ↦
@@ -165,8 +165,8 @@ before_is_apart : (group : ℕ → Option ℕ) (c f : ℕ) (p : Option ℕ) → 
 before_is_apart group c f None before = tt
 before_is_apart group c f (Some k) before = λ e. let below : k + 1 ≤ f = before.below in omega arith
 
-pub IsChained-entered : (n : ℕ) (group moved : ℕ → Option ℕ) (heads next heads' next' : List ℕ) (c f : ℕ) (p : Option ℕ) → length heads' ≡ length heads → n ≡ length next → f < n → IsChained n group heads next → group f ≡ None → c < length heads → IsBefore group c f p → link_at heads' next' c p ≡ f → ((b : ℕ) (o : Option ℕ) → AreApart b o c p → link_at heads' next' b o ≡ link_at heads (set next f (link_at heads next c p)) b o) → IsMoved group f (Some c) moved → IsChained n moved heads' next'
-IsChained-entered n group moved heads next heads' next' c f p same size fits chained out small before there others moves =
+pub IsChained-inserted : (n : ℕ) (group moved : ℕ → Option ℕ) (heads next heads' next' : List ℕ) (c f : ℕ) (p : Option ℕ) → length heads' ≡ length heads → n ≡ length next → f < n → IsChained n group heads next → group f ≡ None → c < length heads → IsBefore group c f p → link_at heads' next' c p ≡ f → ((b : ℕ) (o : Option ℕ) → AreApart b o c p → link_at heads' next' b o ≡ link_at heads (set next f (link_at heads next c p)) b o) → IsMoved group f (Some c) moved → IsChained n moved heads' next'
+IsChained-inserted n group moved heads next heads' next' c f p same size fits chained out small before there others moves =
     let inside : f < length next = omega arith in
     let on : get_or next' f 0 ≡ link_at heads next c p = others c (Some f) (before_is_apart group c f p before) ∙ get_or-set_same next f (link_at heads next c p) 0 inside in
-    IsChained-linked n group moved heads next heads' next' c f p same fits chained out small before on there (λ b o apart aside. others b o apart ∙ links_aside heads next b c f (link_at heads next c p) o aside) moves
+    inserted_links n group moved heads next heads' next' c f p same fits chained out small before on there (λ b o apart aside. others b o apart ∙ links_aside heads next b c f (link_at heads next c p) o aside) moves
