@@ -1,5 +1,5 @@
 -- Rows, one by one.
-use Rattle.std.proofs.Common.{◌≡◌, ℕ, ◌+◌, ◌-◌, ◌<◌, false, List, length, get_or, inl, inr, below_more, arith}
+use Rattle.std.proofs.Common.{◌≡◌, ℕ, ◌+◌, ◌-◌, ◌<◌, false, List, length, get_or, ap, inl, inr, below_more, arith}
 use Rattle.std.proofs.lemmas.Bool.{cases_lt}
 use Rattle.std.proofs.lemmas.Bool.Decides.{nat_tests}
 use Rattle.std.specs.Ordering.{is_le, nat_cmp}
@@ -14,6 +14,12 @@ pub record AreRowsBelow (rows : List Row) (n : ℕ) : Type 0 where
 
 pub row_read : (rows : List Row) (i : ℕ) (row : Row) → i < length rows → row ≡ get_or rows i row → row ≡ row_at rows i
 row_read rows i row fits read = get_or_read rows i row fits read no_row
+
+pub good_read : (rows : List Row) (i : ℕ) (row : Row) → AreRows rows → i < length rows → row ≡ get_or rows i row → IsRow row
+good_read rows i row are fits read = rw (row_read rows i row fits read) (are.each i fits)
+
+pub pages_read : (rows : List Row) (i : ℕ) (row : Row) → i < length rows → row ≡ get_or rows i row → row.pages ≡ (row_at rows i).pages
+pages_read rows i row fits read = ap (λ (r : Row). r.pages) (row_read rows i row fits read)
 
 pub rows_begin : (rows : List Row) → AreRowsBelow rows 0
 rows_begin rows = record { each = λ i p. absurd (omega arith); ordered = λ i j p q. absurd (omega arith) }

@@ -1,8 +1,8 @@
 -- Laws of the ratio's order and of targets.
-use Rattle.std.specs.Prelude.{◌≡◌, ℕ, ◌<◌, ◌≤◌, ◌⊎◌, List}
+use Rattle.std.specs.Prelude.{◌≡◌, ℕ, ◌<◌, ◌≤◌, ◌⊎◌, ◌↔◌, IsTrue, MatchOption, List}
 use Rattle.esx_formulas.specs.declared.targets.Row.{Row}
-use Rattle.esx_formulas.specs.Ratio.{Claim, claim, ComesNoLater, IsRow, AreRows}
-use Rattle.esx_formulas.specs.Targets.{AreTargets}
+use Rattle.esx_formulas.specs.Ratio.{Claim, claim, ComesNoLater, IsRow, AreRows, AreAtFloor, HasLeastRatio}
+use Rattle.esx_formulas.specs.Targets.{AreTargets, comes_no_later, first_claim, targets_of}
 
 -- the ratio of some row at some pages
 pub record IsClaim (tau : ℕ) (c : Claim) : Type 0 where
@@ -27,3 +27,17 @@ IsOneListOfTargets = (tau : ℕ) (rows : List Row) (need : ℕ) (a b : List ℕ)
 abbrev pub HasTargetsForEachNeed : Type 0
 HasTargetsForEachNeed = (tau : ℕ) (rows : List Row) (need : ℕ) → tau ≤ 99 → AreRows rows →
     (targets : List ℕ) × AreTargets tau rows need targets
+
+-- the order of ratios as a test says what the order says
+abbrev pub IsTestOfOrder : Type 0
+IsTestOfOrder = (a b : Claim) → IsTrue (comes_no_later a b) ↔ ComesNoLater a b
+
+-- the first claim is that of a machine of least ratio, and there is none where no row has pages above its floor
+abbrev pub IsFirstClaimLeast : Type 0
+IsFirstClaimLeast = (tau : ℕ) (rows : List Row) → tau ≤ 99 → AreRows rows →
+    MatchOption (first_claim tau rows) (AreAtFloor rows) (λ a. HasLeastRatio tau rows a.vm)
+
+-- the list worked out page by page are targets, and no other list is
+abbrev pub AreTargetsOfPages : Type 0
+AreTargetsOfPages = (tau : ℕ) (rows : List Row) (need : ℕ) (targets : List ℕ) → tau ≤ 99 → AreRows rows →
+    AreTargets tau rows need targets ↔ targets ≡ targets_of tau rows need

@@ -35,17 +35,27 @@ fn first_payer(tau: u32, rows: &[Row]) -> Option<usize>
             continue;
         }
         match best {
-            Some(b) if comes_no_later(tau, &rows[b], rows[b].pages, row, row.pages) => {}
+            Some(b) if comes_no_later(tau, &rows[b], row) => {}
             _ => best = Some(i),
         }
     }
     best
 }
 
+/// Does the ratio of one row come no later than that of another, each at its own pages?
+fn comes_no_later(tau: u32, row: &Row, other: &Row) -> bool
+    requires tax { tau ≤ 99 }
+    requires row { IsRow row.now }
+    requires other { IsRow other.now }
+    ensures { IsTrue result ↔ ComesNoLater (claim tau row.now row.now.pages) (claim tau other.now other.now.pages) }
+{
+    comes_no_later_at(tau, row, row.pages, other, other.pages)
+}
+
 /// Does the ratio of one row at so many pages come no later than that of another at so many?
 ///
 /// Ratios compare by cross-multiplying; a product is below 2^64.
-pub fn comes_no_later(
+pub fn comes_no_later_at(
     tau: u32,
     row: &Row,
     pages: u32,

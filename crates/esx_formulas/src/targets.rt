@@ -5,7 +5,7 @@ ghost use Rattle.esx_formulas.specs.Ratio.{IsRow, AreRows};
 ghost use Rattle.esx_formulas.specs.Targets.{held, AreTargets, targets_of};
 ghost use Rattle.esx_formulas.specs.Payers.{IsBestBelow};
 
-use crate::ratio::comes_no_later;
+use crate::ratio::comes_no_later_at;
 use esx_types::{VM_NUMBERS, VmId};
 use std::alloc::{AllocError, Global};
 
@@ -92,7 +92,7 @@ fn next_payer(tau: u32, rows: &[Row], targets: &[u32]) -> Option<usize>
             continue;
         }
         match best {
-            Some(b) if comes_no_later(tau, &rows[b], targets[b], row, targets[i]) => {}
+            Some(b) if comes_no_later_at(tau, &rows[b], targets[b], row, targets[i]) => {}
             _ => best = Some(i),
         }
     }

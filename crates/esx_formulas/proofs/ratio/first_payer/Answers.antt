@@ -2,9 +2,9 @@ use Rattle.std.proofs.Common.{ℕ, ◌<◌, length, arith}
 use Rattle.esx_formulas.specs.Ratio.{row_at}
 use Rattle.esx_formulas.specs.Payers.{IsFirstBelow}
 use Rattle.esx_formulas.proofs.PayerLaws.{best_begins, best_keeps, best_yields}
-use Rattle.esx_average.proofs.RowLaws.{pages_read, good_read}
-use Rattle.esx_average.proofs.ratio.first_payer.Goals as goal
-use Rattle.esx_average.proofs.ratio.first_payer.Goals.{in-Some, in_default-2, in_default}
+use Rattle.esx_formulas.proofs.RowLaws.{pages_read, good_read}
+use Rattle.esx_formulas.proofs.ratio.first_payer.Goals as goal
+use Rattle.esx_formulas.proofs.ratio.first_payer.Goals.{in-Some, in_default-2, in_default}
 
 pub comes_no_later-requires-clause-other : goal.comes_no_later-requires-clause-other
 comes_no_later-requires-clause-other c = good_read c.args.rows.now c.loop-i.i c.index-rows-i.result c.requires.rows c.loop-i-test.true c.index-rows-i.is
