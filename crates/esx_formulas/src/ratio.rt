@@ -14,7 +14,7 @@ use esx_types::VmId;
 pub fn least_ratio(tau: u32, rows: &[Row]) -> Option<VmId>
     requires tax { tau ≤ 99 }
     requires rows { AreRows rows.now }
-    ensures relation { MatchOption result (AreAtFloor rows.now) (λ vm. HasLeastRatio tau rows.now vm) }
+    ensures least { MatchOption result (AreAtFloor rows.now) (λ vm. HasLeastRatio tau rows.now vm) }
     ensures value { result ≡ option_map (λ a. a.vm) (first_claim tau rows.now) }
 {
     match first_payer(tau, rows) {
