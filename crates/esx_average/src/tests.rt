@@ -1,5 +1,5 @@
 use crate::{Averages, Row, are_rows, least_ratio, targets};
-use esx_plain::targets as plain;
+use esx_formulas::targets as plain;
 use esx_types::VmId;
 use std::alloc::Global;
 use std::process::Abort;
