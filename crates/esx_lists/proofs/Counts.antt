@@ -1,0 +1,30 @@
+-- Counts over a list that changes at one place, and over one item many times.
+use Rattle.std.proofs.Common.{◌≡◌, ℕ, zero, suc, ◌+◌, ◌-◌, ◌<◌, ◌≤◌, Bool, true, false, not, cond, List, ◌∷◌, length, get_or, set, map, replicate, count_by, refl, ap, arith, mul-zero, ◌∙◌}
+use Rattle.std.specs.Bool.{beq}
+use Rattle.std.proofs.lemmas.List.Sums.{sum_by-set, get_or-le-sum_by}
+use Rattle.std.proofs.lemmas.List.Folds.{sum_by-replicate}
+
+-- a count after one item was written
+pub count_by-set : {X : Type 0} (p : X → Bool) (xs : List X) (i : ℕ) (x d : X) → i < length xs → count_by p (set xs i x) ≡ count_by p xs - cond (p (get_or xs i d)) 1 0 + cond (p x) 1 0
+count_by-set p xs i x d h =
+    let e = sum_by-set (λ y. cond (p y) 1 0) xs i x d h in
+    let l = get_or-le-sum_by (λ y. cond (p y) 1 0) xs i d h in
+    omega (arith, e, l)
+
+-- an item that passes is counted
+pub counted_there : {X : Type 0} (p : X → Bool) (xs : List X) (i : ℕ) (d : X) → i < length xs → cond (p (get_or xs i d)) 1 0 ≤ count_by p xs
+counted_there p xs i d h = get_or-le-sum_by (λ y. cond (p y) 1 0) xs i d h
+
+pub count_by-replicate : {X : Type 0} (p : X → Bool) (n : ℕ) (x : X) → p x ≡ false → count_by p (replicate n x) ≡ 0
+count_by-replicate p n x fails = sum_by-replicate (λ y. cond (p y) 1 0) n x ∙ rw fails (mul-zero n)
+
+pub map-replicate : {X Y : Type 0} (f : X → Y) (n : ℕ) (x : X) → map f (replicate n x) ≡ replicate n (f x)
+map-replicate f zero x = refl
+map-replicate f (suc n) x = ap (λ xs. f x ∷ xs) (map-replicate f n x)
+
+-- two tests that do not differ
+pub same_tests : (x y : Bool) → not (beq x y) ≡ false → x ≡ y
+same_tests true true e = refl
+same_tests false false e = refl
+same_tests true false e = cc
+same_tests false true e = cc

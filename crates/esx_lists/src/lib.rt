@@ -1,0 +1,4 @@
+//! Lists that change at one place: what a trade leaves, and the laws that it obeys.
+#![tactic(auto)]
+
+pub mod laws;
