@@ -2,7 +2,7 @@
 use Rattle.std.specs.Prelude.{ℕ, ◌+◌, ◌-◌, Bool, if◌then◌else◌, List, count_by}
 use Rattle.esx_types.specs.declared.table.FrameRow.{FrameRow}
 use Rattle.esx_types.specs.declared.table.FrameRow.TheVariants.{Free, Overhead, Private, Shared}
-use Rattle.esx_frames.specs.Rows.{is_free, is_overhead, is_private, is_shared}
+use Rattle.esx_types.specs.Frames.{is_free, is_overhead, is_private, is_shared}
 use Rattle.esx_frames.specs.declared.counts.Counts.{Counts}
 
 abbrev pub counts_of : List FrameRow → Counts

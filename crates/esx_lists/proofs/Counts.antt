@@ -1,7 +1,8 @@
 -- Counts over a list that changes at one place, and over one item many times.
-use Rattle.std.proofs.Common.{◌≡◌, ℕ, zero, suc, ◌+◌, ◌-◌, ◌<◌, ◌≤◌, Bool, true, false, not, cond, List, ◌∷◌, length, get_or, set, map, replicate, count_by, refl, ap, arith, mul-zero, ◌∙◌}
+use Rattle.std.proofs.Common.{◌≡◌, ℕ, zero, suc, ◌+◌, ◌-◌, ◌<◌, ◌≤◌, Bool, true, false, not, cond, List, ◌∷◌, length, get_or, set, map, replicate, count_by, sum, refl, sym, ap, arith, mul-zero, ◌∙◌}
 use Rattle.std.specs.Bool.{beq}
-use Rattle.std.proofs.lemmas.List.Sums.{sum_by-set, get_or-le-sum_by}
+use Rattle.std.proofs.Math.Seq.{map-set_same}
+use Rattle.std.proofs.lemmas.List.Sums.{sum_by-set, get_or-le-sum_by, sum-map}
 use Rattle.std.proofs.lemmas.List.Folds.{sum_by-replicate}
 
 -- a count after one item was written
@@ -10,6 +11,13 @@ count_by-set p xs i x d h =
     let e = sum_by-set (λ y. cond (p y) 1 0) xs i x d h in
     let l = get_or-le-sum_by (λ y. cond (p y) 1 0) xs i d h in
     omega (arith, e, l)
+
+-- the count stays where an item is written that passes as the one before it did
+pub count_by-set_same : {X : Type 0} (p : X → Bool) (xs : List X) (i : ℕ) (x d : X) → p x ≡ p (get_or xs i d) → count_by p (set xs i x) ≡ count_by p xs
+count_by-set_same {X = X} p xs i x d same =
+    let f = λ (y : X). cond (p y) 1 0 in
+    let e : map f (set xs i x) ≡ map f xs = map-set_same f xs i x d (rw same refl) in
+    sym (sum-map f (set xs i x)) ∙ ap sum e ∙ sum-map f xs
 
 -- an item that passes is counted
 pub counted_there : {X : Type 0} (p : X → Bool) (xs : List X) (i : ℕ) (d : X) → i < length xs → cond (p (get_or xs i d)) 1 0 ≤ count_by p xs

@@ -1,5 +1,5 @@
 -- Trades with a list lead back, and at two places they do not meet.
-use Rattle.std.proofs.Common.{◌≡◌, ◌≢◌, ℕ, zero, suc, ◌+◌, ◌-◌, ◌≤◌, List, [], ◌∷◌, ◌++◌, length, take, drop, refl, sym, ap, ◌∙◌, arith, append_assoc, nat_le, Bool, true, false, ◌&&◌, get_or-set_other}
+use Rattle.std.proofs.Common.{◌≡◌, ◌≢◌, ℕ, zero, suc, ◌+◌, ◌-◌, ◌<◌, ◌≤◌, List, [], ◌∷◌, ◌++◌, length, take, drop, refl, sym, ap, ◌∙◌, arith, append_assoc, nat_le, Bool, true, false, ◌&&◌, get_or-set_other}
 use Rattle.std.proofs.lemmas.List.{take-append-drop, set_comm}
 use Rattle.std.proofs.lemmas.Grind.{common_steps}
 use Rattle.std.proofs.lemmas.Bool.Decides.{nat_tests}
@@ -18,6 +18,13 @@ place_back {A = A} {B = B} f back d still [] i b =
     ap (λ (a : A). (none, (f a (f d b).1).1)) (sym (still b)) ∙ ap (λ (r : A × B). (none, r.1)) (back d b)
 place_back {A = A} {B = B} f back d still (x ∷ xs) zero b = ap (λ (r : A × B). (r.0 ∷ xs, r.1)) (back x b)
 place_back {A = A} {B = B} f back d still (x ∷ xs) (suc i) b = ap (λ (r : List A × B). (x ∷ r.0, r.1)) (place_back f back d still xs i b)
+
+-- at a place that there is, nothing more is asked
+pub place_back_inside : {A B : Type 0} (f : A → B → A × B) → LeadsBack f → (d : A) (xs : List A) (i : ℕ) (b : B) → i < length xs
+    → place_traded f (place_traded f xs i d b).0 i d (place_traded f xs i d b).1 ≡ (xs, b)
+place_back_inside f back d [] i b h = absurd (omega (arith, h))
+place_back_inside {A = A} {B = B} f back d (x ∷ xs) zero b h = ap (λ (r : A × B). (r.0 ∷ xs, r.1)) (back x b)
+place_back_inside {A = A} {B = B} f back d (x ∷ xs) (suc i) b h = ap (λ (r : List A × B). (x ∷ r.0, r.1)) (place_back_inside f back d xs i b (omega arith))
 
 -- of trades at two places it does not matter which comes first
 pub rows_apart : {A : Type 0} (xs : List A) (i j : ℕ) (x y : A) → i ≢ j → (row_traded (row_traded xs i x).0 j y).0 ≡ (row_traded (row_traded xs j y).0 i x).0
