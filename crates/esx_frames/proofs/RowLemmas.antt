@@ -8,7 +8,8 @@ use Rattle.esx_lists.proofs.Counts.{count_by-set, count_by-set_same, count_by-re
 use Rattle.esx_types.specs.declared.table.FrameRow.{FrameRow}
 use Rattle.esx_types.specs.declared.table.FrameRow.TheVariants.{Free, Overhead, Private, Shared}
 use Rattle.esx_types.specs.Frames.{is_free, is_overhead, is_private, is_shared, frame_at}
-use Rattle.esx_frames.specs.Counts.{counts_of, count_like, with_row, without_row, one}
+use Rattle.esx_frames.specs.Counts.{counts_of, count_like, with_row, without_row}
+use Rattle.esx_lists.specs.Counts.{one}
 use Rattle.esx_frames.specs.Table.{IsTable}
 use Rattle.esx_frames.specs.Marks.{bytes_traded, mark_traded}
 use Rattle.esx_frames.specs.declared.counts.Counts.{Counts}

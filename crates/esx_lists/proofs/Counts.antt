@@ -2,15 +2,24 @@
 use Rattle.std.proofs.Common.{◌≡◌, ℕ, zero, suc, ◌+◌, ◌-◌, ◌<◌, ◌≤◌, Bool, true, false, not, cond, List, ◌∷◌, length, get_or, set, map, replicate, count_by, sum, refl, sym, ap, arith, mul-zero, ◌∙◌}
 use Rattle.std.specs.Bool.{beq}
 use Rattle.std.proofs.Math.Seq.{map-set_same}
-use Rattle.std.proofs.lemmas.List.Sums.{sum_by-set, get_or-le-sum_by, sum-map}
+use Rattle.std.proofs.lemmas.List.Sums.{sum_by-set, get_or-le-sum_by, sum-map, count_by-le-length}
+use Rattle.std.proofs.lemmas.List.{length-set}
+use Rattle.esx_lists.specs.Counts.{one}
 use Rattle.std.proofs.lemmas.List.Folds.{sum_by-replicate}
 
 -- a count after one item was written
-pub count_by-set : {X : Type 0} (p : X → Bool) (xs : List X) (i : ℕ) (x d : X) → i < length xs → count_by p (set xs i x) ≡ count_by p xs - cond (p (get_or xs i d)) 1 0 + cond (p x) 1 0
+pub count_by-set : {X : Type 0} (p : X → Bool) (xs : List X) (i : ℕ) (x d : X) → i < length xs → count_by p (set xs i x) ≡ count_by p xs - one (p (get_or xs i d)) + one (p x)
 count_by-set p xs i x d h =
     let e = sum_by-set (λ y. cond (p y) 1 0) xs i x d h in
     let l = get_or-le-sum_by (λ y. cond (p y) 1 0) xs i d h in
     omega (arith, e, l)
+
+-- such a count is at most the length
+pub count_by-set-fits : {X : Type 0} (p : X → Bool) (xs : List X) (i : ℕ) (x d : X) (n : ℕ) → i < length xs → length xs < n → count_by p xs - one (p (get_or xs i d)) + one (p x) < n
+count_by-set-fits p xs i x d n h small =
+    let e = count_by-set p xs i x d h in
+    let l = count_by-le-length p (set xs i x) in
+    omega (arith, e, l, length-set xs i x)
 
 -- the count stays where an item is written that passes as the one before it did
 pub count_by-set_same : {X : Type 0} (p : X → Bool) (xs : List X) (i : ℕ) (x d : X) → p x ≡ p (get_or xs i d) → count_by p (set xs i x) ≡ count_by p xs
@@ -20,7 +29,7 @@ count_by-set_same {X = X} p xs i x d same =
     sym (sum-map f (set xs i x)) ∙ ap sum e ∙ sum-map f xs
 
 -- an item that passes is counted
-pub counted_there : {X : Type 0} (p : X → Bool) (xs : List X) (i : ℕ) (d : X) → i < length xs → cond (p (get_or xs i d)) 1 0 ≤ count_by p xs
+pub counted_there : {X : Type 0} (p : X → Bool) (xs : List X) (i : ℕ) (d : X) → i < length xs → one (p (get_or xs i d)) ≤ count_by p xs
 counted_there p xs i d h = get_or-le-sum_by (λ y. cond (p y) 1 0) xs i d h
 
 pub count_by-replicate : {X : Type 0} (p : X → Bool) (n : ℕ) (x : X) → p x ≡ false → count_by p (replicate n x) ≡ 0
