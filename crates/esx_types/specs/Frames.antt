@@ -1,5 +1,6 @@
 -- What a frame's row is, and the list of them.
-use Rattle.std.specs.Prelude.{ℕ, Bool, true, false, List, [], Option, position, slice_index_or}
+use Rattle.std.specs.Prelude.{ℕ, Bool, true, false, List, [], Option, slice_index_or}
+use Rattle.std.specs.List.{position_from}
 use Rattle.esx_types.specs.declared.table.FrameRow.{FrameRow}
 use Rattle.esx_types.specs.declared.table.FrameRow.TheVariants.{Free, Overhead, Private, Shared}
 
@@ -55,10 +56,10 @@ with_count Overhead n = Overhead
 with_count (Private bytes) n = Private bytes
 with_count (Shared count bytes) n = Shared n bytes
 
--- the row of a frame
-abbrev pub row_at : List FrameRow → ℕ → FrameRow
-row_at rows mpn = slice_index_or rows mpn Free
+-- the row of a frame; past the end it is free
+abbrev pub frame_at : List FrameRow → ℕ → FrameRow
+frame_at rows f = slice_index_or rows f Free
 
 -- the least frame that is free
-abbrev pub least_free : List FrameRow → Option ℕ
-least_free rows = position is_free rows
+abbrev pub least_frame : List FrameRow → Option ℕ
+least_frame rows = position_from is_free 0 rows
