@@ -1,4 +1,5 @@
 pub mod Arenas
+pub mod Chained
 pub mod Counts
 pub mod Heads
 pub mod Lists
@@ -9,4 +10,5 @@ pub mod Shifts
 pub mod Starts
 pub mod Tables
 pub mod Takes
+pub mod Walked
 pub mod Walks

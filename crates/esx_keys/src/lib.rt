@@ -4,10 +4,13 @@
 
 mod arena;
 mod entry;
+mod index;
+mod listings;
 mod table;
 #[cfg(test)]
 mod tests;
 
 pub use entry::{Entry, Kind};
 pub use esx_formulas::content_key as key;
+pub use listings::Listings;
 pub use table::Keys;

@@ -1,0 +1,105 @@
+//! What each frame stands under.
+
+ghost use Rattle.std.specs.Prelude.{◌≡◌, ◌<◌, IfOk, length, position, replicate, slice_set, slice_index_or};
+ghost use Rattle.esx_types.specs.declared.table.Listing.TheVariants.{Unlisted};
+ghost use Rattle.esx_keys.specs.Listed.{listing_at, is_shared_under, is_hinted_under};
+
+use crate::entry::Kind;
+use crate::index::Index;
+use esx_types::Listing;
+use std::alloc::{AllocError, Global};
+use std::marker::Model;
+
+/// What each frame stands under, seen as the list of it, and an index by key over it; a frame's number is
+/// its place.
+///
+/// No call but `new` and the two that list what stands takes memory. A listing takes 16 bytes, and a frame
+/// 8 to 12 more, for the next of its chain and for the heads of chains, of which there are the least power
+/// of two that is not less than the frames.
+#[derive(Drop)]
+pub struct Listings {
+    index: Index,
+}
+
+impl Model for Listings {
+    ghost use Rattle.std.specs.Prelude.{List};
+    ghost use Rattle.esx_types.specs.declared.table.Listing.{Listing};
+    ghost use Rattle.esx_keys.specs.Index.{IsIndex};
+
+    ghost Value = { List Listing };
+
+    ghost view = { λ a. a.index.listings.items };
+
+    ghost invariant = { λ a. IsIndex a.index };
+}
+
+impl Listings {
+    /// That many frames, none of which stands under a key.
+    pub fn new(alloc: Global, frames: u32) -> Result<Listings, AllocError>
+        ensures { IfOk result (λ l. l ≡ replicate frames Unlisted) }
+    {
+        let index = Index::new(alloc, frames)?;
+        Ok(Listings { index })
+    }
+
+    /// How many frames there are.
+    pub fn len(&self) -> u32
+        ensures { result ≡ length self.now }
+    {
+        self.index.listings.len() as u32
+    }
+
+    /// What a frame stands under; past the last frame, nothing.
+    pub fn get(&self, frame: u32) -> Listing
+        ensures { result ≡ listing_at self.now frame }
+    {
+        match self.index.listings.get(frame as usize) {
+            Some(listing) => *listing,
+            None => Listing::Unlisted,
+        }
+    }
+
+    /// The least frame that is shared under a key.
+    pub fn shared_under(&self, key: u64) -> Option<u32>
+        ensures { result ≡ position (is_shared_under key) self.now }
+    {
+        self.index.find(Kind::Shared, key)
+    }
+
+    /// The least frame whose page is a hint under a key.
+    pub fn hinted_under(&self, key: u64) -> Option<u32>
+        ensures { result ≡ position (is_hinted_under key) self.now }
+    {
+        self.index.find(Kind::Hint, key)
+    }
+
+    /// Trades what a frame stands under with what is handed over. Past the last frame nothing changes.
+    pub fn trade(&mut self, frame: u32, listing: &mut Listing)
+        ensures listings { self.new ≡ slice_set self.old frame listing.old }
+        ensures listing { listing.new ≡ slice_index_or self.old frame listing.old }
+    {
+        if frame < self.len() {
+            let before = self.unlist(frame);
+            self.enlist(frame, *listing);
+            *listing = before;
+        }
+    }
+
+    /// Takes a frame off what it stands under.
+    fn unlist(&mut self, frame: u32) -> Listing
+        requires { frame < length self.old }
+        ensures listings { self.new ≡ slice_set self.old frame Unlisted }
+        ensures result { result ≡ listing_at self.old frame }
+    {
+        self.index.unlist(frame)
+    }
+
+    /// Puts a frame that stands under nothing under a key.
+    fn enlist(&mut self, frame: u32, listing: Listing)
+        requires frame { frame < length self.old }
+        requires unlisted { listing_at self.old frame ≡ Unlisted }
+        ensures { self.new ≡ slice_set self.old frame listing }
+    {
+        self.index.enlist(frame, listing);
+    }
+}
