@@ -1,0 +1,8 @@
+pub mod Key
+pub mod Level
+pub mod Average
+pub mod Estimates
+pub mod Ratio
+pub mod Targets
+pub mod Payers
+pub mod ShareLaws
