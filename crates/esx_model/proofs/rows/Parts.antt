@@ -4,7 +4,7 @@ use Rattle.std.proofs.Common.{refl}
 use Rattle.esx_types.specs.declared.level.Level.{Level}
 use Rattle.esx_types.specs.declared.level.Level.TheVariants.{High, Soft, Hard, Low}
 use Rattle.esx_types.specs.declared.config.Config.{Config}
-use Rattle.esx_formulas.specs.declared.ratio.Row.{Row}
+use Rattle.esx_formulas.specs.declared.targets.Row.{Row}
 use Rattle.esx_formulas.specs.Level.{next_level, high_threshold, soft_threshold, hard_threshold, low_threshold, margin}
 use Rattle.esx_formulas.specs.Ratio.{Claim}
 use Rattle.esx_formulas.specs.Targets.{first_claim, after_revoking, targets_of}

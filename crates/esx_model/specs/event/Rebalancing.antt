@@ -8,7 +8,7 @@ use Rattle.esx_events.specs.declared.event.Refusal.{Refusal}
 use Rattle.esx_events.specs.declared.event.Refusal.TheVariants.{BadSpec}
 use Rattle.esx_model.specs.declared.scene.Vm.{Vm}
 use Rattle.esx_model.specs.declared.scene.Site.{Site}
-use Rattle.esx_formulas.specs.declared.ratio.Row.{Row}
+use Rattle.esx_formulas.specs.declared.targets.Row.{Row}
 use Rattle.esx_formulas.specs.Average.{slow_average, fast_average, so_far, active_share}
 use Rattle.esx_formulas.specs.Level.{high_threshold, margin}
 use Rattle.esx_formulas.specs.Targets.{spare, targets_of}
