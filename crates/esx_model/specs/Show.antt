@@ -17,7 +17,7 @@ use Rattle.esx_model.specs.declared.scene.Site.{Site}
 use Rattle.esx_model.specs.declared.scene.Scene.{Scene}
 use Rattle.esx_model.specs.declared.book.PeriodRow.{PeriodRow}
 use Rattle.esx_model.specs.declared.book.VmRow.{VmRow}
-use Rattle.esx_model.specs.declared.book.KeyRow.{KeyRow}
+use Rattle.esx_types.specs.declared.table.KeyRow.{KeyRow}
 use Rattle.esx_model.specs.declared.book.Book.{Book}
 use Rattle.esx_formulas.specs.Average.{slow_average, fast_average, is_touched}
 use Rattle.esx_formulas.specs.Key.{content_key}

@@ -12,14 +12,14 @@ use Rattle.esx_formulas.specs.Key.{content_key}
 use Rattle.esx_model.specs.declared.scene.Place.{Place}
 use Rattle.esx_model.specs.declared.scene.Place.TheVariants.{Untouched, Here, Out, Lent}
 use Rattle.esx_model.specs.declared.scene.Vm.{Vm}
-use Rattle.esx_model.specs.declared.scene.Hint.{Hint}
+use Rattle.esx_types.specs.declared.table.Hint.{Hint}
 use Rattle.esx_model.specs.declared.scene.Site.{Site}
 use Rattle.esx_model.specs.declared.book.VmRow.{VmRow}
-use Rattle.esx_model.specs.declared.book.KeyRow.{KeyRow}
+use Rattle.esx_types.specs.declared.table.KeyRow.{KeyRow}
 use Rattle.esx_model.specs.declared.book.Book.{Book}
 use Rattle.esx_model.specs.declared.look.Standing.{Standing}
-use Rattle.esx_model.specs.declared.tables.Listing.{Listing}
-use Rattle.esx_model.specs.declared.tables.Listing.TheVariants as listings
+use Rattle.esx_types.specs.declared.table.Listing.{Listing}
+use Rattle.esx_types.specs.declared.table.Listing.TheVariants as listings
 use Rattle.esx_model.specs.declared.tables.VmFacts.{VmFacts}
 use Rattle.esx_model.specs.declared.tables.VmTable.{VmTable}
 use Rattle.esx_model.specs.declared.tables.Tables.{Tables}
@@ -71,13 +71,13 @@ abbrev pub is_hint_in : Site → ℕ → Hint → Bool
 is_hint_in s f h = is_here_at f (place_in (vm_at s h.vm) h.page)
 
 abbrev pub hint_listing : Option Hint → Listing
-hint_listing None = listings.Nothing
-hint_listing (Some h) = listings.Hinted h.key h.vm h.page
+hint_listing None = listings.Unlisted
+hint_listing (Some h) = listings.Hinted h.vm h.page h.key
 
 -- a shared frame stands under its key, a private one under that of its page's hint
 abbrev pub listing_by : FrameRow → Option Hint → Listing
-listing_by frames.Free hint = listings.Nothing
-listing_by frames.Overhead hint = listings.Nothing
+listing_by frames.Free hint = listings.Unlisted
+listing_by frames.Overhead hint = listings.Unlisted
 listing_by (frames.Private bytes) hint = hint_listing hint
 listing_by (frames.Shared count bytes) hint = listings.Shared (content_key bytes)
 
@@ -121,16 +121,16 @@ read_vm v = record {
 -- the hints that the listings name, in order of key
 unfoldable pub read_hints : List Listing → List Hint
 read_hints [] = []
-read_hints (listings.Nothing ∷ rows) = read_hints rows
+read_hints (listings.Unlisted ∷ rows) = read_hints rows
 read_hints (listings.Shared key ∷ rows) = read_hints rows
-read_hints (listings.Hinted key n page ∷ rows) = in_order (record { key = key; vm = n; page = page }) (read_hints rows)
+read_hints (listings.Hinted n page key ∷ rows) = in_order (record { key = key; vm = n; page = page }) (read_hints rows)
 
 -- the shared frames from frame f on, in order of key
 unfoldable pub read_keys : ℕ → List Listing → List KeyRow
 read_keys f [] = []
-read_keys f (listings.Nothing ∷ rows) = read_keys (f + 1) rows
+read_keys f (listings.Unlisted ∷ rows) = read_keys (f + 1) rows
 read_keys f (listings.Shared key ∷ rows) = with_key (record { key = key; frame = f }) (read_keys (f + 1) rows)
-read_keys f (listings.Hinted key n page ∷ rows) = read_keys (f + 1) rows
+read_keys f (listings.Hinted n page key ∷ rows) = read_keys (f + 1) rows
 
 abbrev pub book_from : Tables → Level → Book
 book_from t level = record {

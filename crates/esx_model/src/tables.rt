@@ -1,7 +1,7 @@
 //! The tables that a machine keeps of a site, as it keeps them.
 
 use crate::book::PeriodRow;
-use esx_types::{FrameRow, MapRow, Rows, SlotRow, VmId, VmSpec, VmState};
+use esx_types::{FrameRow, Listing, MapRow, Rows, SlotRow, VmSpec, VmState};
 
 /// What a virtual machine's row tells in small numbers.
 ///
@@ -31,16 +31,6 @@ pub struct VmTable {
     /// Where each page is. A loan stands with its epoch, also one that is over.
     pub pages: Rows<MapRow>,
     pub period: Option<PeriodRow>,
-}
-
-/// What a frame stands under in the order of keys.
-#[derive(Clone, Copy, Debug, PartialEq, Eq)]
-pub enum Listing {
-    Nothing,
-    /// Its pages are shared, under the key of their content.
-    Shared { key: u64 },
-    /// Its one page is the hint under a key.
-    Hinted { key: u64, vm: VmId, page: u32 },
 }
 
 /// Every table of a site, and the idle memory tax in percent.

@@ -1,7 +1,7 @@
 -- What the hints of a site on a path keep.
 use Rattle.std.specs.Prelude.{◌≡◌, ℕ, ◌≤◌, ◌<◌, ◌^◌, true, length, filter, AllPairs}
 use Rattle.std.specs.List.{AllByRecursion}
-use Rattle.esx_model.specs.declared.scene.Hint.{Hint}
+use Rattle.esx_types.specs.declared.table.Hint.{Hint}
 use Rattle.esx_model.specs.declared.scene.Site.{Site}
 use Rattle.esx_model.specs.Places.{is_private}
 use Rattle.esx_model.specs.Site.{vm_at, place_in}
