@@ -7,3 +7,4 @@ pub mod Claims
 pub mod TargetLaws
 pub mod Revoking
 pub mod AverageLaws
+pub mod rows
