@@ -4,8 +4,10 @@ pub mod Counts
 pub mod Heads
 pub mod Lists
 pub mod Moved
+pub mod Ordered
 pub mod Picked
 pub mod Puts
+pub mod Rows
 pub mod Shifts
 pub mod Starts
 pub mod Tables

@@ -6,6 +6,7 @@ mod arena;
 mod entry;
 mod index;
 mod listings;
+mod order;
 mod table;
 #[cfg(test)]
 mod tests;

@@ -2,11 +2,15 @@
 
 ghost use Rattle.std.specs.Prelude.{◌≡◌, ◌<◌, IfOk, length, position, replicate, slice_set, slice_index_or};
 ghost use Rattle.esx_types.specs.declared.table.Listing.TheVariants.{Unlisted};
-ghost use Rattle.esx_keys.specs.Listed.{listing_at, is_shared_under, is_hinted_under};
+ghost use Rattle.esx_plain.specs.declared.book.KeyRow.{KeyRow};
+ghost use Rattle.esx_plain.specs.declared.scene.Hint.{Hint};
+ghost use Rattle.esx_keys.specs.Listed.{listing_at, is_shared_under, is_hinted_under, shared_from, hints_of, in_order};
 
 use crate::entry::Kind;
 use crate::index::Index;
-use esx_types::Listing;
+use crate::order;
+use esx_plain::{Hint, KeyRow};
+use esx_types::{Listing, Rows};
 use std::alloc::{AllocError, Global};
 use std::marker::Model;
 
@@ -71,6 +75,20 @@ impl Listings {
         ensures { result ≡ position (is_hinted_under key) self.now }
     {
         self.index.find(Kind::Hint, key)
+    }
+
+    /// The shared frames in order of key, and those under one key in order of number.
+    pub fn shared(&self, alloc: Global) -> Result<Rows<KeyRow>, AllocError>
+        ensures { IfOk result (λ rows. rows ≡ in_order (λ (row : KeyRow). row.key) (shared_from 0 self.now)) }
+    {
+        order::shared_in_order(alloc, &self.index.listings)
+    }
+
+    /// The hints in order of key, and those under one key in order of their frames.
+    pub fn hints(&self, alloc: Global) -> Result<Rows<Hint>, AllocError>
+        ensures { IfOk result (λ rows. rows ≡ in_order (λ (hint : Hint). hint.key) (hints_of self.now)) }
+    {
+        order::hints_in_order(alloc, &self.index.listings)
     }
 
     /// Trades what a frame stands under with what is handed over. Past the last frame nothing changes.
