@@ -2,14 +2,14 @@
 
 ghost use Rattle.std.specs.Prelude.{◌≡◌, ◌<◌, IfOk, length, position, replicate, slice_set, slice_index_or};
 ghost use Rattle.esx_types.specs.declared.table.Listing.TheVariants.{Unlisted};
-ghost use Rattle.esx_plain.specs.declared.book.KeyRow.{KeyRow};
-ghost use Rattle.esx_plain.specs.declared.scene.Hint.{Hint};
+ghost use Rattle.esx_types.specs.declared.table.KeyRow.{KeyRow};
+ghost use Rattle.esx_types.specs.declared.table.Hint.{Hint};
 ghost use Rattle.esx_keys.specs.Listed.{listing_at, is_shared_under, is_hinted_under, shared_from, hints_of, in_order};
 
 use crate::entry::Kind;
 use crate::index::Index;
 use crate::order;
-use esx_plain::{Hint, KeyRow};
+use esx_types::{Hint, KeyRow};
 use esx_types::{Listing, Rows};
 use std::alloc::{AllocError, Global};
 use std::marker::Model;
