@@ -5,6 +5,7 @@ pub use Rattle.esx_formulas.specs.Ratio
 pub use Rattle.esx_formulas.specs.Targets
 pub use Rattle.esx_formulas.specs.Level
 pub use Rattle.esx_formulas.specs.ShareLaws
+pub use Rattle.esx_formulas.specs.LevelLaws
 pub use Rattle.esx_formulas.specs.Payers
 pub mod Site
 pub mod Step
