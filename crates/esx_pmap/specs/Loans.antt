@@ -1,5 +1,5 @@
 -- How many pages are lent in each epoch, in the order of the epochs.
-use Rattle.std.specs.Prelude.{◌≡◌, ℕ, ◌<◌, ◌≤◌, ◌==◌, List, length, slice_index_or, sum_by, if◌then◌else◌}
+use Rattle.std.specs.Prelude.{ℕ, ◌<◌, ◌≤◌, ◌==◌, List, length, slice_index_or, sum_by, if◌then◌else◌}
 use Rattle.esx_pmap.specs.declared.loans.Loan.{Loan}
 
 abbrev pub loan_at : List Loan → ℕ → Loan

@@ -178,4 +178,23 @@ mod tests {
         assert_eq!(rt; map.block(1), 1);
         Ok(())
     }
+
+    #[test]
+    fn counts_pages_out_and_lent(rt: HostRuntime) -> Result<(), Fail> {
+        let mut map = PageMap::new(rt.alloc(), 4)?;
+        for (page, epoch) in [(0, 5), (1, 5), (2, 3), (9, 5)] {
+            map.trade(page, &mut MapRow::Lent { epoch });
+        }
+        map.trade(3, &mut MapRow::Out { slot: 0 });
+        assert_eq!(rt; map.out(), 1);
+        assert_eq!(rt; map.lent(5), 2);
+        assert_eq!(rt; map.lent(3), 1);
+        assert_eq!(rt; map.lent(4), 0);
+        let mut row = MapRow::Untouched;
+        map.trade(2, &mut row);
+        assert_eq!(rt; row, MapRow::Lent { epoch: 3 });
+        assert_eq!(rt; map.lent(3), 0);
+        assert_eq!(rt; map.rows().len(), 4);
+        Ok(())
+    }
 }

@@ -1,8 +1,8 @@
-use Rattle.std.proofs.Common.{◌≡◌, ◌/◌, ◌<◌, length, ap, sym, ◌∙◌, arith}
+use Rattle.std.proofs.Common.{◌/◌, ◌<◌, length, ap, ◌∙◌, arith}
 use Rattle.std.proofs.lemmas.List.{get_or_read}
 use Rattle.esx_types.specs.declared.table.MapRow.TheVariants.{Untouched}
-use Rattle.esx_types.specs.Pages.{is_here, is_out, is_lent, is_lent_in, page_at}
-use Rattle.esx_lists.proofs.Counts.{counted_there, count_by-set-fits}
+use Rattle.esx_types.specs.Pages.{is_here, is_out}
+use Rattle.esx_lists.proofs.Counts.{count_by-set-fits}
 use Rattle.esx_pmap.proofs.MapLemmas.{block_there, block_fits, map_set, loans_moved, others_lent}
 use Rattle.esx_pmap.proofs.map.PageMap.swap_row.Goals as goal
 
@@ -71,6 +71,8 @@ invariant_of-self c =
     let all = rw (was, c.is_here-is.ensures) at c.moved-self-inside.ensures in
     let away = rw (out, c.is_out-2.ensures) at c.moved-self-inside-2.ensures in
     let lost = rw old at c.leave.ensures.all in
-    rw c.swap.ensures.x_after (map_set _ _ _ _ _ _ _ _ _ m h counted all away,
-    loans_moved rows c.args.page row c.self.inside.loans.items c.leave.new.loans.items c.enter.new.loans.items _ _ h c.self.invariant.1 (omega (arith, c.leave.ensures.room, c.enter.ensures.room)) c.enter.ensures.loans
-    (λ e. rw old at (c.leave.ensures.each e)) lost c.enter.ensures.each c.enter.ensures.all)
+    rw c.swap.ensures.x_after (
+      map_set _ _ _ _ _ _ _ _ _ m h counted all away,
+      loans_moved rows c.args.page row c.self.inside.loans.items c.leave.new.loans.items c.enter.new.loans.items _ _ h c.self.invariant.1 (omega (arith, c.leave.ensures.room, c.enter.ensures.room)) c.enter.ensures.loans
+          (λ e. rw old at (c.leave.ensures.each e)) lost c.enter.ensures.each c.enter.ensures.all,
+    )
