@@ -1,8 +1,9 @@
 -- Counts over a list that changes at one place, and over one item many times.
-use Rattle.std.proofs.Common.{◌≡◌, ℕ, zero, suc, ◌+◌, ◌-◌, ◌<◌, ◌≤◌, Bool, true, false, not, cond, List, ◌∷◌, length, get_or, set, map, replicate, count_by, sum, refl, sym, ap, arith, mul-zero, ◌∙◌}
+use Rattle.std.proofs.Common.{◌≡◌, ◌≢◌, [], ℕ, zero, suc, ◌+◌, ◌-◌, ◌<◌, ◌≤◌, Bool, true, false, not, cond, List, ◌∷◌, length, get_or, set, map, replicate, count_by, sum, refl, sym, ap, arith, mul-zero, ◌∙◌}
 use Rattle.std.specs.Bool.{beq}
 use Rattle.std.proofs.Math.Seq.{map-set_same}
-use Rattle.std.proofs.lemmas.List.Sums.{sum_by-set, get_or-le-sum_by, sum-map, count_by-le-length}
+use Rattle.std.specs.List.{sum_by}
+use Rattle.std.proofs.lemmas.List.Sums.{sum_by-cons, sum_by-set, get_or-le-sum_by, sum-map, count_by-le-length}
 use Rattle.std.proofs.lemmas.List.{length-set}
 use Rattle.esx_lists.specs.Counts.{one}
 use Rattle.std.proofs.lemmas.List.Folds.{sum_by-replicate}
@@ -45,3 +46,21 @@ same_tests true true e = refl
 same_tests false false e = refl
 same_tests true false e = cc
 same_tests false true e = cc
+
+-- a sum of nothing, and a sum of which one item alone makes anything
+pub sum_of_none : {X : Type 0} (f : X → ℕ) (xs : List X) (d : X) → ((k : ℕ) → k < length xs → f (get_or xs k d) ≡ 0) → sum_by f xs ≡ 0
+sum_of_none f [] d none = refl
+sum_of_none f (x ∷ xs) d none =
+    let head : f x ≡ 0 = none zero (omega arith) in
+    let rest : sum_by f xs ≡ 0 = sum_of_none f xs d (λ k h. none (suc k) (omega arith)) in
+    rw (sum_by-cons f x xs) (omega arith)
+
+pub sum_of_one : {X : Type 0} (f : X → ℕ) (xs : List X) (i : ℕ) (d : X) → i < length xs → ((k : ℕ) → k < length xs → k ≢ i → f (get_or xs k d) ≡ 0) → sum_by f xs ≡ f (get_or xs i d)
+sum_of_one f [] i d h others = absurd (omega arith)
+sum_of_one f (x ∷ xs) zero d h others =
+    let rest : sum_by f xs ≡ 0 = sum_of_none f xs d (λ k l. others (suc k) (omega arith) (λ e. omega arith)) in
+    rw (sum_by-cons f x xs) (omega arith)
+sum_of_one f (x ∷ xs) (suc i) d h others =
+    let head : f x ≡ 0 = others zero (omega arith) (λ e. omega arith) in
+    let rest : sum_by f xs ≡ f (get_or xs i d) = sum_of_one f xs i d (omega arith) (λ k l ne. others (suc k) (omega arith) (λ e. ne (omega arith))) in
+    rw (sum_by-cons f x xs) (omega arith)
