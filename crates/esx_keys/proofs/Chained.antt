@@ -6,7 +6,7 @@ use Rattle.esx_keys.specs.Chains.{after, link_at, IsIn, AreApart, Leads, IsChain
 -- two places of chains are one, or have links of their own
 same_or_apart : (group : ℕ → Option ℕ) (b c : ℕ) (o p : Option ℕ) → IsIn group b o → IsIn group c p → ((b ≡ c) × (o ≡ p)) ⊎ AreApart b o c p
 same_or_apart group b c None None h i =
-    elim (cases_eq b c) [ | inl e ↦ inl (e, refl) | inr d ↦ inr d ]
+    elim (cases_eq b c) [ inl e ↦ inl (e, refl) | inr d ↦ inr d ]
 same_or_apart group b c None (Some k) h i = inr tt
 same_or_apart group b c (Some j) None h i = inr tt
 same_or_apart group b c (Some j) (Some k) h i =
@@ -56,10 +56,10 @@ leads_over : (n : ℕ) (group moved : ℕ → Option ℕ) (b i f to : ℕ) → I
 leads_over n group moved b i f to moves before none leads = record {
   onward = omega (arith, leads.onward);
   skips = λ k from below here.
-  let off : k ≢ f = λ e. let h : None ≡ Some b = sym moves.there ∙ ap moved (sym e) ∙ here in cc in
-  let was : group k ≡ Some b = sym (moves.others k off) ∙ here in
-  let up : k < f → ⊥ = λ l. none k from l was in
-  leads.skips k (omega arith) below was;
+      let off : k ≢ f = λ e. let h : None ≡ Some b = sym moves.there ∙ ap moved (sym e) ∙ here in cc in
+      let was : group k ≡ Some b = sym (moves.others k off) ∙ here in
+      let up : k < f → ⊥ = λ l. none k from l was in
+      leads.skips k (omega arith) below was;
   lands = λ l. let past : f + 1 ≤ to = leads.onward in let off : to ≢ f = omega arith in moves.others to off ∙ leads.lands l;
 }
 
@@ -114,9 +114,9 @@ IsChained-unlinked n group moved heads next heads' next' c f p same fits chained
       | inr apart ↦
           let leads : Leads n group b (after o) (link_at heads next b o) = chained b o inside was in
           let off : link_at heads next b o ≢ f = λ e.
-            let to_f : Leads n group b (after o) f = subst (λ t. Leads n group b (after o) t) e leads in
-            let one : Some b ≡ Some c = sym (to_f.lands fits) ∙ here in
-            other_place group b c f o p (cc one) was apart to_f.onward to_f.skips before in
+          let to_f : Leads n group b (after o) f = subst (λ t. Leads n group b (after o) t) e leads in
+          let one : Some b ≡ Some c = sym (to_f.lands fits) ∙ here in
+          other_place group b c f o p (cc one) was apart to_f.onward to_f.skips before in
           rw (others b o apart) (leads_aside n group moved b (after o) f (link_at heads next b o) None moves (λ _ _ x. cc) off leads)
     ]
 
@@ -132,8 +132,8 @@ new_or_old group moved b c f (Some k) moves h =
       | inr d ↦ inr (sym (moves.others k d) ∙ h, d)
     ]
 
-pub IsChained-linked : (n : ℕ) (group moved : ℕ → Option ℕ) (heads next heads' next' : List ℕ) (c f : ℕ) (p : Option ℕ) → length heads' ≡ length heads → f < n → IsChained n group heads next → group f ≡ None → c < length heads → IsBefore group c f p → get_or next' f 0 ≡ link_at heads next c p → link_at heads' next' c p ≡ f → ((b : ℕ) (o : Option ℕ) → AreApart b o c p → AreApart b o c (Some f) → link_at heads' next' b o ≡ link_at heads next b o) → IsMoved group f (Some c) moved → IsChained n moved heads' next'
-IsChained-linked n group moved heads next heads' next' c f p same fits chained out small before on there others moves = λ b o less h.
+inserted_links : (n : ℕ) (group moved : ℕ → Option ℕ) (heads next heads' next' : List ℕ) (c f : ℕ) (p : Option ℕ) → length heads' ≡ length heads → f < n → IsChained n group heads next → group f ≡ None → c < length heads → IsBefore group c f p → get_or next' f 0 ≡ link_at heads next c p → link_at heads' next' c p ≡ f → ((b : ℕ) (o : Option ℕ) → AreApart b o c p → AreApart b o c (Some f) → link_at heads' next' b o ≡ link_at heads next b o) → IsMoved group f (Some c) moved → IsChained n moved heads' next'
+inserted_links n group moved heads next heads' next' c f p same fits chained out small before on there others moves = λ b o less h.
     let inside : b < length heads = omega arith in
     elim (new_or_old group moved b c f o moves h) [
       | inl e ↦
@@ -147,11 +147,11 @@ IsChained-linked n group moved heads next heads' next' c f p same fits chained o
             | inr apart ↦
                 let leads : Leads n group b (after o) (link_at heads next b o) = chained b o inside old.0 in
                 let off : link_at heads next b o ≢ f = λ e.
-                  let to_f : Leads n group b (after o) f = subst (λ t. Leads n group b (after o) t) e leads in
-                  let nothing : None ≡ Some b = sym out ∙ to_f.lands fits in
-                  cc in
+                let to_f : Leads n group b (after o) f = subst (λ t. Leads n group b (after o) t) e leads in
+                let nothing : None ≡ Some b = sym out ∙ to_f.lands fits in
+                cc in
                 let over : after o ≤ f → f < link_at heads next b o → Some c ≢ Some b = λ from below e.
-                  other_place group b c f o p (cc e) old.0 apart from (λ k past under. leads.skips k past (omega arith)) before in
+                other_place group b c f o p (cc e) old.0 apart from (λ k past under. leads.skips k past (omega arith)) before in
                 rw (others b o apart old.1) (leads_aside n group moved b (after o) f (link_at heads next b o) (Some c) moves over off leads)
           ]
     ]
@@ -165,8 +165,8 @@ before_is_apart : (group : ℕ → Option ℕ) (c f : ℕ) (p : Option ℕ) → 
 before_is_apart group c f None before = tt
 before_is_apart group c f (Some k) before = λ e. let below : k + 1 ≤ f = before.below in omega arith
 
-pub IsChained-entered : (n : ℕ) (group moved : ℕ → Option ℕ) (heads next heads' next' : List ℕ) (c f : ℕ) (p : Option ℕ) → length heads' ≡ length heads → n ≡ length next → f < n → IsChained n group heads next → group f ≡ None → c < length heads → IsBefore group c f p → link_at heads' next' c p ≡ f → ((b : ℕ) (o : Option ℕ) → AreApart b o c p → link_at heads' next' b o ≡ link_at heads (set next f (link_at heads next c p)) b o) → IsMoved group f (Some c) moved → IsChained n moved heads' next'
-IsChained-entered n group moved heads next heads' next' c f p same size fits chained out small before there others moves =
+pub IsChained-inserted : (n : ℕ) (group moved : ℕ → Option ℕ) (heads next heads' next' : List ℕ) (c f : ℕ) (p : Option ℕ) → length heads' ≡ length heads → n ≡ length next → f < n → IsChained n group heads next → group f ≡ None → c < length heads → IsBefore group c f p → link_at heads' next' c p ≡ f → ((b : ℕ) (o : Option ℕ) → AreApart b o c p → link_at heads' next' b o ≡ link_at heads (set next f (link_at heads next c p)) b o) → IsMoved group f (Some c) moved → IsChained n moved heads' next'
+IsChained-inserted n group moved heads next heads' next' c f p same size fits chained out small before there others moves =
     let inside : f < length next = omega arith in
     let on : get_or next' f 0 ≡ link_at heads next c p = others c (Some f) (before_is_apart group c f p before) ∙ get_or-set_same next f (link_at heads next c p) 0 inside in
-    IsChained-linked n group moved heads next heads' next' c f p same fits chained out small before on there (λ b o apart aside. others b o apart ∙ links_aside heads next b c f (link_at heads next c p) o aside) moves
+    inserted_links n group moved heads next heads' next' c f p same fits chained out small before on there (λ b o apart aside. others b o apart ∙ links_aside heads next b c f (link_at heads next c p) o aside) moves

@@ -1,6 +1,7 @@
 pub mod Arenas
 pub mod Chained
 pub mod Counts
+pub mod Found
 pub mod Heads
 pub mod Lists
 pub mod Moved
@@ -12,5 +13,6 @@ pub mod Shifts
 pub mod Starts
 pub mod Tables
 pub mod Takes
+pub mod Trades
 pub mod Walked
 pub mod Walks

@@ -1,5 +1,5 @@
 -- The rows of shared frames, frame by frame.
-use Rattle.std.proofs.Common.{◌≡◌, ℕ, zero, suc, ◌+◌, ◌<◌, List, [], ◌∷◌, ◌++◌, length, get_or, take, Option, Some, None, refl, sym, ap, ◌∙◌, arith, add-one, append-nil}
+use Rattle.std.proofs.Common.{◌≡◌, ℕ, zero, suc, ◌+◌, ◌<◌, List, [], ◌∷◌, ◌++◌, length, get_or, take, Option, Some, None, refl, ap, ◌∙◌, arith, add-one, append-nil}
 use Rattle.std.specs.List.{cons_option}
 use Rattle.esx_types.specs.declared.table.Listing.{Listing}
 use Rattle.esx_types.specs.declared.table.KeyRow.{KeyRow}

@@ -137,7 +137,7 @@ impl Index {
     }
 
     /// Puts a frame into a chain.
-    fn enlink(&mut self, chain: usize, frame: u32)
+    fn insert(&mut self, chain: usize, frame: u32)
         requires index { IsIndex self.old }
         requires chain { chain < length self.old.heads.items }
         requires frame { frame < length self.old.listings.items }
@@ -174,7 +174,7 @@ impl Index {
         ensures listings { self.new.listings.items ≡ slice_set self.old.listings.items frame listing }
     {
         if let Some(chain) = chain_of(&listing, self.heads.len()) {
-            self.enlink(chain, frame);
+            self.insert(chain, frame);
         }
         self.listings[frame as usize] = listing;
     }

@@ -5,6 +5,7 @@
 mod arena;
 mod entry;
 mod index;
+pub mod laws;
 mod listings;
 mod order;
 mod table;

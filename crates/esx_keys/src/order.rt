@@ -68,10 +68,7 @@ pub(crate) fn shared_in_order(
 }
 
 /// The hints, in order of key.
-pub(crate) fn hints_in_order(
-    alloc: Global,
-    listings: &[Listing],
-) -> Result<Rows<Hint>, AllocError>
+pub(crate) fn hints_in_order(alloc: Global, listings: &[Listing]) -> Result<Rows<Hint>, AllocError>
     ensures { IfOk result (λ rows. rows ≡ in_order (λ (hint : Hint). hint.key) (hints_of listings.now)) }
 {
     let mut rows = hint_rows(alloc, listings)?;

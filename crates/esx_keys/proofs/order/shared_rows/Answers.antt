@@ -1,4 +1,4 @@
-use Rattle.std.proofs.Common.{◌≡◌, ◌<◌, ◌++◌, ◌∷◌, [], length, sym, ap, ◌∙◌, arith}
+use Rattle.std.proofs.Common.{◌<◌, ◌++◌, ◌∷◌, [], length, sym, ap, ◌∙◌, arith}
 use Rattle.esx_keys.proofs.Rows.{shared_from-push, shared_from-same}
 use Rattle.esx_keys.proofs.order.shared_rows.Goals as goal
 use Rattle.esx_keys.proofs.order.shared_rows.Goals.{in-Some+in_ok-push, in_default}
