@@ -1,6 +1,6 @@
 //! The desk.
 
-ghost use Rattle.std.specs.Prelude.{◌≡◌, ℕ, ◌<◌, ◌≤◌, ◌%◌, ◌≢◌, ◌&&◌, ◌||◌, ◌↔◌, not, true, false, [], length, IsTrue, IfOk, IfErr, OnErr};
+ghost use Rattle.std.specs.Prelude.{◌≡◌, ℕ, ◌<◌, ◌≤◌, ◌%◌, ◌≢◌, ◌&&◌, ◌||◌, ◌↔◌, not, true, false, [], length, All, IsTrue, IfOk, IfErr, OnErr};
 ghost use Rattle.esx_types.specs.Ranges.{IsConfig};
 ghost use Rattle.esx_types.specs.Ids.{has};
 ghost use Rattle.esx_lock.specs.Words.{word_for};
@@ -53,6 +53,7 @@ impl Desk {
     ) -> Result<(Desk, Vec<Pass>), Refusal>
         requires { (0 < callers) × (callers ≤ CALLERS) }
         ensures desk { IfOk result (λ r. (r.0.callers ≡ callers) × IsConfig config) }
+        ensures own { IfOk result (λ r. All (IsOf r.0) r.1.items) }
         ensures passes { IfOk result (λ r. (length r.1.items ≡ callers) × AreOpened r.0.table callers config [] r.1.items) }
         ensures refused { IfErr result (λ e. e ≢ Refusal.OutOfMemory → (e ≡ Refusal.BadSpec) × (IsConfig config → ⊥)) }
         ensures late { IfErr result (λ e. e ≡ Refusal.OutOfMemory → IsConfig config) }
@@ -73,6 +74,7 @@ impl Desk {
     ) -> Result<(Desk, Vec<Pass>), AllocError>
         requires { (0 < callers) × (callers ≤ CALLERS) }
         ensures desk { IfOk result (λ r. r.0.callers ≡ callers) }
+        ensures own { IfOk result (λ r. All (IsOf r.0) r.1.items) }
         ensures passes { IfOk result (λ r. (length r.1.items ≡ callers) × AreOpened r.0.table callers console.site console.log r.1.items) }
     {
         let (lock, passes) = OwnLock::open(alloc, LegalConsole::new(console), callers)?;
