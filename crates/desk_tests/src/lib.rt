@@ -4,5 +4,6 @@
 pub mod calls;
 pub mod crowd;
 pub mod plays;
+pub mod replays;
 #[cfg(test)]
 mod tests;
