@@ -19,7 +19,8 @@ use std::thread::Threads;
 
 /// A desk for the callers 0 and 1, and their passes.
 pub fn opened(alloc: Global) -> Result<(Desk, Pass, Pass), Refusal>
-    ensures { IfOk result (λ r. IsOf r.0 r.1 × IsOf r.0 r.2) }
+    ensures desk { IfOk result (λ r. r.0.callers ≡ 2) }
+    ensures passes { IfOk result (λ r. IsOf r.0 r.1 × IsOf r.0 r.2) }
 {
     let (desk, mut passes) = Desk::open(alloc, SITE, 2)?;
     let second = passes.pop().unwrap();
@@ -175,15 +176,17 @@ pub fn goes_on<R: Wait>(rt: &R, alloc: Global) -> Result<bool, Refusal> {
     Ok(!after.held && !busy && (after == before) == wanting)
 }
 
-/// Is the pass of both whole, and that of one of them not?
-pub fn parts_and_meets(alloc: Global) -> Result<(bool, bool, bool), Refusal> {
+/// The second caller is parted from both, and comes back: are the part and both whole?
+pub fn parts_and_meets(alloc: Global) -> Result<Option<(bool, bool)>, Refusal> {
     let (desk, first, second) = opened(alloc)?;
     let both = desk.meet(first, second);
-    let whole = desk.whole(&both);
+    if !desk.whole(&both) {
+        return Ok(None);
+    }
     let (first, second) = desk.split(both, Ids::single(1));
     let part = desk.whole(&first);
     let again = desk.whole(&desk.meet(first, second));
-    Ok((whole, part, again))
+    Ok(Some((part, again)))
 }
 
 /// The console of a desk whose one pass speaks for all callers: its log is known, since nobody else can have

@@ -48,7 +48,7 @@ fn the_console_goes_back_whatever_happens(rt: HostRuntime) -> Result<(), Fail> {
 
 #[test]
 fn parts_meet_again(rt: HostRuntime) -> Result<(), Fail> {
-    assert_eq!(rt; parts_and_meets(rt.alloc())?, (true, false, true));
+    assert_eq!(rt; parts_and_meets(rt.alloc())?, Some((false, true)));
     Ok(())
 }
 
