@@ -1,12 +1,14 @@
 //! The desk.
 
-ghost use Rattle.std.specs.Prelude.{◌≡◌, ℕ, ◌<◌, ◌≤◌, ◌%◌, ◌≢◌, ◌&&◌, ◌||◌, ◌↔◌, not, true, false, [], length, All, IsTrue, IfOk, IfErr, OnErr};
+ghost use Rattle.std.specs.Prelude.{◌≡◌, ℕ, ◌<◌, ◌≤◌, ◌%◌, ◌≢◌, ◌&&◌, ◌||◌, ◌↔◌, ◌++◌, ◌∷◌, not, true, false, [], length, All, IsTrue, IfOk, IfErr, OnErr};
 ghost use Rattle.esx_types.specs.Ranges.{IsConfig};
 ghost use Rattle.esx_types.specs.Ids.{has};
+ghost use Rattle.esx_plain.specs.Console.{next_reply};
+ghost use Rattle.esx_lock.specs.declared.view.Hold.TheVariants.{Held};
 ghost use Rattle.esx_lock.specs.Words.{word_for};
 ghost use Rattle.esx_lock.specs.Passes.{SomeId, IsSame, IsAlike, Meet, AreOpened};
-ghost use Rattle.esx_desk.specs.Legal.{gauge_for};
-ghost use Rattle.esx_desk.specs.Told.{IsOf, Adds, Looks, IsBusy};
+ghost use Rattle.esx_desk.specs.Legal.{session, legal_for, gauge_for};
+ghost use Rattle.esx_desk.specs.Told.{IsOf, line, Adds, Looks, IsBusy};
 ghost use Rattle.esx_desk.specs.declared.desk.TryFault.TheVariants as faults;
 
 use crate::legal::LegalConsole;
@@ -34,6 +36,16 @@ impl Model for Desk {
 /// What a caller passes on its way. `false` is giving up.
 pub trait Gate {
     fn pass_through(&mut self, turn: u32) -> bool;
+}
+
+/// A gate that is always open.
+#[derive(Drop)]
+pub struct Open;
+
+impl Gate for Open {
+    fn pass_through(&mut self, _turn: u32) -> bool {
+        true
+    }
 }
 
 /// Why a call was not made: there was no memory, or another pass was faster, with the word that was read
@@ -89,11 +101,7 @@ impl Desk {
         ensures ok { IfOk result (λ reply. Adds pass.old.view pass.new.view call reply) }
         ensures err { OnErr result (Looks pass.old.view pass.new.view) }
     {
-        let caller = pass.caller();
-        let mut console = self.lock.take(rt, pass);
-        let reply = console.call(caller, call);
-        self.lock.give(pass, console);
-        reply
+        self.submit_through(rt, pass, call, &mut Open)
     }
 
     /// As `submit`, and passes the gate with turn 1 between the call and the give. It gives the console back
@@ -111,11 +119,8 @@ impl Desk {
         ensures err { OnErr result (Looks pass.old.view pass.new.view) }
     {
         let caller = pass.caller();
-        let mut console = self.lock.take(rt, pass);
-        let reply = console.call(caller, call);
-        gate.pass_through(1);
-        self.lock.give(pass, console);
-        reply
+        let console = self.lock.take(rt, pass);
+        self.call_and_give(pass, console, caller, call, gate)
     }
 
     /// As `submit`, with no wait: one load and, where the word is even, one exchange.
@@ -127,16 +132,38 @@ impl Desk {
         ensures busy { IfErr result (λ fault. (word : ℕ) → fault ≡ faults.Busy word → IsBusy pass.new.view word) }
     {
         let caller = pass.caller();
-        let mut console = match self.lock.try_take(pass) {
-            Ok(console) => console,
-            Err(Busy(word)) => return Err(TryFault::Busy(word)),
-        };
-        let reply = console.call(caller, call);
-        self.lock.give(pass, console);
-        match reply {
-            Ok(reply) => Ok(reply),
-            Err(_) => Err(TryFault::OutOfMemory),
+        match self.lock.try_take(pass) {
+            Ok(console) => match self.call_and_give(pass, console, caller, call, &mut Open) {
+                Ok(reply) => Ok(reply),
+                Err(_) => Err(TryFault::OutOfMemory),
+            },
+            Err(Busy(word)) => Err(TryFault::Busy(word)),
         }
+    }
+
+    // Makes a call on the console that the pass has taken, passes the gate, and gives the console back.
+    fn call_and_give<G: Gate>(
+        &self,
+        pass: &mut Pass,
+        mut console: LegalConsole,
+        caller: u16,
+        call: Call,
+        gate: &mut G,
+    ) -> Result<Reply, AllocError>
+        requires own { (pass.old.table ≡ self.now.table) × (pass.old.view.callers ≡ self.now.callers) }
+        requires held { pass.old.view.hold ≡ Held }
+        requires taken { console.console ≡ session pass.old.view.site pass.old.view.seen }
+        requires caller { has pass.old.view.ids caller ≡ true }
+        ensures kept { IsOf self.now pass.new × IsSame pass.old.view pass.new.view }
+        ensures reply { IfOk result (λ reply. reply ≡ next_reply console.console call) }
+        ensures ok { IfOk result (λ reply. pass.new.view.seen ≡ pass.old.view.seen ++ line caller call reply ∷ []) }
+        ensures err { OnErr result (pass.new.view.seen ≡ pass.old.view.seen) }
+        ensures legal { legal_for pass.old.view.site pass.new.view.seen }
+    {
+        let reply = console.call(caller, call);
+        gate.pass_through(1);
+        self.lock.give(pass, console);
+        reply
     }
 
     /// How scarce frames are after the log that the pass has now seen, and whether a pass has the console: by

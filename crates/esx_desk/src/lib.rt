@@ -7,5 +7,5 @@ pub mod desk;
 pub mod laws;
 mod legal;
 
-pub use desk::{Desk, Gate, TryFault};
+pub use desk::{Desk, Gate, Open, TryFault};
 pub use esx_lock::{Gauge, Pass};
