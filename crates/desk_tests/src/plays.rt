@@ -41,6 +41,7 @@ pub fn started<R: Wait>(rt: &R, alloc: Global) -> Result<(Desk, Pass, Pass), Ref
 const LOOKS: u64 = 200_000_000;
 
 const ENTERED: u64 = 1;
+
 const LOOKED: u64 = 2;
 
 fn comes_to(step: &AtomicU64, wanted: u64) -> bool {

@@ -31,10 +31,7 @@ fn is_line(
 
 /// The gauges after each line, where each caller's lines are its calls in order, with the replies of a console
 /// of one thread.
-pub fn gauges_along(
-    alloc: Global,
-    log: &[Line],
-) -> Result<Option<Vec<(u32, Level)>>, Refusal> {
+pub fn gauges_along(alloc: Global, log: &[Line]) -> Result<Option<Vec<(u32, Level)>>, Refusal> {
     let mut console = Console::open(alloc, SITE)?;
     let mut gauges = Vec::with_capacity(alloc, log.len())?;
     let mut next = [0u64; CALLERS];
@@ -56,7 +53,10 @@ pub fn gauges_along(
 pub fn in_order(seen: &[Gauge], all: &[(u32, Level)]) -> bool {
     let mut left = all;
     for gauge in seen {
-        match left.iter().position(|next| *next == (gauge.free, gauge.level)) {
+        match left
+            .iter()
+            .position(|next| *next == (gauge.free, gauge.level))
+        {
             Some(at) => left = &left[at..],
             None => return false,
         }

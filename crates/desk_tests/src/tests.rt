@@ -2,9 +2,7 @@
 
 use crate::calls::OPENING;
 use crate::crowd::{TURNS, share};
-use crate::plays::{
-    alone, closed, goes_on, parts_and_meets, read_byte, started, write_and_look,
-};
+use crate::plays::{alone, closed, goes_on, parts_and_meets, read_byte, started, write_and_look};
 use crate::replays::{callers_of, count_of, gauges_along, in_order};
 use esx_desk::Gauge;
 use esx_types::{Level, Refusal};
@@ -29,20 +27,35 @@ fn a_gate_keeps_the_console(rt: HostRuntime) -> Result<(), Fail> {
     assert_eq!(rt; desk.peek(&mut first).word(), 152);
     let (mut first, turn, look) = write_and_look(&rt, rt.alloc(), &desk, first, second)?;
     assert_eq!(rt; turn, 1);
-    assert_eq!(rt; look.gauge, Gauge { free: 19, level: Level::High, held: true });
+    assert_eq!(rt;
+        look.gauge,
+        Gauge {
+            free: 19,
+            level: Level::High,
+            held: true
+        }
+    );
     assert_eq!(rt; look.busy, Some(153));
     assert_eq!(rt; desk.peek(&mut first).word(), 144);
     let mut second = look.pass;
     assert_eq!(rt; read_byte(&desk, &mut second), Some(0x2a));
     let console = closed(desk, first, second).ok_or("a pass for both callers")?;
-    assert_eq!(rt; callers_of(rt.alloc(), console.log())?.as_slice(), [0, 0, 0, 1].as_slice());
+    assert_eq!(rt;
+        callers_of(rt.alloc(), console.log())?.as_slice(),
+        [0, 0, 0, 1].as_slice()
+    );
     Ok(())
 }
 
 // Also with each allocation failing in turn: `rt try --test --fail-alloc N`.
 #[test]
 fn the_console_goes_back_whatever_happens(rt: HostRuntime) -> Result<(), Fail> {
-    assert!(rt; matches!(goes_on(&rt, rt.alloc()), Ok(true) | Err(Refusal::OutOfMemory)));
+    assert!(rt;
+        matches!(
+            goes_on(&rt, rt.alloc()),
+            Ok(true) | Err(Refusal::OutOfMemory)
+        )
+    );
     Ok(())
 }
 

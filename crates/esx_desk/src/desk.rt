@@ -58,11 +58,7 @@ pub enum TryFault {
 
 impl Desk {
     /// A desk over a site that is opened for it, and a pass for each caller below `callers`.
-    pub fn open(
-        alloc: Global,
-        config: Config,
-        callers: usize,
-    ) -> Result<(Desk, Vec<Pass>), Refusal>
+    pub fn open(alloc: Global, config: Config, callers: usize) -> Result<(Desk, Vec<Pass>), Refusal>
         requires { (0 < callers) × (callers ≤ CALLERS) }
         ensures desk { IfOk result (λ r. (r.0.callers ≡ callers) × IsConfig config) }
         ensures own { IfOk result (λ r. All (IsOf r.0) r.1.items) }
