@@ -1,17 +1,13 @@
--- Rows that are read from a list, and how many there are.
-use Rattle.std.proofs.Common.{◌≡◌, ℕ, zero, suc, ◌*◌, ◌<◌, ◌≤◌, List, length, get_or, ap, inl, inr, arith}
+-- How many rows there are, and how many pages above their floors.
+use Rattle.std.proofs.Common.{ℕ, zero, suc, ◌*◌, ◌<◌, ◌≤◌, List, length, inl, inr, arith}
 use Rattle.std.proofs.lemmas.Bool.{cases_lt}
 use Rattle.std.proofs.lemmas.List.Sums.{sum_by-le}
 use Rattle.std.proofs.lemmas.List.Elements.{All-from_get_or}
 use Rattle.std.specs.Prelude.{sum_by, All}
 use Rattle.esx_types.specs.declared.config.TheConstants.{VM_NUMBERS}
-use Rattle.esx_plain.specs.declared.targets.Row.{Row}
-use Rattle.esx_plain.specs.Ratio.{IsRow, AreRows, row_at, no_row}
-use Rattle.esx_plain.specs.Targets.{spare}
-use Rattle.esx_plain.proofs.RowLaws.{row_read}
-
-pub good_read : (rows : List Row) (i : ℕ) (row : Row) → AreRows rows → i < length rows → row ≡ get_or rows i row → IsRow row
-good_read rows i row are fits read = rw (row_read rows i row fits read) (are.each i fits)
+use Rattle.esx_formulas.specs.declared.targets.Row.{Row}
+use Rattle.esx_formulas.specs.Ratio.{AreRows, row_at, no_row}
+use Rattle.esx_formulas.specs.Targets.{spare}
 
 -- a row's machine has no lower number than the row
 pub vm_at_least : (rows : List Row) (i : ℕ) → AreRows rows → i < length rows → i ≤ (row_at rows i).vm
@@ -32,6 +28,3 @@ pub spare_few : (rows : List Row) → AreRows rows → sum_by spare rows ≤ VM_
 spare_few rows are =
     let each : All (λ row. spare row ≤ 65536) rows = All-from_get_or (λ row. spare row ≤ 65536) rows no_row (λ i p. omega (arith, (are.each i p).most_pages)) in
     omega (arith, sum_by-le spare 65536 rows each, rows_few rows are)
-
-pub pages_read : (rows : List Row) (i : ℕ) (row : Row) → i < length rows → row ≡ get_or rows i row → row.pages ≡ (row_at rows i).pages
-pages_read rows i row fits read = ap (λ (r : Row). r.pages) (row_read rows i row fits read)

@@ -13,6 +13,5 @@ pub mod Shifts
 pub mod Starts
 pub mod Tables
 pub mod Takes
-pub mod Trades
 pub mod Walked
 pub mod Walks

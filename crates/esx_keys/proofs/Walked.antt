@@ -1,7 +1,8 @@
 -- How far a walk along a chain has come.
-use Rattle.std.proofs.Common.{◌≡◌, ℕ, ◌+◌, ◌%◌, ◌<◌, ◌≤◌, true, false, length, Some, None, position, get_or, sym, ap, inl, inr, arith, below_more}
+use Rattle.std.proofs.Common.{◌≡◌, ℕ, ◌+◌, ◌%◌, ◌<◌, ◌≤◌, true, false, length, Some, None, get_or, sym, ap, inl, inr, arith, below_more}
 use Rattle.std.proofs.lemmas.Bool.{cases_Bool, cases_lt, false≢true, eqb-true}
-use Rattle.esx_index.specs.Lists.{position_is, position_none}
+use Rattle.std.specs.List.{position_from}
+use Rattle.esx_lists.proofs.Positions.{first_is, first_is_none}
 use Rattle.esx_types.specs.declared.table.Listing.{Listing}
 use Rattle.esx_types.specs.declared.table.Listing.TheVariants.{Unlisted, Shared, Hinted}
 use Rattle.esx_keys.specs.declared.index.Index.{Index}
@@ -55,8 +56,8 @@ walk_goes_on index kind key at sound inside below walk missed =
       up = omega (arith, leads.onward);
     }
 
-pub walk_finds : (index : Index) (kind : Kind) (key at : ℕ) → at < length index.listings.items → Walked index kind key at → is_under kind key (listing_at index.listings.items at) ≡ true → Some at ≡ position (is_under kind key) index.listings.items
-walk_finds index kind key at below walk hit = sym (position_is (is_under kind key) index.listings.items at Unlisted below hit walk.before)
+pub walk_finds : (index : Index) (kind : Kind) (key at : ℕ) → at < length index.listings.items → Walked index kind key at → is_under kind key (listing_at index.listings.items at) ≡ true → Some at ≡ position_from (is_under kind key) 0 index.listings.items
+walk_finds index kind key at below walk hit = sym (first_is (is_under kind key) index.listings.items at Unlisted below hit walk.before)
 
-pub walk_ends : (index : Index) (kind : Kind) (key at : ℕ) → length index.listings.items ≤ at → Walked index kind key at → None ≡ position (is_under kind key) index.listings.items
-walk_ends index kind key at past walk = sym (position_none (is_under kind key) index.listings.items Unlisted (λ k below. walk.before k (omega arith)))
+pub walk_ends : (index : Index) (kind : Kind) (key at : ℕ) → length index.listings.items ≤ at → Walked index kind key at → None ≡ position_from (is_under kind key) 0 index.listings.items
+walk_ends index kind key at past walk = sym (first_is_none (is_under kind key) index.listings.items Unlisted (λ k below. walk.before k (omega arith)))

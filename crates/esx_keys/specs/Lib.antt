@@ -5,4 +5,5 @@ pub mod Kinds
 pub mod Links
 pub mod Listed
 pub mod Table
-pub use Rattle.esx_plain.specs.Key
+pub use Rattle.esx_formulas.specs.Key
+pub use Rattle.esx_lists.specs.Trades

@@ -1,7 +1,8 @@
 //! The index over listings: chains of frames in ascending order, one for the keys of each head.
 
-ghost use Rattle.std.specs.Prelude.{◌≡◌, ◌<◌, ℕ, Option, Some, None, length, slice_set, position, IfOk, IfSome, replicate};
+ghost use Rattle.std.specs.Prelude.{◌≡◌, ◌<◌, ℕ, Option, Some, None, length, slice_set, IfOk, IfSome, replicate};
 ghost use Rattle.std.specs.Int.{IsPowerOfTwo};
+ghost use Rattle.std.specs.List.{position_from};
 ghost use Rattle.esx_types.specs.declared.table.Listing.TheVariants.{Unlisted};
 ghost use Rattle.esx_keys.specs.Listed.{listing_at};
 ghost use Rattle.esx_keys.specs.Chains.{AreApart, IsBefore, IsMoved, IsChained};
@@ -67,7 +68,7 @@ impl Index {
     /// The least frame of this kind under a key.
     pub(crate) fn find(&self, kind: Kind, key: u64) -> Option<u32>
         requires { IsIndex self.now }
-        ensures { result ≡ position (is_under kind key) self.now.listings.items }
+        ensures { result ≡ position_from (is_under kind key) 0 self.now.listings.items }
     {
         let mut at = self.heads[head_of(key, self.heads.len())];
         while (at as usize) < self.listings.len() {

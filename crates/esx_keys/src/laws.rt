@@ -1,23 +1,20 @@
-//! Laws of trades. A function here does nothing: its contract is the law.
+//! Laws of trades with the listings. A function here does nothing: its contract is the law.
 
-ghost use Rattle.std.specs.Prelude.{◌≡◌, ◌≢◌, ℕ, List, slice_set, slice_index_or};
+ghost use Rattle.std.specs.Prelude.{◌≡◌, ◌≢◌, ℕ, List};
 ghost use Rattle.esx_types.specs.declared.table.Listing.{Listing};
+ghost use Rattle.esx_lists.specs.Trades.{LeadsBack, row_traded};
 
-/// A trade and a second one of the same frame leave the listings as they were, and give back what was
-/// handed over.
-#[tactic(auto, using(crate::proofs::Trades::there_and_back, crate::proofs::Trades::given_back))]
-pub fn trade_undoes_itself()
-    ensures listings { (listings : List Listing) (frame : ℕ) (listing : Listing)
-        → slice_set (slice_set listings frame listing) frame (slice_index_or listings frame listing) ≡ listings }
-    ensures listing { (listings : List Listing) (frame : ℕ) (listing : Listing)
-        → slice_index_or (slice_set listings frame listing) frame (slice_index_or listings frame listing) ≡ listing }
+/// A listing that is traded and traded back leaves the frames and the listing as they were.
+#[tactic(auto, using(esx_lists::proofs::Trades::row_back))]
+pub fn there_and_back()
+    ensures { (frame : ℕ) → LeadsBack (λ (rows : List Listing) (row : Listing). row_traded rows frame row) }
 {}
 
-/// Trades of two frames come to the same in either order, and neither changes what the other gives.
-#[tactic(auto, using(std::proofs::lemmas::List::set_comm))]
-pub fn trades_commute()
-    ensures listings { (listings : List Listing) (frame other : ℕ) (x y : Listing) → frame ≢ other
-        → slice_set (slice_set listings frame x) other y ≡ slice_set (slice_set listings other y) frame x }
-    ensures listing { (listings : List Listing) (frame other : ℕ) (x y : Listing) → frame ≢ other
-        → slice_index_or (slice_set listings frame x) other y ≡ slice_index_or listings other y }
+/// Trades at two frames give the same frames and the same listings in either order.
+#[tactic(auto, using(esx_lists::proofs::Trades::rows_apart, esx_lists::proofs::Trades::row_apart))]
+pub fn frames_apart()
+    ensures frames { (rows : List Listing) (one other : ℕ) (x y : Listing) → one ≢ other
+        → (row_traded (row_traded rows one x).0 other y).0 ≡ (row_traded (row_traded rows other y).0 one x).0 }
+    ensures listing { (rows : List Listing) (one other : ℕ) (x y : Listing) → one ≢ other
+        → (row_traded (row_traded rows one x).0 other y).1 ≡ (row_traded rows other y).1 }
 {}

@@ -3,7 +3,6 @@
 #![tactic(auto)]
 
 mod arena;
-mod content;
 mod entry;
 mod index;
 pub mod laws;
@@ -13,7 +12,7 @@ mod table;
 #[cfg(test)]
 mod tests;
 
-pub use content::key;
 pub use entry::{Entry, Kind};
+pub use esx_formulas::content_key as key;
 pub use listings::Listings;
 pub use table::Keys;

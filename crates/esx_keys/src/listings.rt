@@ -1,16 +1,16 @@
 //! What each frame stands under.
 
-ghost use Rattle.std.specs.Prelude.{◌≡◌, ◌<◌, ℕ, IfOk, IfSome, IfNone, length, position, replicate, slice_set, slice_index_or};
+ghost use Rattle.std.specs.Prelude.{◌≡◌, ◌<◌, ℕ, IfOk, IfSome, IfNone, length, replicate, slice_set, slice_index_or};
+ghost use Rattle.std.specs.List.{position_from};
 ghost use Rattle.esx_types.specs.declared.table.Listing.TheVariants.{Unlisted};
-ghost use Rattle.esx_plain.specs.declared.book.KeyRow.{KeyRow};
-ghost use Rattle.esx_plain.specs.declared.scene.Hint.{Hint};
+ghost use Rattle.esx_types.specs.declared.table.KeyRow.{KeyRow};
+ghost use Rattle.esx_types.specs.declared.table.Hint.{Hint};
 ghost use Rattle.esx_keys.specs.Listed.{listing_at, is_shared_under, is_hinted_under, IsSharedUnder, IsHintedUnder, shared_from, hints_of, in_order};
 
 use crate::entry::Kind;
 use crate::index::Index;
 use crate::order;
-use esx_plain::{Hint, KeyRow};
-use esx_types::{Listing, Rows};
+use esx_types::{Hint, KeyRow, Listing, Rows};
 use std::alloc::{AllocError, Global};
 use std::marker::Model;
 
@@ -65,7 +65,7 @@ impl Listings {
 
     /// The least frame that is shared under a key.
     pub fn shared_under(&self, key: u64) -> Option<u32>
-        ensures least { result ≡ position (is_shared_under key) self.now }
+        ensures least { result ≡ position_from (is_shared_under key) 0 self.now }
         ensures found { IfSome result (λ frame. IsSharedUnder key (listing_at self.now frame)) }
         ensures within { IfSome result (λ frame. frame < length self.now) }
         ensures none { IfNone result ((frame : ℕ) → ¬ IsSharedUnder key (listing_at self.now frame)) }
@@ -75,7 +75,7 @@ impl Listings {
 
     /// The least frame whose page is a hint under a key.
     pub fn hinted_under(&self, key: u64) -> Option<u32>
-        ensures least { result ≡ position (is_hinted_under key) self.now }
+        ensures least { result ≡ position_from (is_hinted_under key) 0 self.now }
         ensures found { IfSome result (λ frame. IsHintedUnder key (listing_at self.now frame)) }
         ensures within { IfSome result (λ frame. frame < length self.now) }
         ensures none { IfNone result ((frame : ℕ) → ¬ IsHintedUnder key (listing_at self.now frame)) }

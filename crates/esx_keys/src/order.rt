@@ -1,12 +1,11 @@
 //! What stands under keys, in order of key.
 
 ghost use Rattle.std.specs.Prelude.{◌≡◌, ◌<◌, ◌^◌, IfOk, length};
-ghost use Rattle.esx_plain.specs.declared.book.KeyRow.{KeyRow};
-ghost use Rattle.esx_plain.specs.declared.scene.Hint.{Hint};
+ghost use Rattle.esx_types.specs.declared.table.KeyRow.{KeyRow};
+ghost use Rattle.esx_types.specs.declared.table.Hint.{Hint};
 ghost use Rattle.esx_keys.specs.Listed.{shared_row, hint_row, shared_from, hints_of, in_order};
 
-use esx_plain::{Hint, KeyRow};
-use esx_types::{Listing, Rows};
+use esx_types::{Hint, KeyRow, Listing, Rows};
 use std::alloc::{AllocError, Global};
 
 /// The row of a shared frame.

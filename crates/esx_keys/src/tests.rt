@@ -1,6 +1,5 @@
 use crate::{Entry, Keys, Kind, Listings, key};
-use esx_plain::{Hint, KeyRow};
-use esx_types::{Listing, VmId};
+use esx_types::{Hint, KeyRow, Listing, VmId};
 use std::test::Fail;
 
 #[test]

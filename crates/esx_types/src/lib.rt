@@ -23,5 +23,5 @@ pub use event::{Answer, Event, Refusal};
 pub use ids::Ids;
 pub use level::Level;
 pub use rows::{Bytes, Rows};
-pub use table::{FrameRow, Listing, MapRow, SlotRow};
+pub use table::{FrameRow, Hint, KeyRow, Listing, MapRow, SlotRow};
 pub use vm::{VmId, VmSpec, VmState};

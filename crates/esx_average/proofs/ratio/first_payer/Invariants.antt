@@ -1,6 +1,0 @@
-use Rattle.esx_plain.specs.Ratio.{row_at}
-use Rattle.esx_plain.specs.Payers.{IsBestBelow}
-use Rattle.esx_average.proofs.ratio.first_payer.Given as goal
-
-abbrev pub invariant-loop-i : goal.invariant-loop-i
-invariant-loop-i l = IsBestBelow l.tau l.rows (λ k. (row_at l.rows k).pages) l.i l.best

@@ -1,0 +1,11 @@
+pub mod Fractions
+pub mod Gaps
+pub mod RatioLaws
+pub mod RowLaws
+pub mod PayerLaws
+pub mod Claims
+pub mod TargetLaws
+pub mod Revoking
+pub mod AverageLaws
+pub mod LevelLaws
+pub mod rows

@@ -1,0 +1,5 @@
+use Rattle.esx_formulas.proofs.Revoking.{worked_out, only_worked_out}
+use Rattle.esx_formulas.proofs.laws.targets_page_by_page.Goals as goal
+
+pub returns : goal.returns
+returns c = λ tau rows need targets low are. (only_worked_out tau rows low are need targets, λ e. rw e (worked_out tau rows low are need))

@@ -1,0 +1,10 @@
+pub use Rattle.esx_types.specs.Ranges
+pub mod Key
+pub mod Level
+pub mod Average
+pub mod Estimates
+pub mod Ratio
+pub mod Targets
+pub mod Payers
+pub mod ShareLaws
+pub mod LevelLaws

@@ -1,0 +1,15 @@
+//! The key of a content.
+
+ghost use Rattle.std.specs.Prelude.{◌≡◌};
+ghost use Rattle.esx_formulas.specs.Key.{content_key};
+
+use sha2::{Digest, Sha256};
+
+/// The key of a page with these bytes.
+#[tactic(auto, unfolding(crate::specs::Key::content_key))]
+pub fn content_key(bytes: &[u8]) -> u64
+    ensures { result ≡ content_key bytes.now }
+{
+    let [a, b, c, d, e, f, g, h, ..] = Sha256::digest(bytes);
+    u64::from_be_bytes([a, b, c, d, e, f, g, h])
+}

@@ -1,0 +1,17 @@
+//! The formulas that touch no site: the key of a content, averages of sampled activity, the taxed ratio,
+//! targets and the level. Here are their definitions, plain bodies that follow them, and their laws.
+#![tactic(auto)]
+
+pub mod activity;
+pub mod key;
+pub mod laws;
+pub mod level;
+pub mod ratio;
+pub mod targets;
+#[cfg(test)]
+mod tests;
+
+pub use activity::{Estimate, Period};
+pub use key::content_key;
+pub use ratio::least_ratio;
+pub use targets::{Row, are_rows};

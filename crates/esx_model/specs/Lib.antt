@@ -1,0 +1,17 @@
+pub mod Places
+pub mod Site
+pub mod Hints
+pub mod event
+pub mod Step
+pub mod Show
+pub mod Replay
+pub mod sound
+pub mod Readings
+pub mod Advice
+pub mod Tree
+pub mod History
+pub mod Branching
+pub mod WhatIf
+pub mod Console
+pub mod Alone
+pub mod Tables

@@ -1,0 +1,144 @@
+-- The tables that a machine keeps of a site, and the book that is read from them.
+use Rattle.std.specs.Prelude.{ℕ, ◌+◌, ◌-◌, ◌==◌, Bool, List, [], ◌∷◌, ◌++◌, length, map, take, replicate, Option, option_map, Some, None, find, slice_index_or, if◌then◌else◌}
+use Rattle.std.specs.List.{range_with_len}
+use Rattle.esx_types.specs.declared.config.Config.{Config}
+use Rattle.esx_types.specs.declared.level.Level.{Level}
+use Rattle.esx_types.specs.declared.table.FrameRow.{FrameRow}
+use Rattle.esx_types.specs.declared.table.FrameRow.TheVariants as frames
+use Rattle.esx_types.specs.declared.table.MapRow.{MapRow}
+use Rattle.esx_types.specs.declared.table.MapRow.TheVariants as maps
+use Rattle.esx_formulas.specs.Average.{slow_average, fast_average}
+use Rattle.esx_formulas.specs.Key.{content_key}
+use Rattle.esx_model.specs.declared.scene.Place.{Place}
+use Rattle.esx_model.specs.declared.scene.Place.TheVariants.{Untouched, Here, Out, Lent}
+use Rattle.esx_model.specs.declared.scene.Vm.{Vm}
+use Rattle.esx_types.specs.declared.table.Hint.{Hint}
+use Rattle.esx_model.specs.declared.scene.Site.{Site}
+use Rattle.esx_model.specs.declared.book.VmRow.{VmRow}
+use Rattle.esx_types.specs.declared.table.KeyRow.{KeyRow}
+use Rattle.esx_model.specs.declared.book.Book.{Book}
+use Rattle.esx_model.specs.declared.look.Standing.{Standing}
+use Rattle.esx_types.specs.declared.table.Listing.{Listing}
+use Rattle.esx_types.specs.declared.table.Listing.TheVariants as listings
+use Rattle.esx_model.specs.declared.tables.VmFacts.{VmFacts}
+use Rattle.esx_model.specs.declared.tables.VmTable.{VmTable}
+use Rattle.esx_model.specs.declared.tables.Tables.{Tables}
+use Rattle.esx_model.specs.Places.{is_here_at}
+use Rattle.esx_model.specs.Site.{vm_at, place_in, resident, paged_out, lent}
+use Rattle.esx_model.specs.Hints.{in_order}
+use Rattle.esx_model.specs.Show.{frame_row, frame_rows, slot_rows, period_row, with_key}
+
+-- where a page is, without its bytes
+abbrev pub raw_place : Place → MapRow
+raw_place Untouched = maps.Untouched
+raw_place (Here bytes frame shared) = maps.Here frame
+raw_place (Out bytes slot) = maps.Out slot
+raw_place (Lent epoch) = maps.Lent epoch
+
+abbrev pub facts_of : Vm → VmFacts
+facts_of v = record {
+  spec = v.spec;
+  state = v.state;
+  epoch = v.epoch;
+  due = v.due;
+  target = v.target;
+  held = length v.overhead;
+  resident = resident v;
+  out = paged_out v;
+  lent = lent v;
+  slow = slow_average v.closed;
+  fast = fast_average v.closed;
+}
+
+-- a list with zeros up to so many entries
+abbrev pub filled : ℕ → List ℕ → List ℕ
+filled n xs = xs ++ replicate (n - length xs) 0
+
+abbrev pub vm_table : Vm → VmTable
+vm_table v = record {
+  facts = facts_of v;
+  overhead = filled v.spec.overhead v.overhead;
+  pages = map raw_place v.places;
+  period = option_map period_row v.period;
+}
+
+-- What gates read of a row: for a machine's row it is what they read of the machine.
+abbrev pub standing_of : VmTable → Standing
+standing_of v = record { spec = v.facts.spec; state = v.facts.state; target = v.facts.target; resident = v.facts.resident; out = v.facts.out; lent = v.facts.lent }
+
+-- the hint's page is in frame f
+abbrev pub is_hint_in : Site → ℕ → Hint → Bool
+is_hint_in s f h = is_here_at f (place_in (vm_at s h.vm) h.page)
+
+abbrev pub hint_listing : Option Hint → Listing
+hint_listing None = listings.Unlisted
+hint_listing (Some h) = listings.Hinted h.vm h.page h.key
+
+-- a shared frame stands under its key, a private one under that of its page's hint
+abbrev pub listing_by : FrameRow → Option Hint → Listing
+listing_by frames.Free hint = listings.Unlisted
+listing_by frames.Overhead hint = listings.Unlisted
+listing_by (frames.Private bytes) hint = hint_listing hint
+listing_by (frames.Shared count bytes) hint = listings.Shared (content_key bytes)
+
+unfoldable pub listing_row : Site → ℕ → Listing
+listing_row s f = listing_by (frame_row s f) (find (is_hint_in s f) s.hints)
+
+abbrev pub listing_rows : ℕ → Site → List Listing
+listing_rows n s = map (listing_row s) (range_with_len 0 n)
+
+abbrev pub tables_of : Config → Site → Tables
+tables_of c s = record {
+  frames = frame_rows c.frames s;
+  slots = slot_rows c.slots s;
+  vms = map (option_map vm_table) s.vms;
+  listings = listing_rows c.frames s;
+  tau = s.tau;
+}
+
+-- The book: a page lent in an epoch that is over counts as untouched.
+
+abbrev pub read_place : ℕ → MapRow → MapRow
+read_place epoch maps.Untouched = maps.Untouched
+read_place epoch (maps.Here frame) = maps.Here frame
+read_place epoch (maps.Out slot) = maps.Out slot
+read_place epoch (maps.Lent e) = if e == epoch then maps.Lent e else maps.Untouched
+
+abbrev pub read_vm : VmTable → VmRow
+read_vm v = record {
+  spec = v.facts.spec;
+  state = v.facts.state;
+  epoch = v.facts.epoch;
+  due = v.facts.due;
+  target = v.facts.target;
+  overhead = take v.facts.held v.overhead;
+  pages = map (read_place v.facts.epoch) v.pages;
+  slow = v.facts.slow;
+  fast = v.facts.fast;
+  period = v.period;
+}
+
+-- the hints that the listings name, in order of key
+unfoldable pub read_hints : List Listing → List Hint
+read_hints [] = []
+read_hints (listings.Unlisted ∷ rows) = read_hints rows
+read_hints (listings.Shared key ∷ rows) = read_hints rows
+read_hints (listings.Hinted n page key ∷ rows) = in_order (record { key = key; vm = n; page = page }) (read_hints rows)
+
+-- the shared frames from frame f on, in order of key
+unfoldable pub read_keys : ℕ → List Listing → List KeyRow
+read_keys f [] = []
+read_keys f (listings.Unlisted ∷ rows) = read_keys (f + 1) rows
+read_keys f (listings.Shared key ∷ rows) = with_key (record { key = key; frame = f }) (read_keys (f + 1) rows)
+read_keys f (listings.Hinted n page key ∷ rows) = read_keys (f + 1) rows
+
+abbrev pub book_from : Tables → Level → Book
+book_from t level = record {
+  frames = t.frames;
+  slots = t.slots;
+  vms = map (option_map read_vm) t.vms;
+  hints = read_hints t.listings;
+  shared = read_keys 0 t.listings;
+  tau = t.tau;
+  level = level;
+}

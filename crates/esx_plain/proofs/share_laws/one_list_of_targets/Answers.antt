@@ -1,5 +1,0 @@
-use Rattle.esx_plain.proofs.TargetLaws.{targets_same}
-use Rattle.esx_plain.proofs.share_laws.one_list_of_targets.Goals as goal
-
-pub returns : goal.returns
-returns c = λ tau rows need a b low are. targets_same tau rows low are need a b

@@ -1,6 +1,0 @@
-use Rattle.esx_plain.proofs.TargetLaws.{targets_for}
-use Rattle.esx_plain.proofs.share_laws.targets_for_each_need.Goals as goal
-
-pub returns : goal.returns
-returns c = λ tau rows need low are.
-    let some = targets_for tau rows low are need in (some.targets, some.hold)

@@ -1,5 +1,0 @@
-use Rattle.esx_plain.proofs.RowLaws.{AreRowsBelow}
-use Rattle.esx_plain.proofs.targets.are_rows.Given as goal
-
-abbrev pub invariant-loop-i : goal.invariant-loop-i
-invariant-loop-i l = AreRowsBelow l.rows l.i
