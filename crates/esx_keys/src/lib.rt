@@ -1,5 +1,5 @@
-//! The table of shared frames and hints under content keys, from Waldspurger's section on content-based
-//! page sharing.
+//! Shared frames and hints under content keys, from Waldspurger's section on content-based page sharing:
+//! `Listings` by frame, with an index by key, and `Keys` by key alone.
 #![tactic(auto)]
 
 mod arena;
