@@ -38,7 +38,7 @@ pub fn started<R: Wait>(rt: &R, alloc: Global) -> Result<(Desk, Pass, Pass), Ref
     Ok((desk, first, second))
 }
 
-const LOOKS: u64 = 200_000_000;
+const LOOKS: u64 = 2_000_000_000;
 
 const ENTERED: u64 = 1;
 
