@@ -3,10 +3,10 @@ use Rattle.std.specs.List.{list_all}
 use Rattle.std.proofs.lemmas.Bool.{eqb-true}
 use Rattle.std.proofs.lemmas.Bool.Decides.{Decides-eqb, not_from_Decides}
 use Rattle.hex.proofs.HexLemmas.{decode_of-ok}
-use Rattle.esx_text.specs.Command.{is_no_capital}
-use Rattle.esx_text.proofs.HexField.{length_of_hex, no_error, no_capital_in_hex, decoded_is}
-use Rattle.esx_text.proofs.command.written_bytes.Goals as goal
-use Rattle.esx_text.proofs.command.written_bytes.Goals.{then-is_empty-via-then-is_empty, then-is_empty-via-else-is_empty+then-field-gt8192}
+use Rattle.esx_reading.specs.Written.{is_no_capital}
+use Rattle.esx_reading.proofs.HexField.{length_of_hex, no_error, no_capital_in_hex, decoded_is}
+use Rattle.esx_reading.proofs.written.written_bytes.Goals as goal
+use Rattle.esx_reading.proofs.written.written_bytes.Goals.{then-is_empty-via-then-is_empty, then-is_empty-via-else-is_empty+then-field-gt8192}
 
 pub returns-then-is_empty-clause-only : goal.returns-then-is_empty-clause-only
 returns-then-is_empty-clause-only c = (

@@ -9,7 +9,7 @@ use Rattle.std.proofs.lemmas.List.{get_or_past}
 use Rattle.hex.specs.Hex.{encode_lower, encode_with, decode_of, decode_pairs, digit_or_error, hex_digit_value, pair_value, value_at, lower_digits, ◌>>=◌}
 use Rattle.hex.specs.declared.error.FromHexError.{FromHexError}
 use Rattle.hex.proofs.HexLemmas.{decode_of-encode_lower, decode_of-even, decode_of-odd, length-encode_with, IsDigits-lower_digits}
-use Rattle.esx_text.specs.Command.{IsWritten, is_no_capital}
+use Rattle.esx_reading.specs.Written.{IsWritten, is_no_capital}
 
 pub length_of_hex : (field bytes : List ℕ) → field ≡ encode_lower bytes → length field ≡ 2 * length bytes
 length_of_hex field bytes e = ap length e ∙ length-encode_with lower_digits bytes

@@ -2,7 +2,7 @@
 
 ghost use Rattle.std.specs.Prelude.{◌≡◌, ◌<◌, ◌^◌, ◌∷◌, ◌↔◌, [], ℕ, List, decimal, MatchOption, IfSome, IfNone, IsTrue};
 ghost use Rattle.esx_types.specs.declared.config.TheConstants.{VM_NUMBERS};
-ghost use Rattle.esx_text.specs.Fields.{fields};
+ghost use Rattle.esx_reading.specs.Fields.{fields};
 
 use esx_types::{VM_NUMBERS, VmId};
 use itoa::Buffer;
@@ -30,7 +30,7 @@ impl<'a> Model for Fields<'a> {
 
     ghost Value = { List (List ℕ) };
 
-    ghost use Rattle.esx_text.specs.Fields.{fields_left};
+    ghost use Rattle.esx_reading.specs.Fields.{fields_left};
 
     ghost view = { λ s. fields_left s.rest };
 }

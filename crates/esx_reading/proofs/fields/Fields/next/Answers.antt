@@ -1,8 +1,8 @@
 use Rattle.std.proofs.Common.{sym, ◌∙◌, lit<, ap}
 use Rattle.std.proofs.lemmas.Str.Pattern.{split_once_first}
-use Rattle.esx_text.specs.Fields.{fields_left}
-use Rattle.esx_text.proofs.FieldLemmas.{next_field, last_field}
-use Rattle.esx_text.proofs.fields.Fields.next.Goals as goal
+use Rattle.esx_reading.specs.Fields.{fields_left}
+use Rattle.esx_reading.proofs.FieldLemmas.{next_field, last_field}
+use Rattle.esx_reading.proofs.fields.Fields.next.Goals as goal
 
 pub returns-in-Some : goal.returns-in-Some
 returns-in-Some c =

@@ -1,6 +1,6 @@
 use Rattle.std.proofs.Common.{◌≡◌, ◌<◌, ◌^◌, decimal, arith}
 use Rattle.std.proofs.lemmas.Fmt.{decimal_injective}
-use Rattle.esx_text.proofs.fields.Fields.below.Goals as goal
+use Rattle.esx_reading.proofs.fields.Fields.below.Goals as goal
 
 pub returns-else-number-limit-clause-none : goal.returns-else-number-limit-clause-none
 returns-else-number-limit-clause-none c = λ n others small e.

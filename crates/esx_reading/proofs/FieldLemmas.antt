@@ -21,7 +21,7 @@ use Rattle.std.specs.List.{list_all}
 use Rattle.std.proofs.lemmas.List.Sums.{AllPass-from_list_all}
 use Rattle.std.proofs.lemmas.Bool.{and_parts}
 use Rattle.std.proofs.lemmas.List.Splits.{length-slice_split}
-use Rattle.esx_text.specs.Fields.{fields, fields_left, joined}
+use Rattle.esx_reading.specs.Fields.{fields, fields_left, joined}
 
 -- no space stands in the text, and each byte is ASCII
 pub record IsField (text : List ℕ) : Type 0 where
