@@ -7,3 +7,6 @@ pub mod Lines
 pub mod Plans
 pub mod Keys
 pub mod Sites
+pub mod Guests
+pub mod Strange
+pub mod Scenarios

@@ -31,47 +31,66 @@ Some x >>= f = f x
 None >>= f = None
 
 -- the number of 32 bits that is written so, without leading zeros
-abbrev pub number_in : List ℕ → Option ℕ
+unfoldable pub number_in : List ℕ → Option ℕ
 number_in text = let n = digits_value 10 text in if bytes_eq text (decimal n) && nat_lt n (2 ^ 32) then Some n else None
 
--- the bytes that were decoded, if they are written so in lower case
+-- the bytes that were decoded, if there are 1 to 4,096 and they are written so in lower case
 abbrev pub lower_case : List ℕ → Result (List ℕ) FromHexError → Option (List ℕ)
-lower_case text (Ok bytes) = if bytes_eq text (encode_lower bytes) then Some bytes else None
+lower_case text (Ok bytes) = if bytes_eq text (encode_lower bytes) && (nat_le 1 (length bytes) && nat_le (length bytes) 4096) then Some bytes else None
 lower_case text (Err e) = None
 
--- the bytes that are written so in hex, in lower case
-abbrev pub bytes_in : List ℕ → Option (List ℕ)
+-- the bytes that are written so in hex
+unfoldable pub bytes_in : List ℕ → Option (List ℕ)
 bytes_in text = lower_case text (decode_of text)
 
+-- the lines of the operands of each verb
+unfoldable pub read_in : List (List ℕ) → Option TraceLine
+read_in (page ∷ at ∷ len ∷ []) = do
+  page ← number_in page
+  at ← number_in at
+  len ← number_in len
+  Some (Read page at len)
+read_in _ = None
+
+unfoldable pub write_in : List (List ℕ) → Option TraceLine
+write_in (page ∷ at ∷ bytes ∷ []) = do
+  page ← number_in page
+  at ← number_in at
+  bytes ← bytes_in bytes
+  Some (Write page at bytes)
+write_in _ = None
+
+unfoldable pub ask_in : List (List ℕ) → Option TraceLine
+ask_in [] = Some Ask
+ask_in _ = None
+
+unfoldable pub lend_in : List (List ℕ) → Option TraceLine
+lend_in (page ∷ []) = do
+  page ← number_in page
+  Some (Lend page)
+lend_in _ = None
+
+unfoldable pub take_back_in : List (List ℕ) → Option TraceLine
+take_back_in (page ∷ []) = do
+  page ← number_in page
+  Some (TakeBack page)
+take_back_in _ = None
+
 -- the line of these fields
-abbrev pub line_in : List (List ℕ) → Option TraceLine
-line_in (verb ∷ []) = if bytes_eq verb (codes "ask") then Some Ask else None
-line_in (verb ∷ page ∷ []) =
-    if bytes_eq verb (codes "lend") then (do
-      page ← number_in page
-      Some (Lend page))
-    else if bytes_eq verb (codes "takeback") then (do
-      page ← number_in page
-      Some (TakeBack page))
+unfoldable pub line_in : List (List ℕ) → Option TraceLine
+line_in [] = None
+line_in (verb ∷ operands) =
+    if bytes_eq verb (codes "read") then read_in operands
+    else if bytes_eq verb (codes "write") then write_in operands
+    else if bytes_eq verb (codes "ask") then ask_in operands
+    else if bytes_eq verb (codes "lend") then lend_in operands
+    else if bytes_eq verb (codes "takeback") then take_back_in operands
     else None
-line_in (verb ∷ page ∷ at ∷ last ∷ []) =
-    if bytes_eq verb (codes "read") then (do
-      page ← number_in page
-      at ← number_in at
-      len ← number_in last
-      Some (Read page at len))
-    else if bytes_eq verb (codes "write") then (do
-      page ← number_in page
-      at ← number_in at
-      bytes ← bytes_in last
-      Some (Write page at bytes))
-    else None
-line_in _ = None
 
 -- the line, if it stays within
-abbrev pub only_within : ℕ → ℕ → TraceLine → Option TraceLine
+unfoldable pub only_within : ℕ → ℕ → TraceLine → Option TraceLine
 only_within size pages line = if is_within size pages line then Some line else None
 
 -- the trace line of a text, for a page size and a number of pages
-abbrev pub line_of : ℕ → ℕ → List ℕ → Option TraceLine
+unfoldable pub line_of : ℕ → ℕ → List ℕ → Option TraceLine
 line_of size pages text = line_in (fields text) >>= only_within size pages

@@ -2,8 +2,13 @@
 //! a run are told. They are read from a TOML text.
 #![tactic(auto)]
 
+mod guests;
 mod keys;
+mod line;
+mod parse;
 mod plan;
 mod site;
+mod strange;
 
+pub use parse::parse_scenario;
 pub use plan::{Guest, Scenario, Settings, TraceLine};
