@@ -1,12 +1,12 @@
 -- The virtual machines of a scenario.
-use Rattle.std.specs.Prelude.{ℕ, ◌+◌, ◌-◌, ◌==◌, ◌&&◌, ◌++◌, ◌∷◌, [], Bool, true, nat_le, List, length, codes, decimal, Option, Some, None, is_some, Ok, Err, if◌then◌else◌}
-use Rattle.std.specs.List.{list_any}
+use Rattle.std.specs.Prelude.{ℕ, ◌+◌, ◌-◌, ◌&&◌, ◌++◌, ◌∷◌, [], Bool, true, nat_le, List, length, codes, decimal, Option, Some, None, is_some, Ok, Err, if◌then◌else◌}
 use Rattle.toml.specs.Data.{Data, array, table, string, Items, no_items, item, Members, get_member, as_table}
 use Rattle.esx_types.specs.declared.config.Config.{Config}
 use Rattle.esx_types.specs.declared.vm.VmSpec.{VmSpec}
 use Rattle.esx_scenario.specs.declared.plan.Guest.{Guest}
 use Rattle.esx_scenario.specs.declared.plan.TraceLine.{TraceLine}
-use Rattle.esx_scenario.specs.Lines.{line_of}
+use Rattle.esx_scenario.specs.Plans.{has_number}
+use Rattle.esx_scenario.specs.Lines.{line_of, ◌>>=◌ as then_some}
 use Rattle.esx_scenario.specs.Keys.{Tried, ◌>>=◌, below, at_key, required}
 
 abbrev pub count_items : Items → ℕ
@@ -16,11 +16,7 @@ count_items (item d ds) = 1 + count_items ds
 -- the lines of these texts after some others, if each is one
 unfoldable pub lines_from : ℕ → ℕ → List TraceLine → Items → Option (List TraceLine)
 lines_from size pages lines no_items = Some lines
-lines_from size pages lines (item (string text) ds) =
-    elim (line_of size pages text) [
-      | Some line ↦ lines_from size pages (lines ++ line ∷ []) ds
-      | None ↦ None
-    ]
+lines_from size pages lines (item (string text) ds) = then_some (line_of size pages text) (λ line. lines_from size pages (lines ++ line ∷ []) ds)
 lines_from size pages lines (item _ ds) = None
 
 -- the trace of the value at `trace`
@@ -28,10 +24,6 @@ unfoldable pub trace_in : ℕ → ℕ → Option Data → Option (List TraceLine
 trace_in size pages None = Some []
 trace_in size pages (Some (array ds)) = if nat_le (count_items ds) 65536 then lines_from size pages [] ds else None
 trace_in size pages (Some _) = None
-
--- one of the machines has the number
-unfoldable pub has_number : List Guest → ℕ → Bool
-has_number guests n = list_any (λ g. g.vm == n) guests
 
 -- the number, if none of the earlier machines has it
 unfoldable pub new_number : List Guest → ℕ → Tried ℕ

@@ -1,6 +1,6 @@
 -- What a scenario says, and the ranges that it keeps.
-use Rattle.std.specs.Prelude.{ℕ, List, ◌≡◌, ◌≢◌, ◌<◌, ◌≤◌, ◌^◌, length, ◌++◌, ◌∷◌, []}
-use Rattle.std.specs.List.{All}
+use Rattle.std.specs.Prelude.{ℕ, List, ◌≡◌, ◌==◌, ◌<◌, ◌≤◌, ◌^◌, Bool, false, length, ◌∷◌, []}
+use Rattle.std.specs.List.{All, list_any}
 use Rattle.esx_types.specs.declared.config.Config.{Config}
 use Rattle.esx_types.specs.Ranges.{IsConfig, IsGood}
 use Rattle.esx_scenario.specs.declared.plan.Settings.{Settings}
@@ -28,9 +28,14 @@ pub record IsGuest (site : Config) (g : Guest) : Type 0 where
   pub short : length g.trace ≤ 65536
   pub within : All (IsWithin site.page g.spec.max) g.trace
 
+-- one of the machines has the number
+abbrev pub has_number : List Guest → ℕ → Bool
+has_number guests n = list_any (λ g. g.vm == n) guests
+
 -- no two have one number
 abbrev pub AreDistinct : List Guest → Type 0
-AreDistinct guests = (before between after : List Guest) (g h : Guest) → guests ≡ (before ++ g ∷ between) ++ h ∷ after → g.vm ≢ h.vm
+AreDistinct [] = Unit {0}
+AreDistinct (g ∷ gs) = (has_number gs g.vm ≡ false) × AreDistinct gs
 
 pub record IsPlan (p : Plan) : Type 0 where
   pub site : IsConfig p.site

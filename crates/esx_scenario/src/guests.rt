@@ -1,14 +1,14 @@
 //! The virtual machines of a scenario.
 
-ghost use Rattle.std.specs.Prelude.{◌≡◌, ◌≤◌, ◌+◌, ◌++◌, [], length, string_bytes, option_map, IfOk, IfSome};
+ghost use Rattle.std.specs.Prelude.{◌≡◌, ◌≤◌, ◌+◌, ◌++◌, [], length, string_bytes, option_map, IfOk, IfSome, false};
 ghost use Rattle.std.specs.List.{All, list_any};
 ghost use Rattle.esx_types.specs.Ranges.{IsConfig, IsGood};
 ghost use Rattle.toml.specs.Data.{get_member};
 ghost use Rattle.toml.specs.View.{view, table_view, items_view};
 ghost use Rattle.esx_scenario.specs.Lines.{IsWithin};
 ghost use Rattle.esx_scenario.specs.Keys.{Gives, Names, Tries};
-ghost use Rattle.esx_scenario.specs.Plans.{AreDistinct, IsGuest};
-ghost use Rattle.esx_scenario.specs.Guests.{are_tables, guest_at, guests_at, guests_from, has_number, lines_from, number_at, spec_in, trace_in, vm_path};
+ghost use Rattle.esx_scenario.specs.Plans.{AreDistinct, IsGuest, has_number};
+ghost use Rattle.esx_scenario.specs.Guests.{are_tables, guest_at, guests_at, guests_from, lines_from, number_at, spec_in, trace_in, vm_path};
 
 use crate::keys::{bad_key, member, required_number};
 use crate::line::line_of_text;

@@ -1,9 +1,9 @@
 //! The scenario of a text.
 
-ghost use Rattle.std.specs.Prelude.{◌≡◌, Ok, IfOk, IfErr, option_map};
+ghost use Rattle.std.specs.Prelude.{◌≡◌, Ok, IfOk, IfErr, codes, option_map};
 ghost use Rattle.esx_types.specs.Ranges.{IsConfig};
 ghost use Rattle.toml.specs.View.{view, table_view};
-ghost use Rattle.esx_scenario.specs.Keys.{Gives};
+ghost use Rattle.esx_scenario.specs.Keys.{Gives, required};
 ghost use Rattle.esx_scenario.specs.Plans.{IsSettings};
 ghost use Rattle.esx_scenario.specs.Sites.{site_at, settings_at};
 ghost use Rattle.esx_scenario.specs.Scenarios.{IsRefused, IsScenario, scenario_in};
@@ -57,13 +57,21 @@ fn settings_of_value(alloc: Global, run: Option<&Value>) -> Result<Settings, Tex
     }
 }
 
+/// The version of a table, which is 1.
+fn version_of(alloc: Global, table: &Table) -> Result<u64, TextFault>
+    ensures { Gives (required (table_view table.now) (codes "version") 1 1) result }
+{
+    match required_number(table, "version", 1, 1) {
+        Ok(version) => Ok(version),
+        Err(key) => Err(bad_key(alloc, "", key)),
+    }
+}
+
 /// The scenario of a table.
 fn scenario_of(alloc: Global, table: &Table) -> Result<Scenario, TextFault>
     ensures { Gives (scenario_in (table_view table.now)) result }
 {
-    if let Err(key) = required_number(table, "version", 1, 1) {
-        return Err(bad_key(alloc, "", key));
-    }
+    version_of(alloc, table)?;
     let config = site_of_table(alloc, table_of(table, "machine"))?;
     let settings = settings_of_value(alloc, member(table, "run"))?;
     let guests = guests_of(alloc, &config, member(table, "vm"))?;
