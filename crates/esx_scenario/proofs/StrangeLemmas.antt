@@ -1,15 +1,17 @@
 -- Unknown keys, one after another.
-use Rattle.std.proofs.Common.{◌≡◌, ◌+◌, ℕ, List, [], ◌∷◌, ◌++◌, Bool, true, false, Option, Some, None, Result, Ok, Err, refl, sym, ap, ◌∙◌, string_bytes, fold}
+use Rattle.std.proofs.Common.{◌≡◌, ◌+◌, ℕ, List, [], ◌∷◌, ◌++◌, Bool, true, false, Option, Some, None, Result, Ok, Err, refl, sym, ap, ◌∙◌, string_bytes, fold, codes}
+use Rattle.std.specs.Prelude.{option_and_then}
 use Rattle.std.specs.Ordering.{nat_cmp, is_lt}
 use Rattle.std.specs.Cmp.Lexicographic.{slice_cmp}
 use Rattle.std.proofs.lemmas.List.Sums.{fold-append}
-use Rattle.toml.specs.Data.{Data, string, integer, float, boolean, datetime, array, table, Items, no_items, item, Members, as_table}
+use Rattle.toml.specs.Data.{Data, string, integer, float, boolean, datetime, array, table, Items, no_items, item, Members, as_table, as_array, get_member}
 use Rattle.toml.specs.View.{view, members_view}
 use Rattle.toml.proofs.Views.{Entry}
 use Rattle.esx_scenario.specs.declared.strange.Place.{Place}
 use Rattle.esx_scenario.specs.declared.strange.Place.TheVariants.{Top, Machine, Run, Vm}
 use Rattle.esx_scenario.specs.Guests.{vm_path}
-use Rattle.esx_scenario.specs.Strange.{is_known, strange_in, strange_at, strange_from, strange_vms, lesser, least, none_strange}
+use Rattle.esx_scenario.specs.Keys.{table_at}
+use Rattle.esx_scenario.specs.Strange.{is_known, strange_in, strange_at, strange_from, strange, strange_vms, lesser, least, none_strange}
 use Rattle.esx_scenario.proofs.GuestLemmas.{is_table}
 
 pub lesser_none : (path : List ℕ) → lesser None path ≡ Some path
@@ -73,14 +75,6 @@ least_of_four a b c d first second third fourth e f g h =
     h ∙ ap (λ x. fold lesser x d) (g ∙ ap (λ x. fold lesser x c) (f ∙ ap (λ x. fold lesser x b) e ∙ sym (fold-append lesser None a b)) ∙ sym (fold-append lesser None (a ++ b) c))
     ∙ sym (fold-append lesser None (a ++ b ++ c) d)
 
-pub no_guests : (o : Option Items) → o ≡ None → strange_vms o ≡ []
-unfolding strange_vms
-no_guests o e = rw e refl
-
-pub some_guests : (o : Option Items) (ds : Items) → o ≡ Some ds → strange_vms o ≡ strange_from 0 ds
-unfolding strange_vms
-some_guests o ds e = rw e refl
-
 pub none_is_strange : (o : Option (List ℕ)) → None ≡ o → none_strange o ≡ Ok tt
 unfolding none_strange
 none_is_strange o e = rw (← e) refl
@@ -88,3 +82,21 @@ none_is_strange o e = rw (← e) refl
 pub one_is_strange : (o : Option (List ℕ)) (path : List ℕ) → Some path ≡ o → none_strange o ≡ Err path
 unfolding none_strange
 one_is_strange o path e = rw (← e) refl
+
+-- the least of the unknown keys, from the least after each table
+pub strange_least : (t : Members) (machine run : Option Members) (vms : Option Items) (first second third fourth : Option (List ℕ)) → first ≡ fold lesser None (strange_in Top [] t)
+    → machine ≡ table_at t (codes "machine") → second ≡ fold lesser first (strange_at Machine (codes "machine.") machine)
+    → run ≡ table_at t (codes "run") → third ≡ fold lesser second (strange_at Run (codes "run.") run)
+    → vms ≡ option_and_then as_array (get_member (codes "vm") t) → fourth ≡ fold lesser third (strange_vms vms) → fourth ≡ least (strange t)
+strange_least t machine run vms first second third fourth a m b r c v d =
+    least_of_four (strange_in Top [] t) (strange_at Machine (codes "machine.") (table_at t (codes "machine"))) (strange_at Run (codes "run.") (table_at t (codes "run")))
+    (strange_vms (option_and_then as_array (get_member (codes "vm") t))) first second third fourth a (b ∙ ap (λ x. fold lesser first (strange_at Machine (codes "machine.") x)) m)
+    (c ∙ ap (λ x. fold lesser second (strange_at Run (codes "run.") x)) r) (d ∙ ap (λ x. fold lesser third (strange_vms x)) v)
+
+pub no_vms : (best : Option (List ℕ)) → best ≡ fold lesser best (strange_vms None)
+unfolding strange_vms
+no_vms best = refl
+
+pub some_vms : (best : Option (List ℕ)) (ds : Items) → fold lesser best (strange_from 0 ds) ≡ fold lesser best (strange_vms (Some ds))
+unfolding strange_vms
+some_vms best ds = refl

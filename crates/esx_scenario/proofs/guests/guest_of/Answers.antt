@@ -10,11 +10,11 @@ pub returns-in-Err-spec_of-clause-exact : goal.returns-in-Err-spec_of-clause-exa
 returns-in-Err-spec_of-clause-exact c = gives_err _ _ _ (below_err _ _ _ (then_ok _ _ _ _ c.in-Ok.ensures.exact (then_err _ _ _ c.in-Err-spec_of.ensures.exact))) c.bad_vm_key-in-Err-spec_of.ensures
 
 pub returns-in-Ok-Some-clause-exact : goal.returns-in-Ok-Some-clause-exact
-returns-in-Ok-Some-clause-exact c = 
+returns-in-Ok-Some-clause-exact c =
     let found = rw (c.member.ensures, c.in-Ok-Some.field-0-is) at c.in-Ok-Some.ensures.exact in
     below_ok _ _ _ (then_ok _ _ _ _ c.in-Ok.ensures.exact (then_ok _ _ _ _ c.in-Ok-spec_of.ensures.exact (then_ok _ _ _ _ (at_key_some _ _ _ (sym found)) refl)))
 
 pub returns-in-Ok-None-clause-exact : goal.returns-in-Ok-None-clause-exact
-returns-in-Ok-None-clause-exact c = 
+returns-in-Ok-None-clause-exact c =
     let found = rw (c.member.ensures, c.in-Ok-None.field-0-is) at c.in-Ok-None.ensures.exact in
     gives_err _ _ _ (below_err _ _ _ (then_ok _ _ _ _ c.in-Ok.ensures.exact (then_ok _ _ _ _ c.in-Ok-spec_of.ensures.exact (then_err _ _ _ (at_key_none _ _ (sym found)))))) c.bad_vm_key-in-Ok-None.ensures

@@ -13,7 +13,7 @@ pub returns-in_default-as_array-clause-exact : goal.returns-in_default-as_array-
 returns-in_default-as_array-clause-exact c = gives_err _ _ _ (guests_other _ _ _ (rw c.in-Some.is refl) c.in_default-as_array.ensures) c.bad_key.ensures
 
 pub returns-then-len-gt-MOST_GUESTS-clause-exact : goal.returns-then-len-gt-MOST_GUESTS-clause-exact
-returns-then-len-gt-MOST_GUESTS-clause-exact c = 
+returns-then-len-gt-MOST_GUESTS-clause-exact c =
     let count = count_is c.in-Some-as_array.values.now.items in
     let unfit : (nat_le (count_items (items_view c.in-Some-as_array.values.now.items)) 32 && are_tables (items_view c.in-Some-as_array.values.now.items)) ≡ false = elim c.then-len-gt-MOST_GUESTS.branch [
       | then-len-gt-MOST_GUESTS-via-then-len-gt-MOST_GUESTS w ↦ many (items_view c.in-Some-as_array.values.now.items) (are_tables (items_view c.in-Some-as_array.values.now.items)) (omega (arith, count, c.len.ensures, w.if-len-gt-MOST_GUESTS.true))
@@ -22,7 +22,7 @@ returns-then-len-gt-MOST_GUESTS-clause-exact c =
     gives_err _ _ _ (guests_unfit _ _ _ _ (rw c.in-Some.is refl) c.in-Some-as_array.ensures unfit) c.bad_key-then-len-gt-MOST_GUESTS.ensures
 
 pub returns-clause-exact : goal.returns-clause-exact
-returns-clause-exact c = 
+returns-clause-exact c =
     let count = count_is c.in-Some-as_array.values.now.items in
     let fit = all_fit (items_view c.in-Some-as_array.values.now.items) (omega (arith, count, c.len.ensures, c.if-len-gt-MOST_GUESTS.false)) (ap (λ l. are_tables (items_view l)) (sym c.as_slice.ensures.value) ∙ sym c.all_tables.ensures ∙ c.if-not-all_tables.false) in
     gives_at _ _ _ (guests_fit _ _ _ _ (rw c.in-Some.is refl) c.in-Some-as_array.ensures fit) (rw c.as_slice-2.ensures.value at c.guests_of_tables.ensures.exact)

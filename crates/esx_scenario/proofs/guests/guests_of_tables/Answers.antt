@@ -6,18 +6,18 @@ use Rattle.esx_scenario.proofs.GuestLemmas.{item_here, no_item_here, gives_err, 
 use Rattle.esx_scenario.proofs.guests.guests_of_tables.Goals as goal
 
 pub returns-in_default-clause-exact : goal.returns-in_default-clause-exact
-returns-in_default-clause-exact c = 
+returns-in_default-clause-exact c =
     let here = item_here c.args.values.now c.loop-value.value-index c.value-item.result c.value-item.is c.loop-value-test.true in
     gives_err _ _ _ (c.loop-value.invariant.exact ∙ guests_kind _ _ _ _ _ here c.in_default.ensures) c.bad_key.ensures
 
 pub returns-in_err-guest-clause-exact : goal.returns-in_err-guest-clause-exact
-returns-in_err-guest-clause-exact c = 
+returns-in_err-guest-clause-exact c =
     let here = item_here c.args.values.now c.loop-value.value-index c.value-item.result c.value-item.is c.loop-value-test.true in
     gives_on _ _ _ c.from_residual.ensures.1
     (guest_stop _ _ _ _ _ _ _ _ c.in_err-guest.field-0.0 c.loop-value.invariant.exact here c.in-Some.ensures c.as_slice.ensures c.in_err-guest.ensures.exact)
 
 pub loop-value-preserved : goal.loop-value-preserved
-loop-value-preserved c = 
+loop-value-preserved c =
     let here = item_here c.args.values.now c.loop-value.value-index c.value-item.result c.value-item.is c.loop-value-test.true in
     let good = IsGuest c.args.site.now in
     let grown = pushed c.push.result (sym c.if-is_err.ensures.value) c.push.ensures.ok in

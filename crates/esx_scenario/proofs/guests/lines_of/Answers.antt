@@ -5,17 +5,17 @@ use Rattle.esx_scenario.proofs.GuestLemmas.{item_here, no_item_here, text_none, 
 use Rattle.esx_scenario.proofs.guests.lines_of.Goals as goal
 
 pub returns-in_default-clause-exact : goal.returns-in_default-clause-exact
-returns-in_default-clause-exact c = 
+returns-in_default-clause-exact c =
     let here = item_here c.args.values.now c.loop-value.value-index c.value-item.result c.value-item.is c.loop-value-test.true in
     sym (c.loop-value.invariant.exact ∙ lines_kind _ _ _ _ _ _ here (text_none c.as_str.result _ c.as_str.ensures c.in_default.is))
 
 pub returns-in_default-2-clause-exact : goal.returns-in_default-2-clause-exact
-returns-in_default-2-clause-exact c = 
+returns-in_default-2-clause-exact c =
     let here = item_here c.args.values.now c.loop-value.value-index c.value-item.result c.value-item.is c.loop-value-test.true in
     sym (c.loop-value.invariant.exact ∙ lines_wrong _ _ _ _ _ _ _ here c.in-Some.ensures (sym c.in_default-2.is ∙ c.in_ok-line.ensures.exact))
 
 pub loop-value-preserved : goal.loop-value-preserved
-loop-value-preserved c = 
+loop-value-preserved c =
     let here = item_here c.args.values.now c.loop-value.value-index c.value-item.result c.value-item.is c.loop-value-test.true in
     let stays = IsWithin c.args.size c.args.pages in
     record {

@@ -10,6 +10,6 @@ pub returns-then-has_guest-clause-exact : goal.returns-then-has_guest-clause-exa
 returns-then-has_guest-clause-exact c = then_ok _ _ _ _ c.in_ok-number.ensures.exact (new_number_err _ _ (sym c.if-has_guest.ensures))
 
 pub returns-clause-exact : goal.returns-clause-exact
-returns-clause-exact c = 
+returns-clause-exact c =
     let found : c.new.result ≡ Some c.in_ok-number.field-0 = made _ _ (c.new.ensures.some.1 (omega (arith, c.in_ok-number.ensures.range))) c.new.ensures.value in
     rw (c.ok_or.ensures.value, found) (then_ok _ _ _ _ c.in_ok-number.ensures.exact (new_number_ok _ _ (sym c.if-has_guest.ensures)))

@@ -7,7 +7,7 @@ use Rattle.esx_scenario.proofs.StrangeLemmas.{known_step, strange_step, none_ste
 use Rattle.esx_scenario.proofs.strange.least_in.Goals as goal
 
 pub members-preserved-then-not-knows : goal.members-preserved-then-not-knows
-members-preserved-then-not-knows c = 
+members-preserved-then-not-knows c =
     let e : Entry = (c.in-Some.key.now, c.in-Some.field-0-1.now) in
     let iter : c.members.key-iterator ≡ e ∷ c.next.new.self = grind (arith, common_steps) in
     c.members.invariant ∙ strange_step c.args.place c.args.prefix.now (option_map string_bytes c.members.least) c.members.key-iterator c.next.new.self e iter
@@ -16,7 +16,7 @@ members-preserved-then-not-knows c =
     (ap (lesser (option_map string_bytes c.members.least)) (sym c.in_ok-path.ensures.ok) ∙ sym c.lesser_path-least.ensures)
 
 pub members-preserved : goal.members-preserved
-members-preserved c = 
+members-preserved c =
     let e : Entry = (c.in-Some.key.now, c.in-Some.field-0-1.now) in
     let iter : c.members.key-iterator ≡ e ∷ c.next.new.self = grind (arith, common_steps) in
     c.members.invariant ∙ known_step c.args.place c.args.prefix.now (option_map string_bytes c.members.least) c.members.key-iterator c.next.new.self e iter

@@ -8,7 +8,7 @@ use Rattle.esx_scenario.proofs.StrangeLemmas.{guest_step, skip_step, end_step}
 use Rattle.esx_scenario.proofs.strange.least_of_guests.Goals as goal
 
 pub loop-place-preserved : goal.loop-place-preserved
-loop-place-preserved c = 
+loop-place-preserved c =
     let here = item_here c.args.values.now c.loop-place.place c.index-values-place.result c.index-values-place.is c.loop-place-test.true in
     c.loop-place.invariant ∙ elim c.match-as_table.branch [
       | in-Some+in_ok-prefix+in_ok-least w ↦ guest_step c.loop-place.place (option_map string_bytes c.loop-place.least) _ _ _ _ here w.in-Some.ensures
