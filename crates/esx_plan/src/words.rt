@@ -16,7 +16,7 @@ pub enum WordsFault {
 }
 
 /// What may stand on the program's command line: nothing, or `console` and at most one file.
-fn program(alloc: Global) -> Result<Command<'static>, AllocError>
+fn program<'a>(alloc: Global) -> Result<Command<'a>, AllocError>
     ensures { IfOk result (λ c. app_of c ≡ program_app) }
 {
     let file = Arg::new(alloc, "file");
@@ -38,12 +38,9 @@ pub fn file_of_words<'a>(alloc: Global, words: &'a [String]) -> Result<Option<&'
             Some((_, console)) => Ok(console.get_str("file")),
             None => Ok(None),
         },
-        Err(error) => {
-            if error.kind() == ErrorKind::OutOfMemory {
-                Err(WordsFault::OutOfMemory)
-            } else {
-                Err(WordsFault::Wrong)
-            }
-        }
+        Err(error) => match error.kind() {
+            ErrorKind::OutOfMemory => Err(WordsFault::OutOfMemory),
+            _ => Err(WordsFault::Wrong),
+        },
     }
 }
