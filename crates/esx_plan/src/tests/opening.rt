@@ -1,6 +1,6 @@
 //! The program's words, and the sites of scenarios that readers give.
 
-use crate::SITE;
+use crate::{SITE, site_of_file};
 use crate::opening::site_of_reader;
 use crate::words::{WordsFault, file_of_words};
 use esx_reading::TextFault;
@@ -119,4 +119,10 @@ fn sites(rt: HostRuntime) -> Result<(), Fail> {
     };
     assert_eq!(rt; fault.to_string(alloc)?.as_str(), "bad key version");
     Ok(())
+}
+
+/// A file that is not there cannot be read.
+#[test]
+fn no_file(rt: HostRuntime) {
+    assert!(rt; site_of_file(&rt, "no such folder/a.toml") == Err(TextFault::Read));
 }
