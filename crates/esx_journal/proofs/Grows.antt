@@ -10,7 +10,8 @@ use Rattle.esx_types.specs.declared.event.Refusal.{Refusal}
 use Rattle.esx_types.specs.declared.event.Refusal.TheVariants.{Full, OutOfMemory}
 use Rattle.esx_plain.specs.declared.scene.Scene.{Scene}
 use Rattle.esx_plain.specs.Replay.{opening, next, run, replay_of, shown_after}
-use Rattle.esx_plain.specs.History.{Node, Move, Up, Down, History, parent, alive, path, on_way, at, last_descent, IsTree, IsWalk, cursor, here, opened, done, answered, do_event, child, if_alive, down_once, down_to, then_go, redone, redo, scene_or, scene_at}
+use Rattle.esx_plain.specs.Tree.{Node, Move, Up, Down, parent, alive, path, on_way, at, last_descent, IsTree, IsWalk}
+use Rattle.esx_plain.specs.History.{History, cursor, here, opened, done, answered, do_event, child, if_alive, down_once, down_to, then_go, redone, redo, scene_or, scene_at}
 use Rattle.esx_machine.specs.Machine as machines
 use Rattle.esx_machine.specs.Changes.{Back}
 use Rattle.esx_machine.specs.Machine.{Shows, Trades, Accepts, Refuses}

@@ -8,7 +8,8 @@ use Rattle.esx_types.specs.declared.event.Refusal.{Refusal}
 use Rattle.esx_types.specs.declared.event.Refusal.TheVariants.{Full}
 use Rattle.esx_plain.specs.declared.scene.Scene.{Scene}
 use Rattle.esx_plain.specs.Replay.{opening, next, run, run_from, replay_of, shown_after}
-use Rattle.esx_plain.specs.History.{Node, History, alive, path, on_way, at, IsTree, IsWalk, cursor, here, opened, done, answered, do_event, scene_or, scene_at, book_at, undone, redone, undo, redo, jumped}
+use Rattle.esx_plain.specs.Tree.{Node, alive, path, on_way, at, IsTree, IsWalk}
+use Rattle.esx_plain.specs.History.{History, cursor, here, opened, done, answered, do_event, scene_or, scene_at, book_at, undone, redone, undo, redo, jumped}
 use Rattle.esx_journal.specs.Reached.{IsReached, Opened, Did, Undid, Redid}
 use Rattle.esx_journal.specs.Turns.{Shortens, Lengthens}
 use Rattle.esx_journal.proofs.Paths.{newest, parent_new, alive_old, path_new, path_old, way_old, way_below, way_same, walk_ends}

@@ -10,7 +10,8 @@ use Rattle.esx_plain.specs.declared.scene.Scene.{Scene}
 use Rattle.esx_plain.specs.Show.{shown}
 use Rattle.esx_plain.specs.Replay.{run}
 use Rattle.esx_plain.specs.Sound.{IsSound}
-use Rattle.esx_plain.specs.History.{Move, History, parent, alive, path, on_way, last_descent, IsTree, IsWalk, cursor, here, scene_or, book_at}
+use Rattle.esx_plain.specs.Tree.{Move, parent, alive, path, on_way, last_descent, IsTree, IsWalk}
+use Rattle.esx_plain.specs.History.{History, cursor, here, scene_or, book_at}
 use Rattle.esx_machine.specs.Machine as machines
 use Rattle.esx_machine.specs.Changes.{Back}
 use Rattle.esx_machine.specs.Machine.{Trades}

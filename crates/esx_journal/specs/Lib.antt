@@ -3,6 +3,7 @@ pub mod Journal
 pub mod Reached
 pub mod Turns
 pub use Rattle.esx_types.specs.Ranges
+pub use Rattle.esx_plain.specs.Tree
 pub use Rattle.esx_plain.specs.History
 pub use Rattle.esx_plain.specs.Replay
 pub use Rattle.esx_plain.specs.Show

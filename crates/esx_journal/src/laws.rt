@@ -5,7 +5,8 @@ ghost use Rattle.std.specs.Prelude.{◌≡◌, ◌<◌, ◌≤◌, ◌+◌, ◌+
 ghost use Rattle.esx_types.specs.declared.config.Config.{Config};
 ghost use Rattle.esx_types.specs.declared.event.Event.{Event};
 ghost use Rattle.esx_plain.specs.Replay.{run, replay_of};
-ghost use Rattle.esx_plain.specs.History.{History, alive, on_way, cursor, here, done, undo, redo, scene_at};
+ghost use Rattle.esx_plain.specs.Tree.{alive, on_way};
+ghost use Rattle.esx_plain.specs.History.{History, cursor, here, done, undo, redo, scene_at};
 ghost use Rattle.esx_journal.specs.Journal.{Holds};
 ghost use Rattle.esx_journal.specs.Reached.{IsReached};
 ghost use Rattle.esx_journal.specs.Turns.{Turn, turned, back, forward, OnlyMoves, IsSamePlace, Shortens, Lengthens, LeadsTo};
