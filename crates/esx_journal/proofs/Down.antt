@@ -5,7 +5,7 @@ use Rattle.esx_plain.specs.Tree.{Move, Down, path, at, last_descent, IsTree, IsW
 use Rattle.esx_plain.specs.History.{History, cursor, here, child, down_to, redone, redo, jumped}
 use Rattle.esx_journal.specs.Turns.{above}
 use Rattle.esx_journal.proofs.Paths.{path_child}
-use Rattle.esx_journal.proofs.Steps.{is_child, child_by, same_descents}
+use Rattle.esx_journal.proofs.Steps.{descents_of, is_child, child_by, same_descents}
 use Rattle.esx_journal.proofs.Moves.{redone_back}
 
 -- where k steps down lead
@@ -28,7 +28,7 @@ goes_below (suc k) m w tree walk e =
     let last = redone_back m w k (ap (λ x. redone x m) i ∙ e) in
     let before = goes_below k m last.before tree walk last.gives in
     let b : History = record m { walk = before.walk } in
-    let n = is_child b before.walk last.node before.walks (child_by b last.node (ap child (sym before.is) ∙ last.is)) in
+    let n = is_child b before.walk last.node (descents_of m.nodes before.walk before.walks) (child_by b last.node (ap child (sym before.is) ∙ last.is)) in
     let long = path_child m.nodes last.node tree n.some n.fits in
     record {
       walk = Down last.node ∷ before.walk;

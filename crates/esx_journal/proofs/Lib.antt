@@ -1,4 +1,5 @@
 pub mod Lists
+pub mod Names
 pub mod Paths
 pub mod Runs
 pub mod Steps

@@ -148,3 +148,13 @@ unfolding at parent
 walk_ends nodes [] tree walk = omega arith
 walk_ends nodes (Up ∷ w) tree walk = parent_fits nodes (at nodes w) tree (walk_ends nodes w tree walk)
 walk_ends nodes (Down n ∷ w) tree walk = walk.1
+
+-- a node that stands was made
+pub alive_fits : (nodes : List Node) (n : ℕ) → alive nodes n ≡ true → n ≤ length nodes
+unfolding alive
+alive_fits [] n h = cc
+alive_fits (x ∷ older) n h = of (eqb_tells n (length older + 1)) (λ e. alive_fits older n e)
+  where
+    of : (((n == (length older + 1)) ≡ true) × (n ≡ length older + 1)) ⊎ (((n == (length older + 1)) ≡ false) × (n ≢ length older + 1)) → (alive older n ≡ true → n ≤ length older) → n ≤ length (x ∷ older)
+    of (inl e) f = (let k = e.1 in omega arith)
+    of (inr e) f = (let k = f (sym (ap (λ b. cond b x.alive (alive older n)) e.0) ∙ h) in omega arith)

@@ -14,7 +14,7 @@ use Rattle.esx_journal.specs.Reached.{IsReached, Opened, Did, Undid, Redid}
 use Rattle.esx_journal.specs.Turns.{Shortens, Lengthens}
 use Rattle.esx_journal.proofs.Paths.{newest, parent_new, alive_old, path_new, path_old, way_old, way_below, way_same, walk_ends}
 use Rattle.esx_plain.proofs.Callers.{run_one_more}
-use Rattle.esx_journal.proofs.Steps.{IsChild, is_child, child_by}
+use Rattle.esx_journal.proofs.Steps.{IsChild, descents_of, is_child, child_by}
 use Rattle.esx_journal.proofs.Moves.{redone_back}
 use Rattle.esx_journal.proofs.Grows.{node_of, at_grown, walk_grown, way_done}
 use Rattle.esx_journal.proofs.Back.{undone_is, at_ups, walk_ups, way_from_above, gone_up, undo_is, here_up}
@@ -67,7 +67,7 @@ steady_down c (suc k) m w s e =
     let i : k + 1 ≡ suc k = omega arith in
     let last = redone_back m w k (ap (λ x. redone x m) i ∙ e) in
     let before = steady_down c k m last.before s last.gives in
-    let n = is_child last.before last.before.walk last.node before.walk (child_by last.before last.node last.is) in
+    let n = is_child last.before last.before.walk last.node (descents_of last.before.nodes last.before.walk before.walk) (child_by last.before last.node last.is) in
     let P : History → Type 0 = IsSteady c in
     subst P last.same (record {
       config = before.config;
@@ -156,16 +156,6 @@ reached_steady c m (Redid k h after r q) = steady_redid c h m k (reached_steady 
 -- the replay of the cursor's path
 pub replayed_here : (c : Config) (m : History) → IsSteady c m → replay_of m.config (here m) ≡ Ok (book_at m)
 replayed_here c m s = ap (shown_after m.config) (runs_here c m s)
-
--- a node that stands was made
-pub alive_fits : (nodes : List Node) (n : ℕ) → alive nodes n ≡ true → n ≤ length nodes
-unfolding alive
-alive_fits [] n h = cc
-alive_fits (x ∷ older) n h = of (eqb_tells n (length older + 1)) (λ e. alive_fits older n e)
-  where
-    of : (((n == (length older + 1)) ≡ true) × (n ≡ length older + 1)) ⊎ (((n == (length older + 1)) ≡ false) × (n ≢ length older + 1)) → (alive older n ≡ true → n ≤ length older) → n ≤ length (x ∷ older)
-    of (inl e) f = (let k = e.1 in omega arith)
-    of (inr e) f = (let k = f (sym (ap (λ b. cond b x.alive (alive older n)) e.0) ∙ h) in omega arith)
 
 -- an undo from a reached history
 pub shortens : (c : Config) (m : History) (k : ℕ) → IsReached c m → k ≤ length (here m) → Shortens m k

@@ -4,9 +4,12 @@
 
 pub mod journal;
 pub mod laws;
+pub mod marks;
 mod row;
+mod trial;
 
 pub use journal::Journal;
+pub use marks::Marks;
 
 #[cfg(test)]
 mod tests {
