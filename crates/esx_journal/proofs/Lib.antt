@@ -1,6 +1,9 @@
 pub mod Lists
 pub mod Names
 pub mod Paths
+pub mod Ways
+pub mod Sinking
+pub mod Pruning
 pub mod Runs
 pub mod Steps
 pub mod Moves

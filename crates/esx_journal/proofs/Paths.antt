@@ -11,7 +11,7 @@ newest n k h = elim (eqb_tells n (k + 1)) as (λ _. (n ≡ k + 1) ⊎ (n ≤ k))
 pub is_other : (n k : ℕ) → n ≢ k → (n == k) ≡ false
 is_other n k h = elim (eqb_tells n k) as (λ _. (n == k) ≡ false) [ inl e ↦ absurd (h e.1) | inr e ↦ e.0 ]
 
-is_older : (n k : ℕ) → n ≤ k → (n == (k + 1)) ≡ false
+pub is_older : (n k : ℕ) → n ≤ k → (n == (k + 1)) ≡ false
 is_older n k h = is_other n (k + 1) (λ e. omega arith)
 
 pub parent_new : (x : Node) (older : List Node) (n : ℕ) → n ≡ length older + 1 → parent (x ∷ older) n ≡ x.parent

@@ -1,5 +1,5 @@
 -- The way to a node.
-use Rattle.std.specs.Prelude.{◌≡◌, ℕ, zero, suc, ◌≤◌, List, ◌∷◌, ◌++◌}
+use Rattle.std.specs.Prelude.{◌≡◌, ℕ, zero, suc, ◌<◌, List, ◌∷◌, ◌++◌}
 use Rattle.esx_plain.specs.Tree.{Node, Move, Up, Down, parent, last_descent}
 use Rattle.esx_plain.specs.History.{History, cursor}
 use Rattle.esx_plain.specs.Branching.{line, way}
@@ -23,4 +23,5 @@ pub record Climbed (h : History) (goal : ℕ) (j : Kept) (count : ℕ) : Type 0 
   pub holds : Aims j (record h { walk = ups rise h.walk }) aim
   pub place : j.cursor ≡ above h.nodes count goal
   pub way : way (line h.nodes (cursor h)) (line h.nodes goal) ++ h.walk ≡ downs h.nodes count goal (ups rise h.walk)
+  pub some : (i : ℕ) → i < count → 0 < above h.nodes i goal
   pub lasts : (n : ℕ) → last_descent h.nodes aim n ≡ last_descent h.nodes (downs h.nodes count goal h.walk) n

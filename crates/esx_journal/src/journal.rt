@@ -121,6 +121,8 @@ impl Journal {
     fn step_up(&mut self)
         requires { 0 < self.old.depth }
         ensures depth { self.new.depth + 1 ≡ self.old.depth }
+        ensures size { length self.new.rows ≡ length self.old.rows }
+        ensures older { self.new.cursor < self.old.cursor }
         ensures holds { (h : History) (aim : List Move) → Aims self.old h aim → Aims self.new (up_once h) aim }
     {
         let at = self.cursor as usize;
@@ -192,8 +194,11 @@ impl Journal {
 
     /// Makes a node the last child of its parent, which it answers.
     fn aim_at(&mut self, node: u32) -> u32
-        requires { (h : History) × (aim : List Move) × Aims self.old h aim × (0 < node) × (node ≤ length h.nodes) }
+        requires some { 0 < node }
+        requires within { node < length self.old.rows }
         ensures older { result < node }
+        ensures size { length self.new.rows ≡ length self.old.rows }
+        ensures place { self.new.cursor ≡ self.old.cursor }
         ensures holds { (h : History) (aim : List Move) → Aims self.old h aim → (result ≡ parent h.nodes node) × Aims self.new h (Down node ∷ aim) }
     {
         let parent = self.rows[node as usize].parent;
@@ -204,7 +209,7 @@ impl Journal {
     /// Goes up to where the way to a node leaves the cursor's, and makes that way the one of the last
     /// children. Answers how many nodes it still is to go down.
     fn climb(&mut self, node: u32) -> u32
-        requires { (h : History) × (aim : List Move) × Aims self.old h aim × (node ≤ length h.nodes) }
+        requires { node < length self.old.rows }
         ensures { (h : History) → Holds self.old h → Climbed h node self.new result }
     {
         let mut at = node;

@@ -1,9 +1,10 @@
 use Rattle.std.proofs.Common.{ap, subst, arith, refl, ◌<◌, ◌-◌, List}
-use Rattle.esx_plain.specs.Tree.{Move}
-use Rattle.esx_plain.specs.History.{History, up_once}
+use Rattle.esx_plain.specs.Tree.{Move, at}
+use Rattle.esx_plain.specs.History.{History, cursor, up_once}
 use Rattle.esx_journal.specs.declared.row.Row.{Row}
 use Rattle.esx_journal.specs.Journal.{Kept, Aims}
-use Rattle.esx_journal.proofs.Steps.{flips_up, went_up, cursor_fits}
+use Rattle.esx_journal.proofs.Paths.{parent_below}
+use Rattle.esx_journal.proofs.Steps.{flips_up, went_up, cursor_fits, cursor_some}
 use Rattle.esx_journal.proofs.journal.Journal.step_up.Goals as goal
 
 pub flip_row-requires-clause-inside : goal.flip_row-requires-clause-inside
@@ -53,3 +54,17 @@ returns-clause-holds c =
     let new : Kept = record { machine = c.flip_row.new.machine; rows = c.flip_row.new.rows.items; cursor = c.index.result.now.parent; depth = c.self.inside.depth - 1; nodes = c.self.inside.nodes; marks = c.self.inside.marks } in
     let P : Kept → Type 0 = λ k. (h : History) (aim : List Move) → Aims k h aim → Aims new (up_once h) aim in
     subst P c.self.view_is (λ m aim h. went_up old new m aim c.index.result.now h deep c.flip_row.ensures.flips (ap (λ (r : Row). r.parent) c.index.ensures) (omega arith) refl refl)
+
+pub returns-clause-older : goal.returns-clause-older
+unfolding up_once at
+returns-clause-older c =
+    let k = c.self.invariant in
+    let e = ap (λ (x : Kept). x.depth) c.self.view_is in
+    let deep : 0 < c.self.inside.depth = (let r = c.requires in omega arith) in
+    let old : Kept = record { machine = c.self.inside.machine; rows = c.self.inside.rows.items; cursor = c.self.inside.cursor; depth = c.self.inside.depth; nodes = c.self.inside.nodes; marks = c.self.inside.marks } in
+    let new : Kept = record { machine = c.flip_row.new.machine; rows = c.flip_row.new.rows.items; cursor = c.index.result.now.parent; depth = c.self.inside.depth - 1; nodes = c.self.inside.nodes; marks = c.self.inside.marks } in
+    let there = (went_up old new k.history k.aim c.index.result.now k.holds deep c.flip_row.ensures.flips (ap (λ (r : Row). r.parent) c.index.ensures) (omega arith) refl refl).place in
+    let less = parent_below k.history.nodes (cursor k.history) k.holds.tree (cursor_some old k.history k.aim k.holds deep) (cursor_fits old k.history k.aim k.holds) in
+    let was = k.holds.place in
+    let v = ap (λ (x : Kept). x.cursor) c.self.view_is in
+    omega arith

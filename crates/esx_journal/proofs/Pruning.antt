@@ -1,0 +1,2 @@
+-- Nodes that are dropped.
+use Rattle.std.proofs.Common.{refl}
