@@ -1,17 +1,18 @@
 -- Several moves down to a node.
-use Rattle.std.proofs.Common.{◌≡◌, ◌≢◌, ℕ, zero, suc, ◌+◌, ◌-◌, ◌<◌, ◌≤◌, ◌==◌, ◌||◌, Bool, true, false, cond, List, [], ◌∷◌, ◌++◌, length, length-append, slice_set, slice_index_or, refl, sym, ap, ◌∙◌, subst, arith, Option, Some, None, ◌⊎◌, inl, inr}
-use Rattle.std.proofs.lemmas.Bool.Decides.{eqb_tells}
+use Rattle.std.proofs.Common.{◌≡◌, ◌≢◌, ℕ, zero, suc, ◌+◌, ◌-◌, ◌<◌, ◌≤◌, ◌==◌, ◌||◌, Bool, true, false, cond, List, [], ◌∷◌, ◌++◌, length, length-append, slice_set, slice_index_or, refl, sym, ap, ◌∙◌, subst, arith, Option, Some, None, Ok, Err, nat_lt, ◌⊎◌, inl, inr}
+use Rattle.std.proofs.lemmas.Bool.Decides.{eqb_tells, nat_tests}
 use Rattle.std.proofs.lemmas.Bool.{eq-eqb}
+use Rattle.esx_types.specs.declared.event.Refusal.TheVariants.{NoSuchNode}
 use Rattle.esx_plain.specs.Tree.{Node, Move, Up, Down, parent, alive, path, at, last_descent, IsTree, IsWalk}
-use Rattle.esx_plain.specs.History.{History, cursor, if_alive}
-use Rattle.esx_plain.specs.Branching.{line, way, stands}
+use Rattle.esx_plain.specs.History.{History, cursor, if_alive, jumped}
+use Rattle.esx_plain.specs.Branching.{line, way, stands, gone_to, goto}
 use Rattle.esx_journal.specs.Turns.{above}
 use Rattle.esx_journal.specs.declared.row.Row.{Row}
 use Rattle.esx_journal.specs.Journal.{Kept, IsRow, Aims, Holds}
 use Rattle.esx_journal.specs.Ways.{ups, downs, Climbed}
 use Rattle.esx_journal.proofs.Lists.{set_there, set_elsewhere, set_length}
-use Rattle.esx_journal.proofs.Paths.{is_other, path_child, parent_below, parent_fits, parent_zero}
-use Rattle.esx_journal.proofs.Steps.{cursor_fits}
+use Rattle.esx_journal.proofs.Paths.{alive_fits, is_other, path_child, parent_below, parent_fits, parent_zero}
+use Rattle.esx_journal.proofs.Steps.{cursor_fits, descents_of, aims_same}
 use Rattle.esx_journal.proofs.Back.{above_parent, lasts_ups}
 use Rattle.esx_journal.proofs.Ways.{way_from, way_to, way_none}
 
@@ -253,3 +254,71 @@ aims_at j m aim n p row d h some fits up is =
         → IsRow m (Down n ∷ aim) (cursor m) x (slice_index_or (slice_set j.rows p (record row { last = Some n })) x e)
     of x e within room (inl k) = (let P : Row → Type 0 = IsRow m (Down n ∷ aim) (cursor m) x in subst P (sym (set_there j.rows p x (record row { last = Some n }) e room k.1)) (there x within k.1))
     of x e within room (inr k) = (let P : Row → Type 0 = IsRow m (Down n ∷ aim) (cursor m) x in subst P (sym (set_elsewhere j.rows p x (record row { last = Some n }) e k.1)) (elsewhere x e within k.1))
+
+-- after so many moves down
+abbrev pub sunk : (h : History) (goal : ℕ) (j : Kept) (down : ℕ) → Climbed h goal j down → ℕ → History
+sunk h goal j down c gone = record h { walk = downs h.nodes gone (above h.nodes (down - gone) goal) (ups c.rise h.walk) }
+
+-- the child of the cursor's node on the way to the goal
+pub sinks_to : (h : History) (goal : ℕ) (j now : Kept) (down gone : ℕ) → (c : Climbed h goal j down) → stands h goal ≡ true → goal ≤ length h.nodes → gone < down → Aims now (sunk h goal j down c gone) c.aim
+    → if_alive h.nodes (last_descent h.nodes c.aim (cursor (sunk h goal j down c gone))) ≡ Some (above h.nodes (down - gone - 1) goal)
+unfolding above
+sinks_to h goal j now down gone c up fits less holds =
+    let i : ℕ = down - gone - 1 in
+    let n : suc i ≡ down - gone = omega arith in
+    let b = above h.nodes i goal in
+    let some = c.some i (omega arith) in
+    let place : cursor (sunk h goal j down c gone) ≡ parent h.nodes b
+    = at_downs h.nodes down goal gone (ups c.rise h.walk) (sym c.holds.place ∙ c.place) (omega arith) ∙ ap (λ k. above h.nodes k goal) (sym n) ∙ above_parent h.nodes i goal in
+    ap (if_alive h.nodes) (ap (last_descent h.nodes c.aim) place ∙ c.lasts (parent h.nodes b) ∙ downs_next h.nodes i down goal h.walk c.holds.tree fits (omega arith) some)
+    ∙ ap (λ t. cond t (Some b) None) (above_alive h.nodes i goal c.holds.whole up some)
+
+pub sinks_on : (h : History) (goal : ℕ) (j new : Kept) (down gone : ℕ) → (c : Climbed h goal j down) → gone < down
+    → Aims new (record (sunk h goal j down c gone) { walk = Down (above h.nodes (down - gone - 1) goal) ∷ (sunk h goal j down c gone).walk }) c.aim
+    → Aims new (sunk h goal j down c (gone + 1)) c.aim
+unfolding downs above
+sinks_on h goal j new down gone c less holds =
+    let i : ℕ = down - gone - 1 in
+    let w : List Move = ups c.rise h.walk in
+    let n : suc i ≡ down - gone = omega arith in
+    let m : down - (gone + 1) ≡ i = omega arith in
+    let g : gone + 1 ≡ suc gone = omega arith in
+    let walk : Down (above h.nodes i goal) ∷ downs h.nodes gone (above h.nodes (down - gone) goal) w ≡ downs h.nodes (gone + 1) (above h.nodes (down - (gone + 1)) goal) w
+    = ap (λ x. Down (above h.nodes i goal) ∷ downs h.nodes gone x w) (ap (λ k. above h.nodes k goal) (sym n) ∙ above_parent h.nodes i goal)
+    ∙ ap (λ k. downs h.nodes k (above h.nodes i goal) w) (sym g) ∙ ap (λ k. downs h.nodes (gone + 1) (above h.nodes k goal) w) (sym m) in
+    let P : List Move → Type 0 = λ x. Aims new (record h { walk = x }) c.aim in
+    subst P walk holds
+
+-- at the goal
+pub sunk_home : (h : History) (goal : ℕ) (j new : Kept) (down : ℕ) → (c : Climbed h goal j down) → Aims new (sunk h goal j down c down) c.aim → Holds new (gone_to goal h)
+unfolding above
+sunk_home h goal j new down c holds =
+    let z : down - down ≡ 0 = omega arith in
+    let w : List Move = ups c.rise h.walk in
+    let there : downs h.nodes down (above h.nodes (down - down) goal) w ≡ way (line h.nodes (cursor h)) (line h.nodes goal) ++ h.walk = ap (λ k. downs h.nodes down (above h.nodes k goal) w) z ∙ sym c.way in
+    let P : List Move → Type 0 = λ x. Aims new (record h { walk = x }) c.aim in
+    let arrived : Aims new (gone_to goal h) c.aim = subst P there holds in
+    aims_same new (gone_to goal h) c.aim (way (line h.nodes (cursor h)) (line h.nodes goal) ++ h.walk) arrived (descents_of h.nodes (way (line h.nodes (cursor h)) (line h.nodes goal) ++ h.walk) arrived.walk)
+    (λ n. ap (λ s. last_descent h.nodes s n) c.way ∙ downs_ups h.nodes down goal c.rise n h.walk ∙ sym (c.lasts n))
+
+pub goto_none : (n : ℕ) (h : History) → stands h n ≡ false → goto n h ≡ Err NoSuchNode
+unfolding goto
+goto_none n h e = ap (λ b. cond b (Ok (jumped (gone_to n h))) (Err NoSuchNode)) e
+
+pub goto_some : (n : ℕ) (h : History) → stands h n ≡ true → goto n h ≡ Ok (jumped (gone_to n h))
+unfolding goto
+goto_some n h e = ap (λ b. cond b (Ok (jumped (gone_to n h))) (Err NoSuchNode)) e
+
+not_less : (a b : ℕ) → false ≡ nat_lt a b → b ≤ a
+not_less a b h = grind (arith, nat_tests)
+
+-- no node stands past the last number
+pub none_past : (nodes : List Node) (n : ℕ) → length nodes < n → ((n == 0) || alive nodes n) ≡ false
+none_past nodes n h = ap (λ b. b || alive nodes n) (is_other n 0 (λ e. omega arith)) ∙ of (alive nodes n) (λ e. (let f = alive_fits nodes n e in absurd (omega arith)))
+  where
+    of : (b : Bool) → (b ≡ true → ⊥) → b ≡ false
+    of true e = absurd (e refl)
+    of false e = refl
+
+pub stands_past : (j : Kept) (h : History) (aim : List Move) (n : ℕ) → Aims j h aim → false ≡ nat_lt n (length j.rows) → false ≡ stands h n
+stands_past j h aim n holds e = (let s = holds.size in let f = not_less n (length j.rows) e in sym (none_past h.nodes n (omega arith)))

@@ -1,6 +1,6 @@
 //! The journal: one row for each node, at its number.
 
-ghost use Rattle.std.specs.Prelude.{◌≡◌, ◌≢◌, ◌<◌, ◌≤◌, ◌+◌, ◌∷◌, ℕ, List, length, IfOk, IfErr, is_some, Some, Ok};
+ghost use Rattle.std.specs.Prelude.{◌≡◌, ◌≢◌, ◌<◌, ◌≤◌, ◌+◌, ◌∷◌, ℕ, List, length, IfOk, IfErr, is_some, true, Some, Ok};
 ghost use Rattle.esx_types.specs.Ranges.{IsConfig};
 ghost use Rattle.esx_plain.specs.Replay.{replay_of};
 ghost use Rattle.esx_plain.specs.Tree.{Move, Down, parent, last_descent};
@@ -184,6 +184,7 @@ impl Journal {
 
     fn stands(&self, node: u32) -> bool
         ensures told { (h : History) (aim : List Move) → Aims self.now h aim → result ≡ stands h node }
+        ensures within { result ≡ true → node < length self.now.rows }
     {
         node == 0
             || match self.rows.get(node as usize) {
