@@ -4,6 +4,7 @@ pub mod Paths
 pub mod Ways
 pub mod Sinking
 pub mod Pruning
+pub mod Dropping
 pub mod Runs
 pub mod Steps
 pub mod Moves
