@@ -140,25 +140,25 @@ tells_both true b h = h
 tells_both false b h = cc
 
 -- a row that is emptied
-pub drop_one : (old new : List Row) (nodes : List Node) (node upto gone : ℕ) (row : Row) → AreNodes old nodes → Dropping old new nodes node upto gone → upto ≤ length nodes
-    → (alive nodes upto && on_way nodes upto node) ≡ true → row ≡ slice_index_or new upto row → Dropping old (slice_set new upto (emptied row)) nodes node (upto + 1) (gone + 1)
-drop_one old new nodes node upto gone row a h fits on is = record {
-  size = set_length new upto (emptied row) ∙ h.size;
+pub drop_one : (old new : List Row) (nodes : List Node) (node upto gone : ℕ) (e : Row) → AreNodes old nodes → Dropping old new nodes node upto gone → upto ≤ length nodes
+    → (alive nodes upto && on_way nodes upto node) ≡ true → Dropping old (slice_set new upto (emptied (slice_index_or new upto e))) nodes node (upto + 1) (gone + 1)
+drop_one old new nodes node upto gone e a h fits on = record {
+  size = set_length new upto (emptied (slice_index_or new upto e)) ∙ h.size;
   count = (let u = under_next nodes node upto ∙ ap (λ b. cond b 1 0 + under nodes node upto) on in let c = h.count in omega arith);
   each = λ n d f. of n d f (eqb_tells n upto);
 }
   where
     of : (n : ℕ) (d : Row) → n ≤ length nodes → (((n == upto) ≡ true) × (n ≡ upto)) ⊎ (((n == upto) ≡ false) × (n ≢ upto))
-        → slice_index_or (slice_set new upto (emptied row)) n d ≡ cond (nat_lt n (upto + 1) && on_way nodes n node) (emptied (slice_index_or old n d)) (slice_index_or old n d)
-    of n d f (inl e) = (
-        let k = e.1 in let s = a.size in let t = h.size in
-        let on_n : on_way nodes n node ≡ true = ap (λ x. on_way nodes x node) e.1 ∙ tells_both (alive nodes upto) (on_way nodes upto node) on in
-        let was : row ≡ slice_index_or old n d = is ∙ any_default new upto row d (omega arith) ∙ ap (λ x. slice_index_or new x d) (sym e.1) ∙ next_row old new nodes node upto gone n d h (omega arith) f in
-        set_there new upto n (emptied row) d (omega arith) e.1 ∙ ap (λ (r : Row). emptied r) was
+        → slice_index_or (slice_set new upto (emptied (slice_index_or new upto e))) n d ≡ cond (nat_lt n (upto + 1) && on_way nodes n node) (emptied (slice_index_or old n d)) (slice_index_or old n d)
+    of n d f (inl k) = (
+        let q = k.1 in let s = a.size in let t = h.size in
+        let on_n : on_way nodes n node ≡ true = ap (λ x. on_way nodes x node) k.1 ∙ tells_both (alive nodes upto) (on_way nodes upto node) on in
+        let was : slice_index_or new upto e ≡ slice_index_or old n d = any_default new upto e d (omega arith) ∙ ap (λ x. slice_index_or new x d) (sym k.1) ∙ next_row old new nodes node upto gone n d h (omega arith) f in
+        set_there new upto n (emptied (slice_index_or new upto e)) d (omega arith) k.1 ∙ ap (λ (r : Row). emptied r) was
         ∙ sym (ap (λ b. cond (b && on_way nodes n node) (emptied (slice_index_or old n d)) (slice_index_or old n d)) (less_is n (upto + 1) (omega arith))
         ∙ ap (λ b. cond b (emptied (slice_index_or old n d)) (slice_index_or old n d)) on_n))
-    of n d f (inr e) = set_elsewhere new upto n (emptied row) d e.1 ∙ h.each n d f
-        ∙ sym (ap (λ b. cond (b && on_way nodes n node) (emptied (slice_index_or old n d)) (slice_index_or old n d)) (less_next n upto e.1))
+    of n d f (inr k) = set_elsewhere new upto n (emptied (slice_index_or new upto e)) d k.1 ∙ h.each n d f
+        ∙ sym (ap (λ b. cond (b && on_way nodes n node) (emptied (slice_index_or old n d)) (slice_index_or old n d)) (less_next n upto k.1))
 
 -- all rows were looked at
 pub drop_all : (old new : List Row) (nodes : List Node) (node upto gone : ℕ) → Dropping old new nodes node upto gone → upto ≡ length nodes + 1 → Drops gone old new nodes node
@@ -248,3 +248,13 @@ pruned j rows m aim n gone h drops off fits =
         some_by : (y : ℕ) → alive m.nodes y ≡ true → 0 < y
         some_by zero e = (let z = sym (alive_zero m.nodes) ∙ e in cc)
         some_by (suc y) e = omega arith
+
+-- each row's parent is a row
+pub parents_inside : (old new : List Row) (nodes : List Node) (node upto gone n : ℕ) (d : Row) → AreNodes old nodes → Dropping old new nodes node upto gone → upto ≤ n → n < length new → (slice_index_or new n d).parent < length new
+parents_inside old new nodes node upto gone n d a h less fits =
+    let s = a.size in
+    let t = h.size in
+    let within : n ≤ length nodes = omega arith in
+    let up = ap (λ (r : Row). r.parent) (next_row old new nodes node upto gone n d h less within) ∙ a.up n d within in
+    let f = parent_fits nodes n a.tree within in
+    omega arith

@@ -1,4 +1,3 @@
-use Rattle.esx_journal.proofs.Dropping.{pruned}
 use Rattle.esx_journal.proofs.Paths.{alive_fits}
 use Rattle.esx_journal.proofs.Reaching.{reached_steady}
 use Rattle.esx_journal.proofs.laws.ways_stand.Goals as goal
