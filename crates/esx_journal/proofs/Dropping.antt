@@ -258,3 +258,35 @@ parents_inside old new nodes node upto gone n d a h less fits =
     let up = ap (λ (r : Row). r.parent) (next_row old new nodes node upto gone n d h less within) ∙ a.up n d within in
     let f = parent_fits nodes n a.tree within in
     omega arith
+
+-- the climb from the cursor met the node, or passed it
+pub on_path_is : (nodes : List Node) (x n : ℕ) → IsTree nodes → x ≤ length nodes → x ≤ n → (x == n) ≡ ((n == 0) || on_way nodes x n)
+on_path_is nodes x zero tree fits h = (let z : x ≡ 0 = omega arith in ap (λ y. y == 0) z)
+on_path_is nodes x (suc n) tree fits h = of (eqb_tells x (suc n)) ∙ ap (λ b. b || on_way nodes x (suc n)) (sym (is_other (suc n) 0 (λ e. omega arith)))
+  where
+    of : (((x == suc n) ≡ true) × (x ≡ suc n)) ⊎ (((x == suc n) ≡ false) × (x ≢ suc n)) → (x == suc n) ≡ on_way nodes x (suc n)
+    of (inl e) = e.0 ∙ sym (ap (λ y. on_way nodes x y) (sym e.1) ∙ way_self nodes x tree (let k = e.1 in omega arith) fits)
+    of (inr e) = e.0 ∙ sym (false_by (on_way nodes x (suc n)) (λ on. (let b = way_below nodes x (suc n) tree fits on in let k = e.1 in absurd (omega arith))))
+
+pub prune_none : (n : ℕ) (h : History) → stands h n ≡ false → prune n h ≡ Err NoSuchNode
+unfolding prune
+prune_none n h e = ap (λ b. cond (not b) (Err NoSuchNode) (cond (is_on_path h n) (Err OnPath) (Ok (standing_below n h.nodes, without n h)))) e
+
+pub prune_refused : (n : ℕ) (h : History) → stands h n ≡ true → is_on_path h n ≡ true → prune n h ≡ Err OnPath
+unfolding prune
+prune_refused n h e on = ap (λ b. cond (not b) (Err NoSuchNode) (cond (is_on_path h n) (Err OnPath) (Ok (standing_below n h.nodes, without n h)))) e
+    ∙ ap (λ b. cond b (Err OnPath) (Ok (standing_below n h.nodes, without n h))) on
+
+pub prune_done : (n : ℕ) (h : History) → stands h n ≡ true → is_on_path h n ≡ false → prune n h ≡ Ok (standing_below n h.nodes, without n h)
+unfolding prune
+prune_done n h e on = ap (λ b. cond (not b) (Err NoSuchNode) (cond (is_on_path h n) (Err OnPath) (Ok (standing_below n h.nodes, without n h)))) e
+    ∙ ap (λ b. cond b (Err OnPath) (Ok (standing_below n h.nodes, without n h))) on
+
+no_part : (a b : Bool) → (a || b) ≡ false → (a ≡ false) × (b ≡ false)
+no_part true b e = cc
+no_part false b e = (refl, e)
+
+-- a node off the path is not the opening
+pub off_path : (h : History) (n : ℕ) → is_on_path h n ≡ false → (0 < n) × (on_way h.nodes (cursor h) n ≡ false)
+off_path h zero e = cc
+off_path h (suc n) e = (omega arith, (no_part (suc n == 0) (on_way h.nodes (cursor h) (suc n)) e).1)

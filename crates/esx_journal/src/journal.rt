@@ -264,7 +264,7 @@ impl Journal {
     }
 
     fn is_on_path(&self, node: u32) -> bool
-        ensures { (h : History) → Holds self.now h → result ≡ is_on_path h node }
+        ensures { (h : History) (aim : List Move) → Aims self.now h aim → result ≡ is_on_path h node }
     {
         let mut at = self.cursor;
         'climb: while at > node {
