@@ -1,6 +1,7 @@
 pub mod Lists
 pub mod Names
 pub mod Paths
+pub mod Trying
 pub mod Ways
 pub mod Sinking
 pub mod Pruning

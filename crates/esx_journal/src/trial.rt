@@ -30,19 +30,20 @@ pub fn try_events(
     if at == events.len() {
         return Ok(machine.sum());
     }
+    replies.reserve(1)?;
     match machine.apply(&events[at]) {
         Ok((answer, back)) => {
-            let after = match replies.push(Ok(answer)) {
-                Ok(()) => try_events(machine, events, at + 1, replies),
-                Err(_) => Err(AllocError),
-            };
+            replies.push(Ok(answer)).unwrap();
+            let after = try_events(machine, events, at + 1, replies);
             revert(machine, back);
             after
         }
-        Err(Refusal::OutOfMemory) => Err(AllocError),
-        Err(refusal) => {
-            replies.push(Err(refusal))?;
-            Ok(machine.sum())
-        }
+        Err(refusal) => match refusal {
+            Refusal::OutOfMemory => Err(AllocError),
+            _ => {
+                replies.push(Err(refusal)).unwrap();
+                Ok(machine.sum())
+            }
+        },
     }
 }
