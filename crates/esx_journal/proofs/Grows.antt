@@ -51,19 +51,23 @@ no_descent nodes (Up ∷ w) n tree ok out = no_descent nodes w n tree ok out
 no_descent nodes (Down k ∷ w) n tree ok out =
     ap (λ b. cond b (Some k) (last_descent nodes w n)) (is_other n (parent nodes k) (λ e. (let f = parent_fits nodes k tree ok.1 in omega arith))) ∙ no_descent nodes w n tree ok.2 out
 
-config_is : (j : Kept) (m : History) {aim : List Move} → Aims j m aim → j.machine.config ≡ m.config
+pub config_is : (j : Kept) (m : History) {aim : List Move} → Aims j m aim → j.machine.config ≡ m.config
 config_is j m h = ap (λ (k : machines.Kept). k.config) h.shows ∙ config_after m.config (here m)
 
 -- the cursor's path is accepted
 pub accepted_here : (j : Kept) (m : History) {aim : List Move} (d : Row) → Aims j m aim → IsAccepted m.config (here m)
 accepted_here j m d h = (h.each (cursor m) d (cursor_fits j m _ h)).accepted
 
-shows_here : (j : Kept) (m : History) {aim : List Move} (d : Row) → (h : Aims j m aim) → Shows j.machine (accepted_here j m d h).scene
+pub shows_here : (j : Kept) (m : History) {aim : List Move} (d : Row) → (h : Aims j m aim) → Shows j.machine (accepted_here j m d h).scene
 shows_here j m d h = (let P : machines.Kept → Type 0 = λ k. Shows k (accepted_here j m d h).scene in subst P (sym h.shows) (shows_after m.config (here m) (accepted_here j m d h)))
 
 -- the cursor's path runs to its scene, and the tables show it
 pub runs_at : (j : Kept) (m : History) {aim : List Move} (d : Row) → Aims j m aim → run m.config (here m) ≡ Ok (scene_at m)
 runs_at j m d h = (let old = accepted_here j m d h in old.runs ∙ ap (λ o. Ok (scene_or m.config o)) (sym old.runs))
+
+-- the machine shows the scene of the cursor's path
+pub shows_at : (j : Kept) (m : History) {aim : List Move} (d : Row) → Aims j m aim → Shows j.machine (scene_at m)
+shows_at j m d h = (let P : Scene → Type 0 = Shows j.machine in subst P (sym (ap (scene_or m.config) (accepted_here j m d h).runs)) (shows_here j m d h))
 
 pub book_is : (j : Kept) (m : History) {aim : List Move} (d : Row) → Aims j m aim → replay_of m.config (here m) ≡ Ok j.machine.book
 unfolding kept_after
