@@ -3,6 +3,7 @@ pub mod Journal
 pub mod Marks
 pub mod Reached
 pub mod Turns
+pub mod Visits
 pub mod Ways
 pub mod Trial
 pub use Rattle.esx_types.specs.Ranges
