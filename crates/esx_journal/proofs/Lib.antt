@@ -14,3 +14,4 @@ pub mod Back
 pub mod Down
 pub mod Turning
 pub mod Reaching
+pub mod Visiting

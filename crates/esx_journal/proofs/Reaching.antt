@@ -168,7 +168,7 @@ pub goes_there : (c : Config) (m : History) (n : ℕ) → IsSteady c m → stand
 goes_there c m n s up = (let f = walk_ends m.nodes m.walk s.tree s.walk in
     way_leads m.nodes (cursor m + n) (cursor m) n m.walk s.tree (omega arith) f (stands_fits m n up) refl s.walk)
 
-steady_gone : (c : Config) (m : History) (n : ℕ) → IsSteady c m → stands m n ≡ true → IsSteady c (gone_to n m)
+pub steady_gone : (c : Config) (m : History) (n : ℕ) → IsSteady c m → stands m n ≡ true → IsSteady c (gone_to n m)
 steady_gone c m n s up = (let there = goes_there c m n s up in record {
   config = s.config;
   tree = s.tree;
