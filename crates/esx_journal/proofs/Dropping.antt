@@ -5,12 +5,12 @@ use Rattle.esx_types.specs.declared.event.Event.{Event}
 use Rattle.esx_types.specs.declared.event.Refusal.TheVariants.{NoSuchNode, OnPath}
 use Rattle.esx_machine.specs.Machine as machines
 use Rattle.esx_machine.specs.Changes.{Back}
-use Rattle.esx_plain.specs.Tree.{Node, Move, Up, Down, parent, alive, path, on_way, at, last_descent, IsTree, IsWalk}
+use Rattle.esx_plain.specs.Tree.{Node, Move, Up, Down, parent, alive, path, on_way, at, IsTree}
 use Rattle.esx_plain.specs.History.{History, cursor, here}
 use Rattle.esx_plain.specs.Branching.{dropped, standing_below, stands, is_on_path, prune}
 use Rattle.esx_journal.specs.declared.row.Row.{Row}
 use Rattle.esx_journal.specs.Row.{AreNodes, Drops, emptied, is_gone}
-use Rattle.esx_journal.specs.Journal.{Kept, Leads, IsRow, IsAccepted, AreDescents, Aims, Holds, kept_after}
+use Rattle.esx_journal.specs.Journal.{Kept, Leads, IsRow, IsAccepted, AreDescents, Aims, kept_after}
 use Rattle.esx_journal.proofs.Lists.{set_there, set_elsewhere, set_length, any_default}
 use Rattle.esx_journal.proofs.Paths.{is_other, parent_below, parent_fits, way_child, way_below, way_zero, way_self, alive_fits, alive_zero}
 use Rattle.esx_journal.proofs.Steps.{cursor_fits}

@@ -1,11 +1,10 @@
 -- Nodes that are dropped, with all below them.
-use Rattle.std.proofs.Common.{◌≡◌, ◌≢◌, ℕ, zero, suc, ◌+◌, ◌<◌, ◌≤◌, ◌==◌, ◌||◌, ◌&&◌, Bool, true, false, not, cond, List, [], ◌∷◌, ◌++◌, length, slice_set, slice_index_or, is_some, refl, sym, ap, ◌∙◌, subst, arith, Option, Some, None, nat_lt, ◌⊎◌, inl, inr}
-use Rattle.std.proofs.lemmas.Bool.Decides.{eqb_tells, nat_tests}
-use Rattle.std.proofs.lemmas.Bool.{eq-eqb, eqb-true}
-use Rattle.esx_types.specs.declared.event.Event.{Event}
+use Rattle.std.proofs.Common.{◌≡◌, ◌≢◌, ℕ, zero, suc, ◌+◌, ◌≤◌, ◌==◌, ◌||◌, ◌&&◌, Bool, true, false, not, cond, List, [], ◌∷◌, ◌++◌, length, refl, sym, ap, ◌∙◌, arith, Some, ◌⊎◌, inl, inr}
+use Rattle.std.proofs.lemmas.Bool.Decides.{eqb_tells}
+use Rattle.std.proofs.lemmas.Bool.{eqb-true}
 use Rattle.esx_plain.specs.Tree.{Node, Move, Up, Down, parent, alive, path, on_way, at, last_descent, IsTree, IsWalk}
 use Rattle.esx_plain.specs.Branching.{dropped, standing_below}
-use Rattle.esx_journal.proofs.Paths.{newest, is_other, way_new, way_old, alive_new, alive_old, way_child, way_below, way_zero, way_self, parent_below, parent_fits, alive_zero}
+use Rattle.esx_journal.proofs.Paths.{newest, way_new, way_old, alive_new, alive_old, way_below}
 
 pub dropped_length : (n : ℕ) (nodes : List Node) → length (dropped n nodes) ≡ length nodes
 unfolding dropped
@@ -63,7 +62,7 @@ dropped_alive n (x ∷ older) m = ap (λ k. cond (m == k + 1) (x.alive && not (o
   where
     of : (((m == (length older + 1)) ≡ true) × (m ≡ length older + 1)) ⊎ (((m == (length older + 1)) ≡ false) × (m ≢ length older + 1))
         → cond (m == length older + 1) (x.alive && not (on_way (x ∷ older) (length older + 1) n)) (alive older m && not (on_way older m n))
-          ≡ (cond (m == length older + 1) x.alive (alive older m) && not (cond (m == length older + 1) ((n == m) || on_way older x.parent n) (on_way older m n)))
+        ≡ (cond (m == length older + 1) x.alive (alive older m) && not (cond (m == length older + 1) ((n == m) || on_way older x.parent n) (on_way older m n)))
     of (inl e) = ap (λ b. cond b (x.alive && not (on_way (x ∷ older) (length older + 1) n)) (alive older m && not (on_way older m n))) e.0
         ∙ ap (λ k. x.alive && not k) (way_new x older (length older + 1) n refl ∙ ap (λ k. (n == k) || on_way older x.parent n) (sym e.1))
         ∙ sym (ap (λ b. cond b x.alive (alive older m) && not (cond b ((n == m) || on_way older x.parent n) (on_way older m n))) e.0)

@@ -3,7 +3,7 @@ use Rattle.std.proofs.Common.{◌≡◌, ◌≢◌, ℕ, zero, suc, ◌+◌, ◌
 use Rattle.std.proofs.lemmas.Bool.Decides.{eqb_tells, nat_tests}
 use Rattle.std.proofs.lemmas.Bool.{eq-eqb}
 use Rattle.esx_types.specs.declared.event.Refusal.TheVariants.{NoSuchNode}
-use Rattle.esx_plain.specs.Tree.{Node, Move, Up, Down, parent, alive, path, at, last_descent, IsTree, IsWalk}
+use Rattle.esx_plain.specs.Tree.{Node, Move, Up, Down, parent, alive, path, at, last_descent, IsTree}
 use Rattle.esx_plain.specs.History.{History, cursor, if_alive, jumped}
 use Rattle.esx_plain.specs.Branching.{line, way, stands, gone_to, goto}
 use Rattle.esx_journal.specs.Turns.{above}
@@ -11,7 +11,7 @@ use Rattle.esx_journal.specs.declared.row.Row.{Row}
 use Rattle.esx_journal.specs.Journal.{Kept, IsRow, Aims, Holds}
 use Rattle.esx_journal.specs.Ways.{ups, downs, Climbed}
 use Rattle.esx_journal.proofs.Lists.{set_there, set_elsewhere, set_length}
-use Rattle.esx_journal.proofs.Paths.{alive_fits, is_other, path_child, parent_below, parent_fits, parent_zero}
+use Rattle.esx_journal.proofs.Paths.{alive_fits, is_other, path_child, parent_below, parent_zero}
 use Rattle.esx_journal.proofs.Steps.{cursor_fits, descents_of, aims_same}
 use Rattle.esx_journal.proofs.Back.{above_parent, lasts_ups}
 use Rattle.esx_journal.proofs.Ways.{way_from, way_to, way_none}
@@ -141,7 +141,7 @@ climb_up h goal j new x down c less holds =
       fits = c.fits;
       place = c.place;
       way = c.way ∙ ap (downs h.nodes down goal) (way_from h.nodes j.cursor x (ups c.rise h.walk) c.holds.tree (omega arith) less
-      ∙ ap (λ n. way (line h.nodes n) (line h.nodes x) ++ Up ∷ ups c.rise h.walk) (sym now));
+          ∙ ap (λ n. way (line h.nodes n) (line h.nodes x) ++ Up ∷ ups c.rise h.walk) (sym now));
       some = c.some;
       lasts = c.lasts;
     }
@@ -165,14 +165,14 @@ climb_aim h goal j new x down p c less same aims =
       fits = c.fits;
       place = aims.0 ∙ ap (parent h.nodes) c.place ∙ sym (above_parent h.nodes down goal) ∙ ap (λ k. above h.nodes k goal) i;
       way = c.way ∙ ap (downs h.nodes down goal) (way_to h.nodes j.cursor x w tree fits less ∙ ap (λ n. Down n ∷ rest) c.place)
-      ∙ sym (downs_more h.nodes down goal rest) ∙ ap (λ k. downs h.nodes k goal rest) i
-      ∙ ap (λ n. downs h.nodes (down + 1) goal (way (line h.nodes j.cursor) (line h.nodes n) ++ w)) (sym aims.0)
-      ∙ ap (λ n. downs h.nodes (down + 1) goal (way (line h.nodes n) (line h.nodes p) ++ w)) (sym same);
+          ∙ sym (downs_more h.nodes down goal rest) ∙ ap (λ k. downs h.nodes k goal rest) i
+          ∙ ap (λ n. downs h.nodes (down + 1) goal (way (line h.nodes j.cursor) (line h.nodes n) ++ w)) (sym aims.0)
+          ∙ ap (λ n. downs h.nodes (down + 1) goal (way (line h.nodes n) (line h.nodes p) ++ w)) (sym same);
       some = λ k f. of k f (eqb_tells k down);
       lasts = λ n. ap (λ o. cond (n == parent h.nodes x) (Some x) o) (c.lasts n)
-      ∙ ap (λ y. cond (n == parent h.nodes y) (Some y) (last_descent h.nodes (downs h.nodes down goal h.walk) n)) c.place
-      ∙ downs_lasts h.nodes down goal n h.walk tree c.fits (omega arith)
-      ∙ ap (λ s. last_descent h.nodes s n) (sym (downs_more h.nodes down goal h.walk)) ∙ ap (λ k. last_descent h.nodes (downs h.nodes k goal h.walk) n) i;
+          ∙ ap (λ y. cond (n == parent h.nodes y) (Some y) (last_descent h.nodes (downs h.nodes down goal h.walk) n)) c.place
+          ∙ downs_lasts h.nodes down goal n h.walk tree c.fits (omega arith)
+          ∙ ap (λ s. last_descent h.nodes s n) (sym (downs_more h.nodes down goal h.walk)) ∙ ap (λ k. last_descent h.nodes (downs h.nodes k goal h.walk) n) i;
     }
   where
     of : (k : ℕ) → k < down + 1 → (((k == down) ≡ true) × (k ≡ down)) ⊎ (((k == down) ≡ false) × (k ≢ down)) → 0 < above h.nodes k goal

@@ -1,11 +1,10 @@
 -- Events that are tried.
-use Rattle.std.proofs.Common.{◌≡◌, ◌≢◌, ℕ, ◌+◌, ◌<◌, ◌≤◌, List, [], ◌∷◌, ◌++◌, length, drop, append_assoc, append-nil, refl, sym, ap, ◌∙◌, subst, arith, slice_index_or, Result, Ok, Err}
+use Rattle.std.proofs.Common.{◌≡◌, ℕ, ◌≤◌, List, [], ◌∷◌, ◌++◌, length, drop, append_assoc, append-nil, sym, ap, ◌∙◌, arith, Result, Ok, Err}
 use Rattle.std.proofs.lemmas.Grind.{common_steps}
 use Rattle.esx_types.specs.declared.config.Config.{Config}
 use Rattle.esx_types.specs.declared.event.Event.{Event}
 use Rattle.esx_types.specs.declared.event.Answer.{Answer}
 use Rattle.esx_types.specs.declared.event.Refusal.{Refusal}
-use Rattle.esx_types.specs.declared.event.Refusal.TheVariants.{OutOfMemory}
 use Rattle.esx_types.specs.declared.call.Sum.{Sum}
 use Rattle.esx_plain.specs.declared.scene.Scene.{Scene}
 use Rattle.esx_plain.specs.Show.{shown}
@@ -14,7 +13,6 @@ use Rattle.esx_plain.specs.Replay.{next}
 use Rattle.esx_plain.specs.WhatIf.{tried, scene_then, replies_to, scene_of}
 use Rattle.esx_machine.specs.Machine as machines
 use Rattle.esx_machine.specs.Machine.{Shows, Accepts, Refuses}
-use Rattle.esx_machine.specs.Changes.{Back}
 use Rattle.esx_journal.specs.Trial.{Told, Tells}
 
 abbrev pub Replies : Type 0

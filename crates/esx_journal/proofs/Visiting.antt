@@ -1,5 +1,5 @@
 -- Where gotos lead, and what prunes and names leave.
-use Rattle.std.proofs.Common.{◌≡◌, ℕ, ◌+◌, ◌≤◌, ◌<◌, ◌&&◌, ◌||◌, Bool, true, false, not, cond, List, [], ◌∷◌, ◌++◌, length, bytes_eq, find, is_some, refl, sym, ap, ◌∙◌, subst, arith, Option, Some, None, option_map, Result, Ok, Err}
+use Rattle.std.proofs.Common.{◌≡◌, ℕ, Bool, true, false, cond, List, [], ◌∷◌, length, bytes_eq, find, is_some, refl, sym, ap, ◌∙◌, subst, arith, Option, Some, None, option_map, Result, Ok, Err}
 use Rattle.std.specs.Prelude.{IfOk, IsOk}
 use Rattle.std.proofs.lemmas.List.Folds.{find-append}
 use Rattle.std.proofs.lemmas.Slice.Eq.{bytes_eq-Decides}
@@ -10,18 +10,18 @@ use Rattle.esx_types.specs.declared.event.Refusal.TheVariants.{NoSuchNode, NameT
 use Rattle.esx_types.specs.declared.call.NameRow.{NameRow}
 use Rattle.esx_plain.specs.Replay.{run, replay_of}
 use Rattle.esx_plain.specs.Show.{shown}
-use Rattle.esx_plain.specs.Tree.{Move, path, alive, on_way, at, IsWalk}
-use Rattle.esx_plain.specs.History.{History, cursor, here, book_at, scene_or, jumped}
-use Rattle.esx_plain.specs.Branching.{IsShortest, line, way, stands, gone_to, goto, visit, mark, prune, dropped, standing_below, named}
+use Rattle.esx_plain.specs.Tree.{path}
+use Rattle.esx_plain.specs.History.{History, cursor, here, scene_or, jumped}
+use Rattle.esx_plain.specs.Branching.{IsShortest, line, way, stands, gone_to, goto, visit, mark, prune, named}
 use Rattle.esx_journal.specs.Reached.{IsReached}
 use Rattle.esx_journal.specs.Marks.{node_named}
 use Rattle.esx_journal.specs.Visits.{Visits, TakesOff}
-use Rattle.esx_journal.proofs.Names.{with_name, visit_some, visit_none, mark_taken, mark_free}
+use Rattle.esx_journal.proofs.Names.{with_name, visit_some, mark_taken, mark_free}
 use Rattle.esx_journal.proofs.Ways.{way_fewest}
 use Rattle.esx_journal.proofs.Sinking.{goto_some, goto_none}
 use Rattle.esx_journal.proofs.Pruning.{dropped_length, dropped_path, dropped_at, dropped_alive}
 use Rattle.esx_journal.proofs.Dropping.{without}
-use Rattle.esx_journal.proofs.Reaching.{IsSteady, reached_steady, goes_there, runs_here, replayed_here, steady_gone, named_is, pruned_is}
+use Rattle.esx_journal.proofs.Reaching.{IsSteady, reached_steady, goes_there, replayed_here, steady_gone, named_is, pruned_is}
 
 pub shortest_way : (c : Config) (h : History) (n : ℕ) → IsSteady c h → stands h n ≡ true → IsShortest h n (way (line h.nodes (cursor h)) (line h.nodes n))
 shortest_way c h n s up = (let there = goes_there c h n s up in record {

@@ -1,6 +1,5 @@
 -- The shortest way between two nodes.
 use Rattle.std.proofs.Common.{◌≡◌, ◌≢◌, Bool, true, false, nat_lt, ℕ, zero, suc, ◌+◌, ◌-◌, ◌<◌, ◌≤◌, ◌==◌, cond, List, [], ◌∷◌, ◌++◌, length, length-append, map, reverse, drop, replicate, append_assoc, refl, sym, ap, ◌∙◌, subst, arith, ◌⊎◌, inl, inr}
-use Rattle.std.specs.List.{common_prefix_len}
 use Rattle.std.proofs.lemmas.List.{drop-append-le, map-append, reverse-append, length-reverse, length-map, length-drop, length-replicate}
 use Rattle.std.proofs.lemmas.List.Sums.{common_prefix_len-le}
 use Rattle.std.proofs.lemmas.Grind.{common_steps, replicate_next}

@@ -1,5 +1,5 @@
 -- What the rows of a journal do.
-use Rattle.std.specs.Prelude.{◌≡◌, ℕ, zero, suc, ◌+◌, ◌<◌, ◌≤◌, ◌==◌, ◌&&◌, ◌||◌, Bool, true, not, List, ◌++◌, ◌∷◌, [], length, Option, Some, None, is_some, slice_index_or, slice_set, if◌then◌else◌}
+use Rattle.std.specs.Prelude.{◌≡◌, ℕ, ◌+◌, ◌<◌, ◌≤◌, ◌==◌, ◌&&◌, ◌||◌, Bool, true, not, List, ◌++◌, ◌∷◌, [], length, Option, Some, None, is_some, slice_index_or, slice_set, if◌then◌else◌}
 use Rattle.esx_machine.specs.Machine as machines
 use Rattle.esx_machine.specs.Changes.{Back}
 use Rattle.esx_machine.specs.Machine.{Trades}

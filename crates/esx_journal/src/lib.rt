@@ -106,9 +106,24 @@ mod tests {
         let vm = VmId::new(0).ok_or("vm")?;
         let mut journal = started(rt.alloc(), vm)?;
         let events = [
-            Event::Read { vm, page: 0, at: 0, len: 1 },
-            Event::Read { vm, page: 9, at: 0, len: 1 },
-            Event::Read { vm, page: 1, at: 0, len: 1 },
+            Event::Read {
+                vm,
+                page: 0,
+                at: 0,
+                len: 1,
+            },
+            Event::Read {
+                vm,
+                page: 9,
+                at: 0,
+                len: 1,
+            },
+            Event::Read {
+                vm,
+                page: 1,
+                at: 0,
+                len: 1,
+            },
         ];
         let sides = journal.what_if(&events)?;
         assert!(rt; sides.given == 3);

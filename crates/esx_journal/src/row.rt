@@ -112,8 +112,7 @@ fn goes(rows: &[Row], node: u32, at: usize) -> bool
 {
     let row = &rows[at];
     row.back.is_some()
-        && (at == node as usize
-            || (row.parent != 0 && rows[row.parent as usize].back.is_none()))
+        && (at == node as usize || (row.parent != 0 && rows[row.parent as usize].back.is_none()))
 }
 
 fn drop_record(rows: &mut Vec<Row>, at: usize)

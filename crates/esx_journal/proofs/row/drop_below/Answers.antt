@@ -46,21 +46,24 @@ drop-preserved c = (
       size : length rows ≡ length old;
       drops : (nodes : List Node) → AreNodes old nodes → Dropping old rows nodes c.args.node (c.drop.at + 1) gone;
     } in
-    elim c.if-goes.branch [ then-goes w ↦ (
-      let rows = ap (λ r. r.items) w.rows-is ∙ w.drop_record.ensures no_row in
-      let next : List Row = slice_set now c.drop.at (emptied (slice_index_or now c.drop.at no_row)) in
-      let is : Is next (c.drop.gone + 1) = record {
-        count = omega arith;
-        size = set_length now c.drop.at (emptied (slice_index_or now c.drop.at no_row)) ∙ size;
-        drops = λ nodes a. (let s = a.size in drop_one old now nodes c.args.node c.drop.at c.drop.gone no_row a (c.drop.invariant.drops nodes a) (omega arith) (sym (told nodes a) ∙ w.if-goes.true));
-      } in
-      subst (λ (g : ℕ). Is c.if-goes.rows.items g) (sym w.gone-is) (subst (λ (r : List Row). Is r (c.drop.gone + 1)) (sym rows) is)) | else-goes w ↦ (
-      let is : Is now c.drop.gone = record {
-        count = omega arith;
-        size = size;
-        drops = λ nodes a. (let s = a.size in drop_skip old now nodes c.args.node c.drop.at c.drop.gone a (c.drop.invariant.drops nodes a) (omega arith) (sym (told nodes a) ∙ w.if-goes.false));
-      } in
-      subst (λ (g : ℕ). Is c.if-goes.rows.items g) (sym w.gone-is) (subst (λ (r : List Row). Is r c.drop.gone) (sym (ap (λ r. r.items) w.rows-is)) is)) ])
+    elim c.if-goes.branch [
+      | then-goes w ↦ (
+          let rows = ap (λ r. r.items) w.rows-is ∙ w.drop_record.ensures no_row in
+          let next : List Row = slice_set now c.drop.at (emptied (slice_index_or now c.drop.at no_row)) in
+          let is : Is next (c.drop.gone + 1) = record {
+            count = omega arith;
+            size = set_length now c.drop.at (emptied (slice_index_or now c.drop.at no_row)) ∙ size;
+            drops = λ nodes a. (let s = a.size in drop_one old now nodes c.args.node c.drop.at c.drop.gone no_row a (c.drop.invariant.drops nodes a) (omega arith) (sym (told nodes a) ∙ w.if-goes.true));
+          } in
+          subst (λ (g : ℕ). Is c.if-goes.rows.items g) (sym w.gone-is) (subst (λ (r : List Row). Is r (c.drop.gone + 1)) (sym rows) is))
+      | else-goes w ↦ (
+          let is : Is now c.drop.gone = record {
+            count = omega arith;
+            size = size;
+            drops = λ nodes a. (let s = a.size in drop_skip old now nodes c.args.node c.drop.at c.drop.gone a (c.drop.invariant.drops nodes a) (omega arith) (sym (told nodes a) ∙ w.if-goes.false));
+          } in
+          subst (λ (g : ℕ). Is c.if-goes.rows.items g) (sym w.gone-is) (subst (λ (r : List Row). Is r c.drop.gone) (sym (ap (λ r. r.items) w.rows-is)) is))
+    ])
 
 pub returns : goal.returns
 returns c = λ nodes a. (let s = a.size in drop_all c.args.rows.now.items c.drop.rows.items nodes c.args.node c.drop.at c.drop.gone (c.drop.invariant.drops nodes a) (omega arith))

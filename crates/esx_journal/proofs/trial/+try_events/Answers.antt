@@ -1,9 +1,8 @@
-use Rattle.std.proofs.Common.{◌≡◌, ◌≤◌, ◌<◌, ◌≢◌, ◌++◌, ◌∷◌, [], drop, length, ◌∙◌, sym, ap, subst, arith, refl, List, ℕ, ◌+◌, suc, Ok, Err, is_ok, if◌then◌else◌}
+use Rattle.std.proofs.Common.{◌≡◌, ◌<◌, ◌≢◌, ◌++◌, ◌∷◌, [], drop, length, ◌∙◌, sym, ap, subst, arith, List, ◌+◌, suc, Ok, Err, is_ok, if◌then◌else◌}
 use Rattle.std.proofs.Math.Seq.{drop-cons}
 use Rattle.esx_types.specs.declared.config.Config.{Config}
 use Rattle.esx_types.specs.declared.event.Event.{Event}
 use Rattle.esx_types.specs.declared.event.Refusal.TheVariants.{OutOfMemory}
-use Rattle.esx_plain.specs.declared.scene.Scene.{Scene}
 use Rattle.esx_plain.specs.Readings.{sum_of}
 use Rattle.esx_machine.specs.Machine as machines
 use Rattle.esx_machine.specs.Machine.{Shows, Trades}
@@ -60,8 +59,8 @@ returns-in_default t c =
     record {
       same = same;
       tells = λ scene shows. (
-        let sum = sum_is k scene c.sum-in_default.result shows (c.sum-in_default.ensures.value ∙ ap (λ (m : machines.Kept). sum_of m.book) same) in
-        let P : List Event → Type 0 = λ l. Told k.config scene l c.args.replies.now.items c.push-in_default.new.self.items c.sum-in_default.result in
-        let R : Replies → Type 0 = λ q. Told k.config scene (e ∷ drop (c.args.at + 1) es) c.args.replies.now.items q c.sum-in_default.result in
-        subst P (sym rest) (subst R (sym pushed) (told_refused k.config scene e (drop (c.args.at + 1) es) c.in-Err.refusal c.args.replies.now.items c.sum-in_default.result ((c.in-Err.ensures scene shows).why no) sum)));
+          let sum = sum_is k scene c.sum-in_default.result shows (c.sum-in_default.ensures.value ∙ ap (λ (m : machines.Kept). sum_of m.book) same) in
+          let P : List Event → Type 0 = λ l. Told k.config scene l c.args.replies.now.items c.push-in_default.new.self.items c.sum-in_default.result in
+          let R : Replies → Type 0 = λ q. Told k.config scene (e ∷ drop (c.args.at + 1) es) c.args.replies.now.items q c.sum-in_default.result in
+          subst P (sym rest) (subst R (sym pushed) (told_refused k.config scene e (drop (c.args.at + 1) es) c.in-Err.refusal c.args.replies.now.items c.sum-in_default.result ((c.in-Err.ensures scene shows).why no) sum)));
     }

@@ -1,9 +1,9 @@
-use Rattle.std.proofs.Common.{◌≡◌, ◌≤◌, ◌<◌, ◌∙◌, true, sym, ap, subst, arith, length, refl, ℕ, ◌-◌}
-use Rattle.esx_plain.specs.History.{History, jumped}
+use Rattle.std.proofs.Common.{◌≡◌, ◌<◌, ◌∙◌, true, sym, subst, arith, refl, ℕ, ◌-◌}
+use Rattle.esx_plain.specs.History.{jumped}
 use Rattle.esx_plain.specs.Branching.{stands, gone_to}
-use Rattle.esx_journal.specs.Journal.{Kept, Aims, Holds}
+use Rattle.esx_journal.specs.Journal.{Aims, Holds}
 use Rattle.esx_journal.specs.Turns.{above}
-use Rattle.esx_journal.specs.Ways.{ups, downs}
+use Rattle.esx_journal.specs.Ways.{downs}
 use Rattle.esx_journal.proofs.Moves.{holds_jumped}
 use Rattle.esx_journal.proofs.Sinking.{sunk, sinks_to, sinks_on, sunk_home, goto_none, goto_some}
 use Rattle.esx_journal.proofs.journal.Journal.goto.Goals as goal

@@ -1,6 +1,6 @@
-use Rattle.std.proofs.Common.{◌≡◌, ◌≤◌, ◌<◌, ◌||◌, ◌==◌, ◌∙◌, sym, ap, subst, arith, length, List}
+use Rattle.std.proofs.Common.{◌≡◌, ◌≤◌, ◌||◌, ◌==◌, ◌∙◌, sym, ap, subst, arith, length, List}
 use Rattle.esx_plain.specs.Tree.{Move, parent, on_way}
-use Rattle.esx_plain.specs.History.{History, cursor}
+use Rattle.esx_plain.specs.History.{History}
 use Rattle.esx_journal.specs.declared.row.Row.{Row}
 use Rattle.esx_journal.specs.Journal.{Kept, Aims}
 use Rattle.esx_journal.proofs.Paths.{parent_below, way_same}
@@ -56,4 +56,4 @@ returns c =
     let within = c.climb.invariant.within in
     let f = c.climb-test.false in
     λ h aim holds. (let s = holds.size in
-        on_path_is h.nodes c.climb.at c.args.node holds.tree (omega arith) (omega arith) ∙ ap (λ b. (c.args.node == 0) || b) (sym (c.climb.invariant.same h aim holds)))
+    on_path_is h.nodes c.climb.at c.args.node holds.tree (omega arith) (omega arith) ∙ ap (λ b. (c.args.node == 0) || b) (sym (c.climb.invariant.same h aim holds)))

@@ -1,6 +1,6 @@
-use Rattle.std.proofs.Common.{◌≡◌, ◌≤◌, ◌<◌, ◌∙◌, sym, ap, subst, arith, refl, length, true, false, ℕ, Ok}
+use Rattle.std.proofs.Common.{◌≡◌, ◌∙◌, sym, ap, subst, arith, refl, length, false, ℕ, Ok}
 use Rattle.esx_plain.specs.History.{History}
-use Rattle.esx_plain.specs.Branching.{stands, is_on_path}
+use Rattle.esx_plain.specs.Branching.{is_on_path}
 use Rattle.esx_journal.specs.Journal.{Kept, Aims, Holds}
 use Rattle.esx_journal.proofs.Dropping.{nodes_of, pruned, without, off_path, prune_none, prune_refused, prune_done}
 use Rattle.esx_journal.proofs.Pruning.{dropped_length}
@@ -39,13 +39,13 @@ returns c =
     let within = c.stands.ensures.within c.if-not-stands.false in
     let v = ap (λ (x : Kept). length x.rows) c.self.view_is in
     λ h holds. (
-        let was : Holds old h = subst (P h) (sym c.self.view_is) holds in
-        let on : is_on_path h c.args.node ≡ false = sym (c.is_on_path.ensures h h.walk holds) ∙ c.if-is_on_path.false in
-        let off = off_path h c.args.node on in
-        let s = was.size in
-        let drops = c.drop_below.ensures h.nodes (nodes_of old h h.walk was) in
-        record {
-          after = without c.args.node h;
-          gives = prune_done c.args.node h (sym (c.stands.ensures.told h h.walk holds) ∙ c.if-not-stands.false) on ∙ ap (λ (n : ℕ). Ok (n, without c.args.node h)) (sym drops.count);
-          holds = pruned old c.drop_below.new.rows.items h h.walk c.args.node c.drop_below.result was drops off.1 (omega arith);
-        })
+    let was : Holds old h = subst (P h) (sym c.self.view_is) holds in
+    let on : is_on_path h c.args.node ≡ false = sym (c.is_on_path.ensures h h.walk holds) ∙ c.if-is_on_path.false in
+    let off = off_path h c.args.node on in
+    let s = was.size in
+    let drops = c.drop_below.ensures h.nodes (nodes_of old h h.walk was) in
+    record {
+      after = without c.args.node h;
+      gives = prune_done c.args.node h (sym (c.stands.ensures.told h h.walk holds) ∙ c.if-not-stands.false) on ∙ ap (λ (n : ℕ). Ok (n, without c.args.node h)) (sym drops.count);
+      holds = pruned old c.drop_below.new.rows.items h h.walk c.args.node c.drop_below.result was drops off.1 (omega arith);
+    })

@@ -1,7 +1,5 @@
-use Rattle.std.proofs.Common.{◌≡◌, ◌∙◌, ap, subst, sym, length, nat_lt, List, false}
-use Rattle.esx_plain.specs.Tree.{Move}
-use Rattle.esx_plain.specs.History.{History}
-use Rattle.esx_journal.specs.Journal.{Kept, Aims}
+use Rattle.std.proofs.Common.{◌≡◌, ◌∙◌, ap, length, nat_lt, false}
+use Rattle.esx_journal.specs.Journal.{Kept}
 use Rattle.esx_journal.proofs.Sinking.{stands_past}
 use Rattle.esx_journal.proofs.journal.Journal.stands.Goals as goal
 

@@ -1,7 +1,6 @@
-use Rattle.std.proofs.Common.{◌≡◌, ◌∙◌, sym, ap, subst, refl, Result, Option, Some, None}
+use Rattle.std.proofs.Common.{◌∙◌, sym, ap, subst, refl, Result}
 use Rattle.esx_types.specs.declared.event.Refusal.{Refusal}
 use Rattle.esx_plain.specs.History.{History}
-use Rattle.esx_plain.specs.Branching.{goto, visit}
 use Rattle.esx_journal.specs.Journal.{Kept, Goes}
 use Rattle.esx_journal.specs.Marks.{node_named}
 use Rattle.esx_journal.proofs.Names.{visit_some, visit_none}
