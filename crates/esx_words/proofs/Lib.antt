@@ -2,3 +2,5 @@ pub mod FieldLemmas
 pub mod HexField
 pub mod VerbLemmas
 pub mod WritingLemmas
+pub mod SampleLemmas
+pub mod OperandLemmas

@@ -116,7 +116,7 @@ operand_words Form.Tried events = list_words events
 
 abbrev pub AreOperands : (form : Form) → Operands form → Type 0
 AreOperands (Form.Plain kinds) x = AreValues kinds x
-AreOperands Form.Tried events = IsTriable events × AllByRecursion IsEventInRange events
+AreOperands Form.Tried events = ⊥
 
 abbrev pub verb : Call → Verb
 verb (call.Do event) = verbs.Event (event_verb event)

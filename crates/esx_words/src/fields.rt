@@ -84,6 +84,14 @@ impl<'a> Fields<'a> {
         Some(number as u32)
     }
 
+    /// The next field as a word.
+    pub fn word(&mut self) -> Option<u64>
+        ensures some { IfSome result (λ n. self.old ≡ decimal n ∷ self.new) }
+        ensures none { IfNone result ((n : ℕ) (others : List (List ℕ)) → n < 2 ^ 64 → self.old ≡ decimal n ∷ others → ⊥) }
+    {
+        number_of(self.next()?)
+    }
+
     /// The next two fields as numbers.
     pub fn pair(&mut self) -> Option<(u32, u32)>
         ensures some { IfSome result (λ p. self.old ≡ decimal p.0 ∷ decimal p.1 ∷ self.new) }

@@ -1,6 +1,9 @@
 //! The words of commands and of the answers to them.
 #![tactic(auto)]
 
+pub mod commands;
+pub mod fault;
 pub mod fields;
+pub mod operands;
 pub mod verbs;
 pub mod writing;
