@@ -4,3 +4,4 @@ pub mod VerbLemmas
 pub mod WritingLemmas
 pub mod SampleLemmas
 pub mod OperandLemmas
+pub mod CommandLemmas
