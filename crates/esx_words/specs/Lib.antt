@@ -8,3 +8,4 @@ pub mod Kinds
 pub mod Verbs
 pub mod Commands
 pub mod Writing
+pub mod Texts

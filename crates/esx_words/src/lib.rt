@@ -5,5 +5,6 @@ pub mod commands;
 pub mod fault;
 pub mod fields;
 pub mod operands;
+pub mod replies;
 pub mod verbs;
 pub mod writing;

@@ -198,7 +198,7 @@ pub fn name(alloc: Global, fields: &mut Fields) -> Result<Name, WordFault>
     if !fields.is_empty() {
         return Err(WordFault::NoCommand);
     }
-    match Name::new(alloc, text.as_bytes()) {
+    match Name::new(alloc, text) {
         Ok(Some(name)) => Ok(name),
         Ok(None) => Err(WordFault::NoCommand),
         Err(_) => Err(WordFault::OutOfMemory),

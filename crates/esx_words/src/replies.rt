@@ -1,0 +1,12 @@
+//! Replies as text.
+
+pub mod admission;
+pub mod balloon;
+pub mod leaving;
+pub mod moves;
+pub mod names;
+pub mod paging;
+pub mod questions;
+pub mod refusals;
+pub mod sampling;
+pub mod sharing;
