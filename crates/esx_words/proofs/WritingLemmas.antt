@@ -122,3 +122,16 @@ utf8_hex bytes = IsUtf8-from_ascii (encode_lower bytes) (IsAscii-encode_with low
 -- one more part of a text that is made part by part
 pub utf8_more : (whole front part : List ℕ) → whole ≡ front ++ part → IsUtf8 front → IsUtf8 part → IsUtf8 whole
 utf8_more whole front part e p q = rw e (IsUtf8-append front part p q)
+
+-- two texts, one behind the other
+pub first_failed : {T E : Type 0} (a c : Option (List ℕ)) (h held x y : List ℕ) (r : Result T E) → IsErr r → WritesFront a c (h ++ x) → Puts a h c held (x ++ y) r
+first_failed a c h held x y r is w = puts_error a c h held (x ++ y) r is
+    (let m = front_of_more a c (h ++ x) y w in (m.0, m.1, sym (append_assoc h x y) ∙ m.2, m.3))
+
+pub puts_after : {T E : Type 0} (a b c : Option (List ℕ)) (h k l x y : List ℕ) (r : Result T E)
+    → Passes a h b k x → Puts b k c l y r → Puts a h c l (x ++ y) r
+puts_after a b c h k l x y (Ok v) p q = passes_more a b c h k l x y p q
+puts_after a b c h k l x y (Err e) p q = passes_stop a b c h k (x ++ y) x y [] (ap (λ v. x ++ v) (sym (append-nil y))) p q
+
+pub utf8_both : (x y : List ℕ) → IsUtf8 x → IsUtf8 y → IsUtf8 (x ++ y)
+utf8_both x y p q = IsUtf8-append x y p q

@@ -9,3 +9,4 @@ pub mod Verbs
 pub mod Commands
 pub mod Writing
 pub mod Texts
+pub mod Replies

@@ -11,6 +11,12 @@ use Rattle.esx_events.specs.declared.event.Refusal.TheVariants as refusals
 use Rattle.esx_events.specs.declared.call.Sum.{Sum}
 use Rattle.esx_events.specs.declared.call.Stand.{Stand}
 use Rattle.esx_events.specs.declared.call.Activity.{Activity}
+use Rattle.esx_events.specs.declared.event.Scanned.{Scanned}
+use Rattle.esx_events.specs.declared.event.Scanned.TheVariants as looks
+use Rattle.esx_events.specs.declared.call.PageState.{PageState}
+use Rattle.esx_events.specs.declared.call.PageState.TheVariants as pages
+use Rattle.esx_events.specs.declared.call.Help.{Help}
+use Rattle.esx_events.specs.declared.call.Help.TheVariants as helps
 
 abbrev pub level_text : Level → List ℕ
 level_text High = codes "high"
@@ -130,3 +136,24 @@ refusal_text refusal = codes "no " ++ (decimal (refusal_number refusal) ++ (code
 -- bytes that were read
 abbrev pub bytes_text : List ℕ → List ℕ
 bytes_text bytes = codes "ok " ++ (encode_lower bytes ++ 10 ∷ [])
+
+abbrev pub looked_text : Scanned → List ℕ
+looked_text looks.Hinted = codes "ok hinted\n"
+looked_text (looks.Shared frame count) = found_shared_text frame count
+looked_text looks.Stale = codes "ok stale\n"
+looked_text looks.Clash = codes "ok clash\n"
+looked_text looks.Already = codes "ok already\n"
+
+abbrev pub page_text : PageState → List ℕ
+page_text pages.Untouched = codes "untouched\n"
+page_text (pages.Private frame) = private_text frame
+page_text (pages.Hinted frame) = hinted_text frame
+page_text (pages.Shared frame count) = shared_text frame count
+page_text (pages.Out slot) = out_text slot
+page_text pages.Lent = codes "lent\n"
+
+abbrev pub help_text : Help → List ℕ
+help_text helps.Go = codes "go\n"
+help_text (helps.SwapOut vm) = page_out_text vm
+help_text helps.Rebalance = codes "rebalance\n"
+help_text helps.Replace = codes "replace\n"

@@ -1,6 +1,8 @@
 //! Replies as text.
 
+pub mod access;
 pub mod admission;
+pub mod answer;
 pub mod balloon;
 pub mod leaving;
 pub mod moves;

@@ -2,11 +2,11 @@
 
 ghost use Rattle.std.specs.Prelude.{◌≡◌, ◌+◌, OnOk, IsUtf8};
 ghost use Rattle.esx_words.specs.Writing.{Puts, sink_faults};
-ghost use Rattle.esx_words.specs.Texts.{sum_text, activity_text, private_text, hinted_text, shared_text, out_text, page_out_text};
+ghost use Rattle.esx_words.specs.Texts.{sum_text, activity_text, private_text, hinted_text, shared_text, out_text, page_out_text, page_text, help_text};
 
 use crate::writing::{AnswerBuffer, Piece, put_pieces};
 use crate::replies::names::level_name;
-use esx_events::{Activity, Sum};
+use esx_events::{Activity, Help, PageState, Sum};
 use esx_types::{Sink, SinkFailed, VmId};
 
 /// How many frames are of each kind, and the level.
@@ -184,4 +184,44 @@ pub fn put_page_out<W: Sink>(
             Piece::Text("\n"),
         ],
     )
+}
+
+/// Where a page is.
+pub fn put_page<W: Sink>(
+    sink: &mut W,
+    held: &mut AnswerBuffer,
+    state: PageState,
+) -> Result<(), SinkFailed>
+    ensures bytes { Puts (W.contents sink.old) held.old (W.contents sink.new) held.new (page_text state) result }
+    ensures utf8 { OnOk result (IsUtf8 (page_text state)) }
+    ensures failures { W.failures sink.new ≡ W.failures sink.old + sink_faults result }
+    ensures flushes { W.flushes sink.new ≡ W.flushes sink.old }
+{
+    match state {
+        PageState::Untouched => put_pieces(sink, held, &[Piece::Text("untouched\n")]),
+        PageState::Private { frame } => put_private(sink, held, frame),
+        PageState::Hinted { frame } => put_hinted(sink, held, frame),
+        PageState::Shared { frame, count } => put_shared(sink, held, frame, count),
+        PageState::Out { slot } => put_out(sink, held, slot),
+        PageState::Lent => put_pieces(sink, held, &[Piece::Text("lent\n")]),
+    }
+}
+
+/// What lets a write go on.
+pub fn put_help<W: Sink>(
+    sink: &mut W,
+    held: &mut AnswerBuffer,
+    help: Help,
+) -> Result<(), SinkFailed>
+    ensures bytes { Puts (W.contents sink.old) held.old (W.contents sink.new) held.new (help_text help) result }
+    ensures utf8 { OnOk result (IsUtf8 (help_text help)) }
+    ensures failures { W.failures sink.new ≡ W.failures sink.old + sink_faults result }
+    ensures flushes { W.flushes sink.new ≡ W.flushes sink.old }
+{
+    match help {
+        Help::Go => put_pieces(sink, held, &[Piece::Text("go\n")]),
+        Help::SwapOut { vm } => put_page_out(sink, held, vm),
+        Help::Rebalance => put_pieces(sink, held, &[Piece::Text("rebalance\n")]),
+        Help::Replace => put_pieces(sink, held, &[Piece::Text("replace\n")]),
+    }
 }
