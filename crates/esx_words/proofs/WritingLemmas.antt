@@ -124,14 +124,16 @@ pub utf8_more : (whole front part : List ℕ) → whole ≡ front ++ part → Is
 utf8_more whole front part e p q = rw e (IsUtf8-append front part p q)
 
 -- two texts, one behind the other
-pub first_failed : {T E : Type 0} (a c : Option (List ℕ)) (h held x y : List ℕ) (r : Result T E) → IsErr r → WritesFront a c (h ++ x) → Puts a h c held (x ++ y) r
-first_failed a c h held x y r is w = puts_error a c h held (x ++ y) r is
-    (let m = front_of_more a c (h ++ x) y w in (m.0, m.1, sym (append_assoc h x y) ∙ m.2, m.3))
+pub first_failed : {T E : Type 0} (a c : Option (List ℕ)) (h held x z y : List ℕ) (r : Result T E) → IsErr r → x ≡ z
+    → WritesFront a c (h ++ x) → Puts a h c held (z ++ y) r
+first_failed a c h held x z y r is e w = puts_error a c h held (z ++ y) r is
+    (let m = front_of_more a c (h ++ x) y w in (m.0, m.1, ap (λ v. h ++ (v ++ y)) (sym e) ∙ sym (append_assoc h x y) ∙ m.2, m.3))
 
-pub puts_after : {T E : Type 0} (a b c : Option (List ℕ)) (h k l x y : List ℕ) (r : Result T E)
-    → Passes a h b k x → Puts b k c l y r → Puts a h c l (x ++ y) r
-puts_after a b c h k l x y (Ok v) p q = passes_more a b c h k l x y p q
-puts_after a b c h k l x y (Err e) p q = passes_stop a b c h k (x ++ y) x y [] (ap (λ v. x ++ v) (sym (append-nil y))) p q
+pub puts_after : {T E : Type 0} (a b c : Option (List ℕ)) (h k l x z y v : List ℕ) (r : Result T E) → x ≡ z → y ≡ v
+    → Passes a h b k x → Puts b k c l y r → Puts a h c l (z ++ v) r
+puts_after a b c h k l x z y v (Ok done) e f p q = passes_same a c h l (x ++ y) (z ++ v) (sym (λ i. e i ++ f i)) (passes_more a b c h k l x y p q)
+puts_after a b c h k l x z y v (Err error) e f p q =
+    passes_stop a b c h k (z ++ v) x y [] (sym (λ i. e i ++ f i) ∙ ap (λ w. x ++ w) (sym (append-nil y))) p q
 
-pub utf8_both : (x y : List ℕ) → IsUtf8 x → IsUtf8 y → IsUtf8 (x ++ y)
-utf8_both x y p q = IsUtf8-append x y p q
+pub utf8_both : (x z y v : List ℕ) → x ≡ z → y ≡ v → IsUtf8 x → IsUtf8 y → IsUtf8 (z ++ v)
+utf8_both x z y v e f p q = rw (← e, ← f) (IsUtf8-append x y p q)

@@ -182,7 +182,7 @@ fn put_right<W: Sink>(
 ) -> Result<(), SinkFailed>
     requires { width ≤ 8 }
     ensures bytes { Puts (W.contents sink.old) held.old (W.contents sink.new) held.new (right_in width text.now) result }
-    ensures utf8 { OnOk result (IsUtf8 (right_in width text.now)) }
+    ensures utf8 { IsUtf8 (right_in width text.now) }
     ensures failures { W.failures sink.new ≡ W.failures sink.old + sink_faults result }
     ensures flushes { W.flushes sink.new ≡ W.flushes sink.old }
 {
@@ -200,7 +200,7 @@ fn put_left<W: Sink>(
 ) -> Result<(), SinkFailed>
     requires { width ≤ 8 }
     ensures bytes { Puts (W.contents sink.old) held.old (W.contents sink.new) held.new (left_in width text.now) result }
-    ensures utf8 { OnOk result (IsUtf8 (left_in width text.now)) }
+    ensures utf8 { IsUtf8 (left_in width text.now) }
     ensures failures { W.failures sink.new ≡ W.failures sink.old + sink_faults result }
     ensures flushes { W.flushes sink.new ≡ W.flushes sink.old }
 {
@@ -212,7 +212,7 @@ fn put_left<W: Sink>(
 /// Puts a piece.
 fn put_piece<W: Sink>(sink: &mut W, held: &mut AnswerBuffer, piece: Piece) -> Result<(), SinkFailed>
     ensures bytes { Puts (W.contents sink.old) held.old (W.contents sink.new) held.new (piece_text piece.entry) result }
-    ensures utf8 { OnOk result (IsUtf8 (piece_text piece.entry)) }
+    ensures utf8 { IsUtf8 (piece_text piece.entry) }
     ensures failures { W.failures sink.new ≡ W.failures sink.old + sink_faults result }
     ensures flushes { W.flushes sink.new ≡ W.flushes sink.old }
 {
