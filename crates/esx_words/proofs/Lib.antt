@@ -5,3 +5,4 @@ pub mod WritingLemmas
 pub mod SampleLemmas
 pub mod OperandLemmas
 pub mod CommandLemmas
+pub mod SidesLemmas

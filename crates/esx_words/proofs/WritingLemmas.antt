@@ -7,7 +7,7 @@ use Rattle.std.proofs.lemmas.Grind.{common_steps}
 use Rattle.std.specs.Io.KnownBytes.{Appends}
 use Rattle.std.proofs.lemmas.Grind.{take_at_read, flat_map-append}
 use Rattle.std.specs.List.{flat_map}
-use Rattle.std.specs.Prelude.{slice_index}
+use Rattle.std.specs.Prelude.{slice_index, OnOk}
 use Rattle.std.specs.Str.{IsUtf8}
 use Rattle.std.proofs.lemmas.Str.{IsUtf8-append, IsUtf8-from_ascii}
 use Rattle.hex.proofs.HexLemmas.{IsAscii-encode_with}
@@ -137,3 +137,16 @@ puts_after a b c h k l x z y v (Err error) e f p q =
 
 pub utf8_both : (x z y v : List ℕ) → x ≡ z → y ≡ v → IsUtf8 x → IsUtf8 y → IsUtf8 (z ++ v)
 utf8_both x z y v e f p q = rw (← e, ← f) (IsUtf8-append x y p q)
+
+pub utf8_after : {T E : Type 0} (x y : List ℕ) (r : Result T E) → IsUtf8 x → OnOk r (IsUtf8 y) → OnOk r (IsUtf8 (x ++ y))
+utf8_after x y (Ok v) p q = IsUtf8-append x y p q
+utf8_after x y (Err e) p q = tt
+
+-- an item of a list that is gone over
+pub flat_item_at : {A B : Type 0} (f : A → List B) (xs : List A) (i : ℕ) (x : A) → i < length xs → x ≡ get_or xs i x
+    → flat_map f xs ≡ flat_map f (take i xs) ++ (f x ++ flat_map f (drop (i + 1) xs))
+flat_item_at f xs i x lt is = flat_parts_at f xs i x lt ∙ ap (λ y. flat_map f (take i xs) ++ (f y ++ flat_map f (drop (i + 1) xs))) (sym is)
+
+pub flat_item_more : {A B : Type 0} (f : A → List B) (xs : List A) (i : ℕ) (x : A) → i < length xs → x ≡ get_or xs i x
+    → flat_map f (take (i + 1) xs) ≡ flat_map f (take i xs) ++ f x
+flat_item_more f xs i x lt is = flat_parts_more f xs i x lt ∙ ap (λ y. flat_map f (take i xs) ++ f y) (sym is)

@@ -1,6 +1,6 @@
 //! What is said to a call.
 
-ghost use Rattle.std.specs.Prelude.{◌≡◌, ◌+◌, [], IfOk, OnOk, IsUtf8, string_bytes};
+ghost use Rattle.std.specs.Prelude.{◌≡◌, ◌+◌, ◌≤◌, [], IfOk, OnOk, IsUtf8, string_bytes};
 ghost use Rattle.esx_words.specs.Writing.{Writes, Puts, sink_faults};
 ghost use Rattle.esx_words.specs.Replies.{said_text, reply_text};
 

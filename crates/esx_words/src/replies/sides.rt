@@ -1,6 +1,6 @@
 //! What would come of some events.
 
-ghost use Rattle.std.specs.Prelude.{◌≡◌, ◌+◌, ◌++◌, OnOk, IsUtf8, flat_map, length, codes};
+ghost use Rattle.std.specs.Prelude.{◌≡◌, ◌+◌, ◌++◌, ◌≤◌, ◌∷◌, [], OnOk, IsUtf8, flat_map, length, codes};
 ghost use Rattle.esx_words.specs.Writing.{Puts, sink_faults};
 ghost use Rattle.esx_words.specs.Texts.{sum_text};
 ghost use Rattle.esx_words.specs.Replies.{accepted, number_head, numbered_text, tried_text, tried_texts, sides_head, before_text, after_text, sides_text};
@@ -60,15 +60,24 @@ fn put_all_tried<W: Sink>(
     Ok(())
 }
 
+/// One where the event was accepted.
+fn one_if_accepted(reply: &Result<Answer, Refusal>) -> u64
+    ensures count { result ≡ accepted (reply.now ∷ []) }
+    ensures few { result ≤ 1 }
+{
+    match reply {
+        Ok(_) => 1,
+        Err(_) => 0,
+    }
+}
+
 /// How many of the tried events were accepted.
 fn accepted(replies: &[Result<Answer, Refusal>]) -> u64
     ensures { result ≡ accepted replies.now }
 {
     let mut count = 0;
     for reply in replies {
-        if reply.is_ok() {
-            count += 1;
-        }
+        count += one_if_accepted(reply);
     }
     count
 }

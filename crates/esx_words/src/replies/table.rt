@@ -78,6 +78,22 @@ fn put_head<W: Sink>(
     )
 }
 
+/// The lines behind the head.
+fn put_rows_and_sum<W: Sink>(
+    sink: &mut W,
+    held: &mut AnswerBuffer,
+    rows: &[TableRow],
+    sum: Sum,
+) -> Result<(), SinkFailed>
+    ensures bytes { Puts (W.contents sink.old) held.old (W.contents sink.new) held.new (flat_map row_text rows.now ++ sum_text sum) result }
+    ensures utf8 { OnOk result (IsUtf8 (flat_map row_text rows.now ++ sum_text sum)) }
+    ensures failures { W.failures sink.new ≡ W.failures sink.old + sink_faults result }
+    ensures flushes { W.flushes sink.new ≡ W.flushes sink.old }
+{
+    put_rows(sink, held, rows)?;
+    put_sum(sink, held, sum)
+}
+
 /// The head, a line for each virtual machine, and the sum.
 pub fn put_table<W: Sink>(
     sink: &mut W,
@@ -91,6 +107,5 @@ pub fn put_table<W: Sink>(
     ensures flushes { W.flushes sink.new ≡ W.flushes sink.old }
 {
     put_head(sink, held)?;
-    put_rows(sink, held, rows)?;
-    put_sum(sink, held, sum)
+    put_rows_and_sum(sink, held, rows, sum)
 }
