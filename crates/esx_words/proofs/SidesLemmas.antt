@@ -1,12 +1,12 @@
 -- Tried events, one behind the other.
 use Rattle.std.proofs.Common.{◌≡◌, ℕ, List, [], ◌∷◌, ◌++◌, Result, Ok, Err, refl, sym, ◌∙◌, ap, append_assoc, append-nil, take, drop, ◌+◌, ◌<◌, arith, length, get_or, add-one, drop-cons}
-use Rattle.std.proofs.lemmas.List.{take-append-drop}
+use Rattle.std.proofs.lemmas.List.{take-append-drop, length-take-le}
 use Rattle.std.proofs.lemmas.Grind.{take_at_read}
 use Rattle.esx_events.specs.declared.event.Answer.{Answer}
 use Rattle.esx_events.specs.declared.event.Refusal.{Refusal}
 use Rattle.esx_words.specs.Replies.{accepted, tried_texts, numbered_text}
 
-abbrev Tried : Type 0
+abbrev pub Tried : Type 0
 Tried = Result Answer Refusal
 
 accepted_both : (xs ys : List Tried) → accepted (xs ++ ys) ≡ accepted xs + accepted ys
@@ -19,14 +19,17 @@ pub accepted_more : (xs : List Tried) (i : ℕ) (x : Tried) → i < length xs �
 accepted_more xs i x lt is =
     ap accepted (take_at_read xs i x lt).1 ∙ accepted_both (take i xs) (get_or xs i x ∷ []) ∙ ap (λ (y : Tried). accepted (take i xs) + accepted (y ∷ [])) (sym is)
 
+one_later : (n : ℕ) (x : Tried) (xs : List Tried) → n + 1 + length xs ≡ n + length {A = Tried} (x ∷ xs)
+one_later n x xs = omega arith
+
 tried_both : (n : ℕ) (xs ys : List Tried) → tried_texts n (xs ++ ys) ≡ tried_texts n xs ++ tried_texts (n + length xs) ys
 tried_both n [] ys = ap (λ k. tried_texts k ys) (omega arith)
 tried_both n (x ∷ xs) ys =
-    ap (λ v. numbered_text n x ++ v) (tried_both (n + 1) xs ys ∙ ap (λ k. tried_texts (n + 1) xs ++ tried_texts k ys) (omega arith))
-    ∙ sym (append_assoc (numbered_text n x) (tried_texts (n + 1) xs) (tried_texts (n + (1 + length xs)) ys))
+    ap (λ v. numbered_text n x ++ v) (tried_both (n + 1) xs ys ∙ ap (λ (k : ℕ). tried_texts (n + 1) xs ++ tried_texts k ys) (one_later n x xs))
+    ∙ sym (append_assoc (numbered_text n x) (tried_texts (n + 1) xs) (tried_texts (n + length {A = Tried} (x ∷ xs)) ys))
 
 length_of_front : (xs : List Tried) (i : ℕ) → i < length xs → length (take i xs) ≡ i
-length_of_front xs i lt = grind (arith)
+length_of_front xs i lt = length-take-le i xs (omega (arith, lt))
 
 pub tried_at : (n m : ℕ) (xs : List Tried) (i : ℕ) (x : Tried) → i < length xs → x ≡ get_or xs i x → m ≡ n + i
     → tried_texts n xs ≡ tried_texts n (take i xs) ++ (numbered_text m x ++ tried_texts (m + 1) (drop (i + 1) xs))

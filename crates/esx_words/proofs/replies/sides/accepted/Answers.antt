@@ -6,6 +6,6 @@ pub loop-reply-preserved : goal.loop-reply-preserved
 loop-reply-preserved c =
     let more = accepted_more c.args.replies.now c.loop-reply.reply-index c.reply-item.result c.loop-reply-test.true c.reply-item.is in
     record {
-      counted = omega (arith, more, c.one_if_accepted.ensures.count, c.loop-reply.invariant.counted);
-      few = omega (arith, c.one_if_accepted.ensures.few, c.loop-reply.invariant.few);
+      counted = omega (arith, more, c.one_if_accepted-count.ensures.count, c.loop-reply.invariant.counted);
+      few = omega (arith, c.one_if_accepted-count.ensures.few, c.loop-reply.invariant.few);
     }

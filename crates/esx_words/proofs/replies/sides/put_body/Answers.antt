@@ -1,6 +1,7 @@
-use Rattle.std.proofs.Common.{◌++◌, refl, length, codes}
+use Rattle.std.proofs.Common.{◌++◌, refl, ap, List, length, codes}
 use Rattle.std.specs.Prelude.{flat_map}
 use Rattle.esx_words.specs.Replies.{before_text, tried_texts, after_text}
+use Rattle.esx_words.proofs.SidesLemmas.{Tried}
 use Rattle.esx_words.proofs.WritingLemmas.{first_failed, puts_after, utf8_after}
 use Rattle.esx_words.proofs.replies.sides.put_body.Goals as goal
 
@@ -12,7 +13,7 @@ returns-in_err-put_before-clause-bytes g c =
 pub returns-clause-bytes : goal.returns-clause-bytes
 returns-clause-bytes g c =
     puts_after (g.W.Sink.contents c.args.sink.now) (g.W.Sink.contents c.put_before.new.sink) (g.W.Sink.contents c.put_tail.new.sink) c.args.held.now c.put_before.new.held c.put_tail.new.held
-    (before_text c.args.sides.now.before) (before_text c.args.sides.now.before) (tried_texts 1 c.args.sides.now.replies ++ after_text c.args.sides.now.after) (tried_texts 1 c.args.sides.now.replies ++ after_text c.args.sides.now.after) c.put_tail.result refl refl c.in_ok-put_before.ensures.bytes c.put_tail.ensures.bytes
+    (before_text c.args.sides.now.before) (before_text c.args.sides.now.before) _ (tried_texts 1 c.args.sides.now.replies ++ after_text c.args.sides.now.after) c.put_tail.result refl (ap (λ (rs : List Tried). tried_texts 1 rs ++ after_text c.args.sides.now.after) c.as_slice.ensures) c.in_ok-put_before.ensures.bytes c.put_tail.ensures.bytes
 
 pub returns-clause-utf8 : goal.returns-clause-utf8
-returns-clause-utf8 g c = utf8_after (before_text c.args.sides.now.before) (tried_texts 1 c.args.sides.now.replies ++ after_text c.args.sides.now.after) c.put_tail.result c.in_ok-put_before.ensures.utf8 c.put_tail.ensures.utf8
+returns-clause-utf8 g c = utf8_after (before_text c.args.sides.now.before) (tried_texts 1 c.args.sides.now.replies ++ after_text c.args.sides.now.after) c.put_tail.result c.in_ok-put_before.ensures.utf8 (rw c.as_slice.ensures at c.put_tail.ensures.utf8)
