@@ -13,7 +13,8 @@ use Rattle.std.proofs.lemmas.Str.{IsUtf8-append, IsUtf8-from_ascii}
 use Rattle.hex.proofs.HexLemmas.{IsAscii-encode_with}
 use Rattle.esx_words.proofs.FieldLemmas.{ascii_digits}
 use Rattle.hex.specs.Hex.{encode_lower, encode_with, lower_digits}
-use Rattle.esx_words.specs.Writing.{Writes, WritesFront, Passes, Puts}
+use Rattle.esx_words.specs.Writing.{Writes, WritesFront, Passes, Puts, piece_text, texts}
+use Rattle.esx_words.specs.declared.writing.Piece.{Piece}
 
 pub appends_nothing : (a : Option (List ℕ)) → Appends a a []
 appends_nothing None = tt
@@ -150,3 +151,8 @@ flat_item_at f xs i x lt is = flat_parts_at f xs i x lt ∙ ap (λ y. flat_map f
 pub flat_item_more : {A B : Type 0} (f : A → List B) (xs : List A) (i : ℕ) (x : A) → i < length xs → x ≡ get_or xs i x
     → flat_map f (take (i + 1) xs) ≡ flat_map f (take i xs) ++ f x
 flat_item_more f xs i x lt is = flat_parts_more f xs i x lt ∙ ap (λ y. flat_map f (take i xs) ++ f y) (sym is)
+
+pub texts_are : (pieces : List Piece) → flat_map piece_text pieces ≡ texts pieces
+texts_are [] = refl
+texts_are (piece ∷ []) = append-nil (piece_text piece)
+texts_are (piece ∷ next ∷ pieces) = ap (λ v. piece_text piece ++ v) (texts_are (next ∷ pieces))

@@ -10,3 +10,4 @@ pub mod Commands
 pub mod Writing
 pub mod Texts
 pub mod Replies
+pub mod Printing

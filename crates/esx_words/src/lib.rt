@@ -4,7 +4,9 @@
 pub mod commands;
 pub mod fault;
 pub mod fields;
+pub mod laws;
 pub mod operands;
+pub mod printing;
 pub mod replies;
 pub mod verbs;
 pub mod writing;
