@@ -6,3 +6,4 @@ pub mod SampleLemmas
 pub mod OperandLemmas
 pub mod CommandLemmas
 pub mod SidesLemmas
+pub mod PrintingLemmas
