@@ -156,3 +156,8 @@ pub texts_are : (pieces : List Piece) → flat_map piece_text pieces ≡ texts p
 texts_are [] = refl
 texts_are (piece ∷ []) = append-nil (piece_text piece)
 texts_are (piece ∷ next ∷ pieces) = ap (λ v. piece_text piece ++ v) (texts_are (next ∷ pieces))
+
+pub writes_error : {T E : Type 0} (a c : Option (List ℕ)) (before text : List ℕ) (r : Result T E) → IsErr r → before ≡ []
+    → WritesFront a c (before ++ text) → Writes a c text r
+writes_error a c before text (Ok v) h n w = absurd (cc)
+writes_error a c before text (Err e) h n w = rw n at w

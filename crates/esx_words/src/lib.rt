@@ -1,4 +1,5 @@
-//! The words of commands and of the answers to them.
+//! The words of commands and of the answers to them. Tried events (`whatif`) are printed and not read yet:
+//! no line is in the range of the grammar that asks for them.
 #![tactic(auto)]
 
 pub mod commands;

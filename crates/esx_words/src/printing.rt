@@ -1,17 +1,20 @@
 //! Commands as text, for sessions.
 
-ghost use Rattle.std.specs.Prelude.{◌≡◌, ◌+◌, ◌++◌, ◌∷◌, [], OnOk, IsUtf8, codes, decimal, flat_map};
+ghost use Rattle.std.specs.Prelude.{◌≡◌, ◌+◌, ◌≤◌, ◌++◌, ◌∷◌, [], IfOk, OnOk, IsUtf8, string_bytes, codes, decimal, flat_map};
 ghost use Rattle.hex.specs.Hex.{encode_lower};
 ghost use Rattle.esx_words.specs.Fields.{joined};
 ghost use Rattle.esx_words.specs.Commands.{event_words, spelling};
-ghost use Rattle.esx_words.specs.Writing.{Puts, sink_faults};
+ghost use Rattle.esx_words.specs.Writing.{Writes, Puts, sink_faults};
 ghost use Rattle.esx_words.specs.Printing.{word_text, next_text, sample_head};
 ghost use Rattle.esx_events.specs.Lists.{IsTriable};
 ghost use Rattle.esx_events.specs.declared.call.Call.TheVariants as calls;
 
-use crate::writing::{AnswerBuffer, Piece, put_pieces, put_texts};
+use crate::writing::{AnswerBuffer, Piece, put_texts, write_held};
 use esx_events::{Call, Event, Name};
-use esx_types::{Sink, SinkFailed, VmId, VmSpec};
+use esx_types::{MemorySink, Sink, SinkFailed, VmId, VmSpec};
+use std::alloc::{AllocError, Global};
+use std::marker::Brand;
+use std::sync::ledger::{Blank, Ledger};
 
 /// A first word and a virtual machine.
 fn put_machine<W: Sink>(
@@ -496,5 +499,49 @@ pub fn put_call<W: Sink>(
         Call::Advise { vm, page } => put_place(sink, held, "advise", *vm, *page),
         Call::Stand => put_alone(sink, held, "where"),
         Call::Marks => put_alone(sink, held, "marks"),
+    }
+}
+
+/// Writes the spelling of a call, over an empty buffer.
+pub fn write_call<W: Sink>(
+    sink: &mut W,
+    held: &mut AnswerBuffer,
+    call: &Call,
+) -> Result<(), SinkFailed>
+    requires { held.old ≡ [] }
+    ensures bytes { Writes (W.contents sink.old) (W.contents sink.new) (spelling call.now) result }
+    ensures utf8 { OnOk result (IsUtf8 (spelling call.now)) }
+    ensures empty { OnOk result (held.new ≡ []) }
+    ensures failures { W.failures sink.new ≡ W.failures sink.old + sink_faults result }
+    ensures flushes { W.flushes sink.new ≡ W.flushes sink.old }
+{
+    put_call(sink, held, call)?;
+    write_held(sink, held)
+}
+
+/// The spelling of a call, by a count of the writes.
+fn call_bytes<L: Ledger>(alloc: Global, call: &Call, blank: Blank) -> Result<Vec<u8>, AllocError>
+    requires name { blank.name ≡ L.name }
+    requires parts { blank.parts ≡ L.parts }
+    requires three { 3 ≤ blank.parts }
+    ensures bytes { IfOk result (λ bytes. bytes.items ≡ spelling call.now) }
+    ensures utf8 { IfOk result (λ bytes. IsUtf8 bytes.items) }
+{
+    let mut held = AnswerBuffer::new(alloc)?;
+    let mut sink = MemorySink::<L>::new(Vec::new(alloc), blank);
+    match write_call(&mut sink, &mut held, call) {
+        Ok(()) => Ok(sink.into_bytes()),
+        Err(SinkFailed) => Err(AllocError),
+    }
+}
+
+/// The one spelling of a call. A write is read again only where it has 1 to 4,096 bytes.
+pub fn print_call(alloc: Global, call: &Call) -> Result<String, AllocError>
+    ensures { IfOk result (λ text. string_bytes text ≡ spelling call.now) }
+{
+    let bytes = call_bytes::<Brand>(alloc, call, Blank::new(3))?;
+    match String::from_utf8(bytes) {
+        Ok(text) => Ok(text),
+        Err(_) => unreachable!(),
     }
 }
