@@ -1,5 +1,5 @@
 -- A line is a call's spelling exactly where its fields are the call's words; and a line spells one call at most.
-use Rattle.std.proofs.Common.{◌≡◌, ◌<◌, ◌≤◌, ◌^◌, ◌+◌, ◌++◌, ℕ, List, [], ◌∷◌, length, arith, refl, ap, sym, ◌∙◌, codes, decimal, Bool, true, false, nat_lt, nat_le}
+use Rattle.std.proofs.Common.{◌≡◌, ◌<◌, ◌^◌, ℕ, List, [], ◌∷◌, length, arith, refl, ap, sym, ◌∙◌, codes, decimal, true, nat_lt, nat_le}
 use Rattle.std.specs.Prelude.{map, not, ◌&&◌}
 use Rattle.std.specs.List.{AllByRecursion, list_all}
 use Rattle.std.proofs.Math.Path.{subst}
@@ -10,7 +10,6 @@ use Rattle.std.specs.Str.{IsAscii}
 use Rattle.std.proofs.lemmas.Str.Ascii.{IsAscii-from_all}
 use Rattle.hex.specs.Hex.{encode_lower, decode_of}
 use Rattle.hex.proofs.HexLemmas.{decode_of-encode_lower}
-use Rattle.esx_types.specs.declared.config.TheConstants.{VM_NUMBERS}
 use Rattle.esx_events.specs.Names.{IsName, is_name_byte, starts_lower}
 use Rattle.esx_events.specs.declared.event.Event.{Event}
 use Rattle.esx_events.specs.declared.event.Event.TheVariants as event
@@ -29,9 +28,8 @@ use Rattle.esx_words.specs.declared.verbs.PlaceVerb.TheVariants as place_verbs
 use Rattle.esx_words.specs.Kinds.{Kind, Kinds, Value, Values, value_word, value_words, IsValue, AreValues, IsWritten}
 use Rattle.esx_words.specs.Kinds.Kind.{Machine, Number, Word, Hex, Name}
 use Rattle.esx_words.specs.Kinds.Kinds.{End, Then, Words}
-use Rattle.esx_words.specs.Verbs.{event_word, verb_word}
+use Rattle.esx_words.specs.Verbs.{verb_word}
 use Rattle.esx_words.specs.Fields.{fields, joined}
-use Rattle.esx_words.specs.Faults.{Refuses}
 use Rattle.esx_words.specs.Commands.{Form, event_kinds, event_verb, event_values, verb_form, verb, operands, Operands, operand_words, AreOperands, words_of, spelling, IsInRange, Spells}
 use Rattle.esx_words.specs.Commands.Form.{Plain, Tried}
 use Rattle.esx_words.proofs.FieldLemmas.{IsField, joined_of_fields, fields_of_joined, no_space_in_decimal, no_space_in_hex, no_space_in_known, others_of, ascii_joined}

@@ -1,11 +1,11 @@
 -- Operands that are not there, and the call that a line spells.
-use Rattle.std.proofs.Common.{◌≡◌, ◌<◌, ◌≤◌, ◌^◌, ◌+◌, ◌++◌, ℕ, List, [], ◌∷◌, length, arith, refl, ap, sym, ◌∙◌, codes, decimal}
+use Rattle.std.proofs.Common.{◌≡◌, ◌<◌, ◌≤◌, ◌^◌, ℕ, List, [], ◌∷◌, length, decimal}
 use Rattle.std.specs.Prelude.{map}
 use Rattle.std.specs.List.{AllByRecursion}
 use Rattle.hex.specs.Hex.{encode_lower}
 use Rattle.esx_types.specs.declared.config.TheConstants.{VM_NUMBERS}
 use Rattle.esx_events.specs.Names.{IsName}
-use Rattle.esx_words.specs.Kinds.{Kind, Kinds, Values, value_words, AreValues, IsWritten}
+use Rattle.esx_words.specs.Kinds.{Kinds, Values, value_words, AreValues, IsWritten}
 use Rattle.esx_words.specs.Kinds.Kind.{Machine, Number, Word, Hex, Name}
 use Rattle.esx_words.specs.Kinds.Kinds.{End, Then, Words}
 use Rattle.esx_words.specs.Faults.{Refuses}

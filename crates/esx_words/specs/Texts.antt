@@ -70,30 +70,37 @@ refusal_ending refusals.SampleOpen = codes "\n"
 -- admission
 abbrev pub admitted_text : ℕ → ℕ → ℕ → ℕ → List ℕ
 admitted_text memory frames swap slots = codes "ok memory " ++ (decimal memory ++ (codes "/" ++ (decimal frames ++ (codes " swap " ++ (decimal swap ++ (codes "/" ++ (decimal slots ++ (10 ∷ []))))))))
+
 abbrev pub started_text : ℕ → ℕ → ℕ → Bool → List ℕ
 started_text frame taken overhead running = codes "ok frame " ++ (decimal frame ++ (codes " overhead " ++ (decimal taken ++ (codes "/" ++ (decimal overhead ++ (codes " " ++ (running_text running ++ (10 ∷ []))))))))
 
 -- balloon
 abbrev pub goal_text : ℕ → ℕ → ℕ → List ℕ
 goal_text goal lent epoch = codes "ok goal " ++ (decimal goal ++ (codes " lent " ++ (decimal lent ++ (codes " epoch " ++ (decimal epoch ++ (10 ∷ []))))))
+
 abbrev pub reset_text : ℕ → List ℕ
 reset_text epoch = codes "reset epoch " ++ (decimal epoch ++ (10 ∷ []))
+
 abbrev pub lent_text : ℕ → ℕ → List ℕ
 lent_text lent goal = codes "ok lent " ++ (decimal lent ++ (codes " goal " ++ (decimal goal ++ (10 ∷ []))))
+
 abbrev pub taken_back_text : ℕ → List ℕ
 taken_back_text lent = codes "ok lent " ++ (decimal lent ++ (10 ∷ []))
 
 -- sampling
 abbrev pub opened_text : ℕ → ℕ → List ℕ
 opened_text length pages = codes "ok period " ++ (decimal length ++ (codes " pages " ++ (decimal pages ++ (10 ∷ []))))
+
 abbrev pub rebalanced_text : ℕ → ℕ → List ℕ
 rebalanced_text need revoked = codes "ok need " ++ (decimal need ++ (codes " revoked " ++ (decimal revoked ++ (10 ∷ []))))
 
 -- paging
 abbrev pub paged_out_text : ℕ → ℕ → List ℕ
 paged_out_text page slot = codes "ok out " ++ (decimal page ++ (codes " slot " ++ (decimal slot ++ (10 ∷ []))))
+
 abbrev pub shared_out_text : ℕ → ℕ → List ℕ
 shared_out_text page frame = codes "ok shared " ++ (decimal page ++ (codes " frame " ++ (decimal frame ++ (10 ∷ []))))
+
 abbrev pub replaced_text : ℕ → ℕ → ℕ → List ℕ
 replaced_text page slot frame = codes "ok out " ++ (decimal page ++ (codes " slot " ++ (decimal slot ++ (codes " frame " ++ (decimal frame ++ (10 ∷ []))))))
 
@@ -108,24 +115,32 @@ given_back_text kept = codes "ok overhead " ++ (decimal kept ++ (10 ∷ []))
 -- moves
 abbrev pub stand_text : Stand → ℕ → List ℕ
 stand_text stand jumps = codes "at " ++ (decimal stand.node ++ (codes " depth " ++ (decimal stand.depth ++ (codes " jumps " ++ (decimal jumps ++ (10 ∷ []))))))
+
 abbrev pub marked_text : List ℕ → ℕ → List ℕ
 marked_text name node = codes "ok mark " ++ (name ++ (codes " at " ++ (decimal node ++ (10 ∷ []))))
+
 abbrev pub pruned_text : ℕ → List ℕ
 pruned_text count = codes "ok pruned " ++ (decimal count ++ (10 ∷ []))
 
 -- questions
 abbrev pub sum_text : Sum → List ℕ
 sum_text sum = codes "overhead " ++ (decimal sum.overhead ++ (codes " private " ++ (decimal sum.private ++ (codes " shared " ++ (decimal sum.shared ++ (codes " free " ++ (decimal sum.free ++ (codes " " ++ (level_text sum.level ++ (10 ∷ []))))))))))
+
 abbrev pub activity_text : Activity → List ℕ
 activity_text a = codes "slow " ++ (decimal a.slow ++ (codes " fast " ++ (decimal a.fast ++ (codes " active " ++ (decimal a.active ++ (codes " period " ++ (decimal a.done ++ (codes "/" ++ (decimal a.length ++ (codes " touched " ++ (decimal a.touched ++ (codes "/" ++ (decimal a.pages ++ (10 ∷ []))))))))))))))
+
 abbrev pub private_text : ℕ → List ℕ
 private_text frame = codes "here frame " ++ (decimal frame ++ codes " private\n")
+
 abbrev pub hinted_text : ℕ → List ℕ
 hinted_text frame = codes "here frame " ++ (decimal frame ++ codes " private hint\n")
+
 abbrev pub shared_text : ℕ → ℕ → List ℕ
 shared_text frame count = codes "here frame " ++ (decimal frame ++ (codes " shared " ++ (decimal count ++ (10 ∷ []))))
+
 abbrev pub out_text : ℕ → List ℕ
 out_text slot = codes "out slot " ++ (decimal slot ++ (10 ∷ []))
+
 abbrev pub page_out_text : ℕ → List ℕ
 page_out_text vm = codes "swapout " ++ (decimal vm ++ (10 ∷ []))
 

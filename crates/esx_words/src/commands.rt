@@ -72,14 +72,14 @@ fn event_of(alloc: Global, verb: EventVerb, fields: &mut Fields) -> Result<Event
             None => Err(WordFault::NoCommand),
         },
         EventVerb::Write => match written(alloc, fields) {
-                Ok((vm, page, at, bytes)) => Ok(Event::Write {
-                    vm,
-                    page,
-                    at,
-                    bytes,
-                }),
-                Err(fault) => Err(fault),
-            },
+            Ok((vm, page, at, bytes)) => Ok(Event::Write {
+                vm,
+                page,
+                at,
+                bytes,
+            }),
+            Err(fault) => Err(fault),
+        },
         EventVerb::Sample => match sampled(alloc, fields) {
             Ok((vm, length, words)) => Ok(Event::Sample { vm, length, words }),
             Err(fault) => Err(fault),

@@ -265,23 +265,13 @@ fn put_name<'x, W: Sink>(
 }
 
 /// A first word alone.
-fn put_alone<W: Sink>(
-    sink: &mut W,
-    held: &mut AnswerBuffer,
-    verb: &str,
-) -> Result<(), SinkFailed>
+fn put_alone<W: Sink>(sink: &mut W, held: &mut AnswerBuffer, verb: &str) -> Result<(), SinkFailed>
     ensures bytes { Puts (W.contents sink.old) held.old (W.contents sink.new) held.new (joined (verb.now ∷ [])) result }
     ensures utf8 { OnOk result (IsUtf8 (joined (verb.now ∷ []))) }
     ensures failures { W.failures sink.new ≡ W.failures sink.old + sink_faults result }
     ensures flushes { W.flushes sink.new ≡ W.flushes sink.old }
 {
-    put_texts(
-        sink,
-        held,
-        &[
-            Piece::Text(verb),
-        ],
-    )
+    put_texts(sink, held, &[Piece::Text(verb)])
 }
 
 /// A further word.
@@ -347,15 +337,28 @@ pub fn put_event<W: Sink>(
         Event::Admit { vm, spec } => put_spec(sink, held, "admit", *vm, *spec),
         Event::Start { vm } => put_machine(sink, held, "start", *vm),
         Event::Read { vm, page, at, len } => put_range(sink, held, "read", *vm, *page, *at, *len),
-        Event::Write { vm, page, at, bytes } => put_written(sink, held, "write", *vm, *page, *at, bytes.get().as_slice()),
+        Event::Write {
+            vm,
+            page,
+            at,
+            bytes,
+        } => put_written(sink, held, "write", *vm, *page, *at, bytes.get().as_slice()),
         Event::Ask { vm } => put_machine(sink, held, "ask", *vm),
         Event::Lend { vm, page } => put_place(sink, held, "lend", *vm, *page),
         Event::TakeBack { vm, page } => put_place(sink, held, "takeback", *vm, *page),
-        Event::Sample { vm, length, words } => put_sample(sink, held, *vm, *length, words.get().as_slice()),
+        Event::Sample { vm, length, words } => put_sample(
+            sink,
+            held,
+            *vm,
+            *length,
+            words.get().as_slice(),
+        ),
         Event::Rebalance => put_alone(sink, held, "rebalance"),
         Event::Scan { vm, page } => put_place(sink, held, "scan", *vm, *page),
         Event::SwapOut { vm, word } => put_drawn(sink, held, "swapout", *vm, *word),
-        Event::Replace { vm, page, word } => put_drawn_place(sink, held, "replace", *vm, *page, *word),
+        Event::Replace { vm, page, word } => put_drawn_place(
+            sink, held, "replace", *vm, *page, *word,
+        ),
         Event::SetShares { vm, shares } => put_place(sink, held, "shares", *vm, *shares),
         Event::SetTax { tau } => put_number(sink, held, "tax", *tau),
         Event::Stop { vm } => put_machine(sink, held, "stop", *vm),
@@ -365,10 +368,7 @@ pub fn put_event<W: Sink>(
 }
 
 /// What parts tried events.
-fn put_next_word<W: Sink>(
-    sink: &mut W,
-    held: &mut AnswerBuffer,
-) -> Result<(), SinkFailed>
+fn put_next_word<W: Sink>(sink: &mut W, held: &mut AnswerBuffer) -> Result<(), SinkFailed>
     ensures bytes { Puts (W.contents sink.old) held.old (W.contents sink.new) held.new (codes "; ") result }
     ensures utf8 { OnOk result (IsUtf8 (codes "; ")) }
     ensures failures { W.failures sink.new ≡ W.failures sink.old + sink_faults result }
@@ -378,11 +378,7 @@ fn put_next_word<W: Sink>(
 }
 
 /// A further event that is tried.
-fn put_next<W: Sink>(
-    sink: &mut W,
-    held: &mut AnswerBuffer,
-    event: &Event,
-) -> Result<(), SinkFailed>
+fn put_next<W: Sink>(sink: &mut W, held: &mut AnswerBuffer, event: &Event) -> Result<(), SinkFailed>
     ensures bytes { Puts (W.contents sink.old) held.old (W.contents sink.new) held.new (next_text event.now) result }
     ensures utf8 { OnOk result (IsUtf8 (next_text event.now)) }
     ensures failures { W.failures sink.new ≡ W.failures sink.old + sink_faults result }
@@ -426,10 +422,7 @@ fn put_listed<W: Sink>(
 }
 
 /// The first word of tried events.
-fn put_tried_word<W: Sink>(
-    sink: &mut W,
-    held: &mut AnswerBuffer,
-) -> Result<(), SinkFailed>
+fn put_tried_word<W: Sink>(sink: &mut W, held: &mut AnswerBuffer) -> Result<(), SinkFailed>
     ensures bytes { Puts (W.contents sink.old) held.old (W.contents sink.new) held.new (codes "whatif ") result }
     ensures utf8 { OnOk result (IsUtf8 (codes "whatif ")) }
     ensures failures { W.failures sink.new ≡ W.failures sink.old + sink_faults result }

@@ -4,8 +4,8 @@ ghost use Rattle.std.specs.Prelude.{◌≡◌, ◌+◌, OnOk, IsUtf8};
 ghost use Rattle.esx_words.specs.Writing.{Puts, sink_faults};
 ghost use Rattle.esx_words.specs.Texts.{admitted_text, started_text};
 
-use crate::writing::{AnswerBuffer, Piece, put_pieces};
 use crate::replies::names::running_name;
+use crate::writing::{AnswerBuffer, Piece, put_pieces};
 use esx_types::{Sink, SinkFailed};
 
 /// Frames and slots that are reserved, of all.

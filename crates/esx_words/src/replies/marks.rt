@@ -10,11 +10,7 @@ use esx_events::NameRow;
 use esx_types::{Sink, SinkFailed};
 
 /// A name and its node.
-fn put_mark<W: Sink>(
-    sink: &mut W,
-    held: &mut AnswerBuffer,
-    row: &NameRow,
-) -> Result<(), SinkFailed>
+fn put_mark<W: Sink>(sink: &mut W, held: &mut AnswerBuffer, row: &NameRow) -> Result<(), SinkFailed>
     ensures bytes { Puts (W.contents sink.old) held.old (W.contents sink.new) held.new (mark_text row.now) result }
     ensures utf8 { OnOk result (IsUtf8 (mark_text row.now)) }
     ensures failures { W.failures sink.new ≡ W.failures sink.old + sink_faults result }

@@ -4,17 +4,13 @@ ghost use Rattle.std.specs.Prelude.{◌≡◌, ◌+◌, OnOk, IsUtf8};
 ghost use Rattle.esx_words.specs.Writing.{Puts, sink_faults};
 ghost use Rattle.esx_words.specs.Texts.{sum_text, activity_text, private_text, hinted_text, shared_text, out_text, page_out_text, page_text, help_text};
 
-use crate::writing::{AnswerBuffer, Piece, put_pieces};
 use crate::replies::names::level_name;
+use crate::writing::{AnswerBuffer, Piece, put_pieces};
 use esx_events::{Activity, Help, PageState, Sum};
 use esx_types::{Sink, SinkFailed, VmId};
 
 /// How many frames are of each kind, and the level.
-pub fn put_sum<W: Sink>(
-    sink: &mut W,
-    held: &mut AnswerBuffer,
-    sum: Sum,
-) -> Result<(), SinkFailed>
+pub fn put_sum<W: Sink>(sink: &mut W, held: &mut AnswerBuffer, sum: Sum) -> Result<(), SinkFailed>
     ensures bytes { Puts (W.contents sink.old) held.old (W.contents sink.new) held.new (sum_text sum) result }
     ensures utf8 { OnOk result (IsUtf8 (sum_text sum)) }
     ensures failures { W.failures sink.new ≡ W.failures sink.old + sink_faults result }
@@ -143,11 +139,7 @@ pub fn put_shared<W: Sink>(
 }
 
 /// A page that is out.
-pub fn put_out<W: Sink>(
-    sink: &mut W,
-    held: &mut AnswerBuffer,
-    slot: u32,
-) -> Result<(), SinkFailed>
+pub fn put_out<W: Sink>(sink: &mut W, held: &mut AnswerBuffer, slot: u32) -> Result<(), SinkFailed>
     ensures bytes { Puts (W.contents sink.old) held.old (W.contents sink.new) held.new (out_text slot) result }
     ensures utf8 { OnOk result (IsUtf8 (out_text slot)) }
     ensures failures { W.failures sink.new ≡ W.failures sink.old + sink_faults result }

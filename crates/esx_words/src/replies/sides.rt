@@ -12,11 +12,7 @@ use esx_events::{Answer, Refusal, Sides, Sum};
 use esx_types::{Sink, SinkFailed};
 
 /// The number of a tried event.
-fn put_number<W: Sink>(
-    sink: &mut W,
-    held: &mut AnswerBuffer,
-    number: u64,
-) -> Result<(), SinkFailed>
+fn put_number<W: Sink>(sink: &mut W, held: &mut AnswerBuffer, number: u64) -> Result<(), SinkFailed>
     ensures bytes { Puts (W.contents sink.old) held.old (W.contents sink.new) held.new (number_head number) result }
     ensures utf8 { OnOk result (IsUtf8 (number_head number)) }
     ensures failures { W.failures sink.new ≡ W.failures sink.old + sink_faults result }
@@ -108,10 +104,7 @@ fn put_sides_head<W: Sink>(
 }
 
 /// The word of this side.
-fn put_before_word<W: Sink>(
-    sink: &mut W,
-    held: &mut AnswerBuffer,
-) -> Result<(), SinkFailed>
+fn put_before_word<W: Sink>(sink: &mut W, held: &mut AnswerBuffer) -> Result<(), SinkFailed>
     ensures bytes { Puts (W.contents sink.old) held.old (W.contents sink.new) held.new (codes "before ") result }
     ensures utf8 { OnOk result (IsUtf8 (codes "before ")) }
     ensures failures { W.failures sink.new ≡ W.failures sink.old + sink_faults result }
@@ -121,11 +114,7 @@ fn put_before_word<W: Sink>(
 }
 
 /// The sum before them.
-fn put_before<W: Sink>(
-    sink: &mut W,
-    held: &mut AnswerBuffer,
-    sum: Sum,
-) -> Result<(), SinkFailed>
+fn put_before<W: Sink>(sink: &mut W, held: &mut AnswerBuffer, sum: Sum) -> Result<(), SinkFailed>
     ensures bytes { Puts (W.contents sink.old) held.old (W.contents sink.new) held.new (before_text sum) result }
     ensures utf8 { OnOk result (IsUtf8 (before_text sum)) }
     ensures failures { W.failures sink.new ≡ W.failures sink.old + sink_faults result }
@@ -136,10 +125,7 @@ fn put_before<W: Sink>(
 }
 
 /// The word of this side.
-fn put_after_word<W: Sink>(
-    sink: &mut W,
-    held: &mut AnswerBuffer,
-) -> Result<(), SinkFailed>
+fn put_after_word<W: Sink>(sink: &mut W, held: &mut AnswerBuffer) -> Result<(), SinkFailed>
     ensures bytes { Puts (W.contents sink.old) held.old (W.contents sink.new) held.new (codes "after ") result }
     ensures utf8 { OnOk result (IsUtf8 (codes "after ")) }
     ensures failures { W.failures sink.new ≡ W.failures sink.old + sink_faults result }
@@ -149,11 +135,7 @@ fn put_after_word<W: Sink>(
 }
 
 /// The sum after them.
-fn put_after<W: Sink>(
-    sink: &mut W,
-    held: &mut AnswerBuffer,
-    sum: Sum,
-) -> Result<(), SinkFailed>
+fn put_after<W: Sink>(sink: &mut W, held: &mut AnswerBuffer, sum: Sum) -> Result<(), SinkFailed>
     ensures bytes { Puts (W.contents sink.old) held.old (W.contents sink.new) held.new (after_text sum) result }
     ensures utf8 { OnOk result (IsUtf8 (after_text sum)) }
     ensures failures { W.failures sink.new ≡ W.failures sink.old + sink_faults result }
@@ -180,11 +162,7 @@ fn put_tail<W: Sink>(
 }
 
 /// The lines behind the first.
-fn put_body<W: Sink>(
-    sink: &mut W,
-    held: &mut AnswerBuffer,
-    sides: &Sides,
-) -> Result<(), SinkFailed>
+fn put_body<W: Sink>(sink: &mut W, held: &mut AnswerBuffer, sides: &Sides) -> Result<(), SinkFailed>
     ensures bytes { Puts (W.contents sink.old) held.old (W.contents sink.new) held.new (before_text sides.now.before ++ (tried_texts 1 sides.now.replies ++ after_text sides.now.after)) result }
     ensures utf8 { OnOk result (IsUtf8 (before_text sides.now.before ++ (tried_texts 1 sides.now.replies ++ after_text sides.now.after))) }
     ensures failures { W.failures sink.new ≡ W.failures sink.old + sink_faults result }

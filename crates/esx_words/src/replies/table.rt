@@ -12,11 +12,7 @@ use esx_events::{Sum, TableRow};
 use esx_types::{Sink, SinkFailed};
 
 /// The line of a virtual machine.
-fn put_row<W: Sink>(
-    sink: &mut W,
-    held: &mut AnswerBuffer,
-    row: &TableRow,
-) -> Result<(), SinkFailed>
+fn put_row<W: Sink>(sink: &mut W, held: &mut AnswerBuffer, row: &TableRow) -> Result<(), SinkFailed>
     ensures bytes { Puts (W.contents sink.old) held.old (W.contents sink.new) held.new (row_text row.now) result }
     ensures utf8 { OnOk result (IsUtf8 (row_text row.now)) }
     ensures failures { W.failures sink.new ≡ W.failures sink.old + sink_faults result }
@@ -60,10 +56,7 @@ fn put_rows<W: Sink>(
 }
 
 /// The head of the table.
-fn put_head<W: Sink>(
-    sink: &mut W,
-    held: &mut AnswerBuffer,
-) -> Result<(), SinkFailed>
+fn put_head<W: Sink>(sink: &mut W, held: &mut AnswerBuffer) -> Result<(), SinkFailed>
     ensures bytes { Puts (W.contents sink.old) held.old (W.contents sink.new) held.new (table_head) result }
     ensures utf8 { OnOk result (IsUtf8 (table_head)) }
     ensures failures { W.failures sink.new ≡ W.failures sink.old + sink_faults result }

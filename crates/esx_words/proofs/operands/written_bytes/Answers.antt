@@ -1,4 +1,4 @@
-use Rattle.std.proofs.Common.{◌≡◌, length, arith, sym, ◌∙◌, refl, inl, inr, true}
+use Rattle.std.proofs.Common.{◌≡◌, length, arith, sym, ◌∙◌, inl, inr, true}
 use Rattle.std.specs.List.{list_all}
 use Rattle.std.proofs.lemmas.Bool.{eqb-true}
 use Rattle.std.proofs.lemmas.Bool.Decides.{Decides-eqb, not_from_Decides}
@@ -10,18 +10,18 @@ use Rattle.esx_words.proofs.operands.written_bytes.Goals.{then-is_empty-via-then
 
 pub returns-then-is_empty-clause-only : goal.returns-then-is_empty-clause-only
 returns-then-is_empty-clause-only c = λ bytes w e.
-      let h = length_of_hex c.args.field.now bytes e in
-      elim c.then-is_empty.branch [
-        | then-is_empty-via-then-is_empty w2 ↦ let z = eqb-true (length c.args.field.now) 0 (sym w2.if-is_empty.ensures) in omega (arith, w.some)
-        | then-is_empty-via-else-is_empty+then-field-gt8192 w2 ↦ omega (arith, w.few)
-      ]
+    let h = length_of_hex c.args.field.now bytes e in
+    elim c.then-is_empty.branch [
+      | then-is_empty-via-then-is_empty w2 ↦ let z = eqb-true (length c.args.field.now) 0 (sym w2.if-is_empty.ensures) in omega (arith, w.some)
+      | then-is_empty-via-else-is_empty+then-field-gt8192 w2 ↦ omega (arith, w.few)
+    ]
 
 pub returns-then-not-has_no_capital-clause-only : goal.returns-then-not-has_no_capital-clause-only
 returns-then-not-has_no_capital-clause-only c = λ bytes w e.
-      let all : list_all is_no_capital c.args.field.now ≡ true = rw e (no_capital_in_hex bytes) in
-      let is = c.has_no_capital.ensures ∙ all in
-      let no = c.if-not-has_no_capital.true in
-      cc
+    let all : list_all is_no_capital c.args.field.now ≡ true = rw e (no_capital_in_hex bytes) in
+    let is = c.has_no_capital.ensures ∙ all in
+    let no = c.if-not-has_no_capital.true in
+    cc
 
 pub returns-in-Ok-clause-found : goal.returns-in-Ok-clause-found
 returns-in-Ok-clause-found c =
@@ -39,6 +39,6 @@ returns-in-Ok-clause-found c =
 
 pub returns-in_default-clause-only : goal.returns-in_default-clause-only
 returns-in_default-clause-only c = λ bytes w e. elim c.in-Err.ensures.err [
-    | inl memory ↦ c.in_default.not-OutOfMemory memory
-    | inr bad ↦ no_error c.args.field.now bytes c.in-Err.error w e bad
-  ]
+  | inl memory ↦ c.in_default.not-OutOfMemory memory
+  | inr bad ↦ no_error c.args.field.now bytes c.in-Err.error w e bad
+]

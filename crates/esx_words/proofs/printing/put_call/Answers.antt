@@ -1,4 +1,4 @@
-use Rattle.std.proofs.Common.{ap, sym, ◌∙◌}
+use Rattle.std.proofs.Common.{ap, sym}
 use Rattle.esx_events.specs.declared.call.Call.{Call}
 use Rattle.esx_words.specs.Commands.{spelling}
 use Rattle.esx_words.proofs.PrintingLemmas.{puts_same, utf8_same}

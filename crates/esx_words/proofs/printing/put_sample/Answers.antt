@@ -1,8 +1,6 @@
-use Rattle.std.proofs.Common.{◌++◌, refl, codes}
+use Rattle.std.proofs.Common.{refl}
 use Rattle.std.specs.Prelude.{flat_map}
-use Rattle.esx_words.specs.Fields.{joined}
-use Rattle.esx_words.specs.Commands.{event_words}
-use Rattle.esx_words.specs.Printing.{word_text, next_text, sample_head}
+use Rattle.esx_words.specs.Printing.{word_text, sample_head}
 use Rattle.esx_words.proofs.WritingLemmas.{first_failed, puts_after, utf8_after}
 use Rattle.esx_words.proofs.printing.put_sample.Goals as goal
 

@@ -1,4 +1,4 @@
-use Rattle.std.proofs.Common.{◌∙◌, ap, refl, ℕ}
+use Rattle.std.proofs.Common.{◌∙◌, ap, refl}
 use Rattle.std.specs.Prelude.{replicate}
 use Rattle.esx_words.proofs.WritingLemmas.{first_failed, puts_after, utf8_both}
 use Rattle.esx_words.proofs.writing.put_left.Goals as goal

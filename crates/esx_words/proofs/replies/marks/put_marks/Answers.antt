@@ -1,4 +1,4 @@
-use Rattle.std.proofs.Common.{◌++◌, refl, length, codes}
+use Rattle.std.proofs.Common.{refl, length}
 use Rattle.std.specs.Prelude.{flat_map}
 use Rattle.esx_words.specs.Replies.{marks_head, mark_text}
 use Rattle.esx_words.proofs.WritingLemmas.{first_failed, puts_after, utf8_after}

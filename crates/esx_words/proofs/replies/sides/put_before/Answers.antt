@@ -1,5 +1,4 @@
-use Rattle.std.proofs.Common.{◌++◌, refl, length, codes}
-use Rattle.std.specs.Prelude.{flat_map}
+use Rattle.std.proofs.Common.{refl, codes}
 use Rattle.esx_words.specs.Texts.{sum_text}
 use Rattle.esx_words.proofs.WritingLemmas.{first_failed, puts_after, utf8_after}
 use Rattle.esx_words.proofs.replies.sides.put_before.Goals as goal

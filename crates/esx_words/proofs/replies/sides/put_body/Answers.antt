@@ -1,5 +1,4 @@
-use Rattle.std.proofs.Common.{◌++◌, refl, ap, List, length, codes}
-use Rattle.std.specs.Prelude.{flat_map}
+use Rattle.std.proofs.Common.{◌++◌, refl, ap, List}
 use Rattle.esx_words.specs.Replies.{before_text, tried_texts, after_text}
 use Rattle.esx_words.proofs.SidesLemmas.{Tried}
 use Rattle.esx_words.proofs.WritingLemmas.{first_failed, puts_after, utf8_after}

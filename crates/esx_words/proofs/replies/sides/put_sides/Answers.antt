@@ -1,5 +1,4 @@
-use Rattle.std.proofs.Common.{◌++◌, refl, ap, ◌∙◌, ℕ, length, codes}
-use Rattle.std.specs.Prelude.{flat_map}
+use Rattle.std.proofs.Common.{◌++◌, refl, ap, ◌∙◌, ℕ}
 use Rattle.esx_words.specs.Replies.{sides_head, accepted, before_text, tried_texts, after_text}
 use Rattle.esx_words.proofs.WritingLemmas.{first_failed, puts_after, utf8_after}
 use Rattle.esx_words.proofs.replies.sides.put_sides.Goals as goal

@@ -1,4 +1,4 @@
-use Rattle.std.proofs.Common.{◌++◌, refl, length, codes}
+use Rattle.std.proofs.Common.{refl}
 use Rattle.std.specs.Prelude.{flat_map}
 use Rattle.esx_words.specs.Texts.{sum_text}
 use Rattle.esx_words.specs.Replies.{row_text}
