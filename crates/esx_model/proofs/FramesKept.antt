@@ -1,0 +1,227 @@
+-- What the frames and slots of a site keep where one page goes to another place, and where an overhead frame comes or goes.
+use Rattle.std.proofs.Common.{◌≡◌, ◌≢◌, ℕ, ◌+◌, ◌≤◌, ◌<◌, Bool, true, false, List, [], ◌∷◌, ◌++◌, refl, sym, ap, ◌∙◌, subst, arith, cond, Option, Some, None, inl, inr, ◌==◌, ◌-◌}
+use Rattle.std.specs.List.{filter, list_any, AllByRecursion}
+use Rattle.std.proofs.lemmas.Bool.{cases_eq, false≢true}
+use Rattle.esx_types.specs.declared.table.FrameRow.{FrameRow}
+use Rattle.esx_types.specs.declared.table.FrameRow.TheVariants as frames
+use Rattle.esx_types.specs.declared.table.SlotRow.{SlotRow}
+use Rattle.esx_types.specs.declared.table.SlotRow.TheVariants as slots
+use Rattle.esx_formulas.specs.Key.{content_key}
+use Rattle.esx_model.specs.declared.scene.Place.{Place}
+use Rattle.esx_model.specs.declared.scene.Place.TheVariants.{Untouched, Here, Out, Lent}
+use Rattle.esx_model.specs.Places.{is_here_at, is_out_at}
+use Rattle.esx_model.specs.Show.{in_frame, in_slot, is_listed, row_of, slot_of}
+use Rattle.esx_model.specs.Moved.{less, more, FitsRow}
+use Rattle.esx_model.specs.sound.Frames.{AreFrames, pages_for, pages_out_for, key_of_row}
+use Rattle.esx_model.proofs.Lists.{Changed, filter_before, filter_after, filter_neither, eqb_same, eqb_other, not_none}
+use Rattle.esx_model.proofs.Alike.{Stands, stands_alike, left_by, come_by, StandsOut, out_alike, left_out_by, come_out_by}
+
+-- the same pages in each frame and slot
+pub frames_same : (n : ℕ) (ps qs : List Place) (os : List ℕ) → AreFrames n ps os → ((f : ℕ) → in_frame f qs ≡ in_frame f ps) → ((i : ℕ) → in_slot i qs ≡ in_slot i ps) → AreFrames n qs os
+frames_same n ps qs os fine here out = record {
+  alike = λ f. here f ∙ fine.alike f ∙ ap (λ ps. pages_for f (row_of ps)) (sym (here f));
+  single = λ i. out i ∙ fine.single i ∙ ap (λ ps. pages_out_for i (slot_of ps)) (sym (out i));
+  below = fine.below;
+  once = fine.once;
+  apart = λ f h. here f ∙ fine.apart f h;
+  keys = λ f g key a b. fine.keys f g key (ap (λ ps. key_of_row (row_of ps)) (sym (here f)) ∙ a) (ap (λ ps. key_of_row (row_of ps)) (sym (here g)) ∙ b);
+}
+
+-- the pages in frame f are others
+pub record FrameMoves (ps qs : List Place) (f : ℕ) (row : FrameRow) : Type 0 where
+  pub inside : Stands f (in_frame f qs) row
+  pub others : (g : ℕ) → g ≢ f → in_frame g qs ≡ in_frame g ps
+  pub slots : (i : ℕ) → in_slot i qs ≡ in_slot i ps
+
+-- no other frame is shared under the key of a row
+abbrev pub IsFresh : List Place → ℕ → FrameRow → Type 0
+IsFresh ps f row = (g key : ℕ) → key_of_row row ≡ Some key → key_of_row (row_of (in_frame g ps)) ≡ Some key → g ≡ f
+
+pub frames_move : (n : ℕ) (ps qs : List Place) (os : List ℕ) (f : ℕ) (row : FrameRow) → AreFrames n ps os → FrameMoves ps qs f row → is_listed f os ≡ false → IsFresh ps f row → AreFrames n qs os
+frames_move n ps qs os f row fine moves clear fresh = record {
+  alike = λ g. elim (cases_eq g f) [
+    | inl e ↦ (let P : ℕ → Type 0 = λ k. in_frame k qs ≡ pages_for k (row_of (in_frame k qs)) in subst P (sym e) (stands_alike f (in_frame f qs) row moves.inside))
+    | inr other ↦ moves.others g other ∙ fine.alike g ∙ ap (λ ps. pages_for g (row_of ps)) (sym (moves.others g other))
+  ];
+  single = λ i. moves.slots i ∙ fine.single i ∙ ap (λ ps. pages_out_for i (slot_of ps)) (sym (moves.slots i));
+  below = fine.below;
+  once = fine.once;
+  apart = λ g h. elim (cases_eq g f) [
+    | inl e ↦ absurd (false≢true (sym (ap (λ j. is_listed j os) e ∙ clear) ∙ h))
+    | inr other ↦ moves.others g other ∙ fine.apart g h
+  ];
+  keys = λ g h key a b. elim (cases_eq g f) [
+    | inl e ↦ elim (cases_eq h f) [
+        | inl d ↦ e ∙ sym d
+        | inr other ↦ e ∙ sym (fresh h key (here g key e a) (there h key other b))
+      ]
+    | inr mine ↦ elim (cases_eq h f) [
+        | inl d ↦ fresh g key (here h key d b) (there g key mine a) ∙ sym d
+        | inr other ↦ fine.keys g h key (there g key mine a) (there h key other b)
+      ]
+  ];
+}
+  where
+    here : (g key : ℕ) → g ≡ f → key_of_row (row_of (in_frame g qs)) ≡ Some key → key_of_row row ≡ Some key
+    here g key e a = ap key_of_row (sym moves.inside.is) ∙ ap (λ k. key_of_row (row_of (in_frame k qs))) (sym e) ∙ a
+    there : (g key : ℕ) → g ≢ f → key_of_row (row_of (in_frame g qs)) ≡ Some key → key_of_row (row_of (in_frame g ps)) ≡ Some key
+    there g key other a = ap (λ ps. key_of_row (row_of ps)) (sym (moves.others g other)) ∙ a
+
+-- the page in slot i is another
+pub record SlotMoves (ps qs : List Place) (i : ℕ) (row : SlotRow) : Type 0 where
+  pub inside : StandsOut i (in_slot i qs) row
+  pub others : (g : ℕ) → g ≢ i → in_slot g qs ≡ in_slot g ps
+  pub frames : (f : ℕ) → in_frame f qs ≡ in_frame f ps
+
+pub slots_move : (n : ℕ) (ps qs : List Place) (os : List ℕ) (i : ℕ) (row : SlotRow) → AreFrames n ps os → SlotMoves ps qs i row → AreFrames n qs os
+slots_move n ps qs os i row fine moves = record {
+  alike = λ f. moves.frames f ∙ fine.alike f ∙ ap (λ ps. pages_for f (row_of ps)) (sym (moves.frames f));
+  single = λ g. elim (cases_eq g i) [
+    | inl e ↦ (let P : ℕ → Type 0 = λ k. in_slot k qs ≡ pages_out_for k (slot_of (in_slot k qs)) in subst P (sym e) (out_alike i (in_slot i qs) row moves.inside))
+    | inr other ↦ moves.others g other ∙ fine.single g ∙ ap (λ ps. pages_out_for g (slot_of ps)) (sym (moves.others g other))
+  ];
+  below = fine.below;
+  once = fine.once;
+  apart = λ f h. moves.frames f ∙ fine.apart f h;
+  keys = λ f g key a b. fine.keys f g key (ap (λ ps. key_of_row (row_of ps)) (sym (moves.frames f)) ∙ a) (ap (λ ps. key_of_row (row_of ps)) (sym (moves.frames g)) ∙ b);
+}
+
+-- the page is in no frame and no slot
+pub record IsNowhere (p : Place) : Type 0 where
+  pub here : (f : ℕ) → is_here_at f p ≡ false
+  pub out : (i : ℕ) → is_out_at i p ≡ false
+
+pub untouched_nowhere : IsNowhere Untouched
+untouched_nowhere = record { here = λ f. refl; out = λ i. refl }
+
+pub lent_nowhere : (e : ℕ) → IsNowhere (Lent e)
+lent_nowhere e = record { here = λ f. refl; out = λ i. refl }
+
+-- a frame with a page is no overhead
+pub clear_where : (n : ℕ) (ps : List Place) (os : List ℕ) (f : ℕ) (fs bs : List Place) (p : Place) → AreFrames n ps os → in_frame f ps ≡ fs ++ p ∷ bs → is_listed f os ≡ false
+clear_where n ps os f fs bs p fine h = of (is_listed f os) refl
+  where
+    of : (b : Bool) → is_listed f os ≡ b → is_listed f os ≡ false
+    of false e = e
+    of true e = absurd (not_none fs bs p (sym h ∙ fine.apart f e))
+
+less_key : (row : FrameRow) (key : ℕ) → key_of_row (less row) ≡ Some key → key_of_row row ≡ Some key
+less_key frames.Free key h = h
+less_key frames.Overhead key h = h
+less_key (frames.Private bytes) key h = cc
+less_key (frames.Shared count bytes) key h = of _ h
+  where
+    of : (b : Bool) → key_of_row (cond b (frames.Shared (count - 1) bytes) frames.Free) ≡ Some key → Some (content_key bytes) ≡ Some key
+    of true e = e
+    of false e = cc
+
+frame_left : (n : ℕ) (ps qs : List Place) (os : List ℕ) (bytes : List ℕ) (f : ℕ) (shared : Bool) (q : Place) → AreFrames n ps os → Changed (Here bytes f shared) q ps qs → IsNowhere q
+    → FrameMoves ps qs f (less (row_of (in_frame f ps)))
+frame_left n ps qs os bytes f shared q fine ch away =
+    let p : Place = Here bytes f shared in
+    let fs = filter (is_here_at f) ch.front in
+    let bs = filter (is_here_at f) ch.back in
+    let before : in_frame f ps ≡ fs ++ p ∷ bs = filter_before (is_here_at f) p q ps qs ch ∙ ap (λ b. fs ++ cond b (p ∷ bs) bs) (eqb_same f) in
+    let after : in_frame f qs ≡ fs ++ bs = filter_after (is_here_at f) p q ps qs ch ∙ ap (λ b. fs ++ cond b (q ∷ bs) bs) (away.here f) in
+    let P : List Place → Type 0 = λ xs. Stands f xs (less (row_of (in_frame f ps))) in
+    record {
+      inside = subst P (sym after) (left_by f fs bs p (row_of (in_frame f ps)) (sym before ∙ fine.alike f));
+      others = λ k other. filter_neither (is_here_at k) p q ps qs ch (eqb_other f k other) (away.here k);
+      slots = λ i. filter_neither (is_out_at i) p q ps qs ch refl (away.out i);
+    }
+
+frame_before : (ps qs : List Place) (bytes : List ℕ) (f : ℕ) (shared : Bool) (q : Place) (ch : Changed (Here bytes f shared) q ps qs)
+    → in_frame f ps ≡ filter (is_here_at f) ch.front ++ Here bytes f shared ∷ filter (is_here_at f) ch.back
+frame_before ps qs bytes f shared q ch =
+    let p : Place = Here bytes f shared in
+    let fs = filter (is_here_at f) ch.front in
+    let bs = filter (is_here_at f) ch.back in
+    filter_before (is_here_at f) p q ps qs ch ∙ ap (λ b. fs ++ cond b (p ∷ bs) bs) (eqb_same f)
+
+slot_left : (n : ℕ) (ps qs : List Place) (os : List ℕ) (bytes : List ℕ) (i : ℕ) (q : Place) → AreFrames n ps os → Changed (Out bytes i) q ps qs → IsNowhere q → SlotMoves ps qs i slots.Free
+slot_left n ps qs os bytes i q fine ch away =
+    let p : Place = Out bytes i in
+    let fs = filter (is_out_at i) ch.front in
+    let bs = filter (is_out_at i) ch.back in
+    let before : in_slot i ps ≡ fs ++ p ∷ bs = filter_before (is_out_at i) p q ps qs ch ∙ ap (λ b. fs ++ cond b (p ∷ bs) bs) (eqb_same i) in
+    let after : in_slot i qs ≡ fs ++ bs = filter_after (is_out_at i) p q ps qs ch ∙ ap (λ b. fs ++ cond b (q ∷ bs) bs) (away.out i) in
+    let P : List Place → Type 0 = λ xs. StandsOut i xs slots.Free in
+    record {
+      inside = subst P (sym after) (left_out_by i fs bs p (slot_of (in_slot i ps)) (sym before ∙ fine.single i));
+      others = λ k other. filter_neither (is_out_at k) p q ps qs ch (eqb_other i k other) (away.out k);
+      frames = λ f. filter_neither (is_here_at f) p q ps qs ch refl (away.here f);
+    }
+
+-- a page leaves its place
+pub page_leaves : (n : ℕ) (ps qs : List Place) (os : List ℕ) (p q : Place) → AreFrames n ps os → Changed p q ps qs → IsNowhere q → AreFrames n qs os
+page_leaves n ps qs os Untouched q fine ch away =
+    frames_same n ps qs os fine (λ f. filter_neither (is_here_at f) Untouched q ps qs ch refl (away.here f)) (λ i. filter_neither (is_out_at i) Untouched q ps qs ch refl (away.out i))
+page_leaves n ps qs os (Lent e) q fine ch away =
+    frames_same n ps qs os fine (λ f. filter_neither (is_here_at f) (Lent e) q ps qs ch refl (away.here f)) (λ i. filter_neither (is_out_at i) (Lent e) q ps qs ch refl (away.out i))
+page_leaves n ps qs os (Here bytes f shared) q fine ch away =
+    let row = row_of (in_frame f ps) in
+    frames_move n ps qs os f (less row) fine (frame_left n ps qs os bytes f shared q fine ch away)
+    (clear_where n ps os f (filter (is_here_at f) ch.front) (filter (is_here_at f) ch.back) (Here bytes f shared) fine (frame_before ps qs bytes f shared q ch))
+    (λ g key a b. fine.keys g f key b (less_key row key a))
+page_leaves n ps qs os (Out bytes i) q fine ch away = slots_move n ps qs os i slots.Free fine (slot_left n ps qs os bytes i q fine ch away)
+
+-- there is room for a page
+pub record FitsFrame (ps : List Place) (os : List ℕ) (bytes : List ℕ) (f : ℕ) (shared : Bool) : Type 0 where
+  pub clear : is_listed f os ≡ false
+  pub row : FitsRow bytes shared (row_of (in_frame f ps))
+  pub fresh : shared ≡ true → (g : ℕ) → key_of_row (row_of (in_frame g ps)) ≡ Some (content_key bytes) → g ≡ f
+
+abbrev pub FitsIn : List Place → List ℕ → Place → Type 0
+FitsIn ps os Untouched = Unit {0}
+FitsIn ps os (Here bytes f shared) = FitsFrame ps os bytes f shared
+FitsIn ps os (Out bytes i) = slot_of (in_slot i ps) ≡ slots.Free
+FitsIn ps os (Lent e) = Unit {0}
+
+more_key : (bytes : List ℕ) (shared : Bool) (row : FrameRow) (key : ℕ) → FitsRow bytes shared row → key_of_row (more bytes shared row) ≡ Some key → (shared ≡ true) × (key ≡ content_key bytes)
+more_key bytes false row key fits h = cc
+more_key bytes true frames.Free key fits h = (refl, cc)
+more_key bytes true frames.Overhead key fits h = absurd fits
+more_key bytes true (frames.Private old) key fits h = absurd fits
+more_key bytes true (frames.Shared count old) key fits h = (refl, (let e = fits.1 in let d = ap content_key e in cc))
+
+frame_joined : (n : ℕ) (ps qs : List Place) (os : List ℕ) (p : Place) (bytes : List ℕ) (f : ℕ) (shared : Bool) → AreFrames n ps os → Changed p (Here bytes f shared) ps qs → IsNowhere p
+    → FitsRow bytes shared (row_of (in_frame f ps)) → FrameMoves ps qs f (more bytes shared (row_of (in_frame f ps)))
+frame_joined n ps qs os p bytes f shared fine ch away fits =
+    let q : Place = Here bytes f shared in
+    let fs = filter (is_here_at f) ch.front in
+    let bs = filter (is_here_at f) ch.back in
+    let before : in_frame f ps ≡ fs ++ bs = filter_before (is_here_at f) p q ps qs ch ∙ ap (λ b. fs ++ cond b (p ∷ bs) bs) (away.here f) in
+    let after : in_frame f qs ≡ fs ++ q ∷ bs = filter_after (is_here_at f) p q ps qs ch ∙ ap (λ b. fs ++ cond b (q ∷ bs) bs) (eqb_same f) in
+    let P : List Place → Type 0 = λ xs. Stands f xs (more bytes shared (row_of (in_frame f ps))) in
+    record {
+      inside = subst P (sym after) (come_by f fs bs bytes shared (row_of (in_frame f ps)) (sym before ∙ fine.alike f) fits);
+      others = λ k other. filter_neither (is_here_at k) p q ps qs ch (away.here k) (eqb_other f k other);
+      slots = λ i. filter_neither (is_out_at i) p q ps qs ch (away.out i) refl;
+    }
+
+slot_joined : (n : ℕ) (ps qs : List Place) (os : List ℕ) (p : Place) (bytes : List ℕ) (i : ℕ) → AreFrames n ps os → Changed p (Out bytes i) ps qs → IsNowhere p
+    → slot_of (in_slot i ps) ≡ slots.Free → SlotMoves ps qs i (slots.Held bytes)
+slot_joined n ps qs os p bytes i fine ch away free =
+    let q : Place = Out bytes i in
+    let fs = filter (is_out_at i) ch.front in
+    let bs = filter (is_out_at i) ch.back in
+    let before : in_slot i ps ≡ fs ++ bs = filter_before (is_out_at i) p q ps qs ch ∙ ap (λ b. fs ++ cond b (p ∷ bs) bs) (away.out i) in
+    let after : in_slot i qs ≡ fs ++ q ∷ bs = filter_after (is_out_at i) p q ps qs ch ∙ ap (λ b. fs ++ cond b (q ∷ bs) bs) (eqb_same i) in
+    let P : List Place → Type 0 = λ xs. StandsOut i xs (slots.Held bytes) in
+    record {
+      inside = subst P (sym after) (come_out_by i fs bs bytes (slot_of (in_slot i ps)) (sym before ∙ fine.single i) free);
+      others = λ k other. filter_neither (is_out_at k) p q ps qs ch (away.out k) (eqb_other i k other);
+      frames = λ f. filter_neither (is_here_at f) p q ps qs ch (away.here f) refl;
+    }
+
+-- a page that was nowhere comes to a place
+pub page_joins : (n : ℕ) (ps qs : List Place) (os : List ℕ) (p q : Place) → AreFrames n ps os → Changed p q ps qs → IsNowhere p → FitsIn ps os q → AreFrames n qs os
+page_joins n ps qs os p Untouched fine ch away fits =
+    frames_same n ps qs os fine (λ f. filter_neither (is_here_at f) p Untouched ps qs ch (away.here f) refl) (λ i. filter_neither (is_out_at i) p Untouched ps qs ch (away.out i) refl)
+page_joins n ps qs os p (Lent e) fine ch away fits =
+    frames_same n ps qs os fine (λ f. filter_neither (is_here_at f) p (Lent e) ps qs ch (away.here f) refl) (λ i. filter_neither (is_out_at i) p (Lent e) ps qs ch (away.out i) refl)
+page_joins n ps qs os p (Here bytes f shared) fine ch away fits =
+    let row = row_of (in_frame f ps) in
+    frames_move n ps qs os f (more bytes shared row) fine (frame_joined n ps qs os p bytes f shared fine ch away fits.row) fits.clear
+    (λ g key a b. (let k = more_key bytes shared row key fits.row a in fits.fresh k.0 g (b ∙ ap Some k.1)))
+page_joins n ps qs os p (Out bytes i) fine ch away fits = slots_move n ps qs os i (slots.Held bytes) fine (slot_joined n ps qs os p bytes i fine ch away fits)
