@@ -47,12 +47,8 @@ impl Call {
             Call::Undo { count } => Ok(Call::Undo { count: *count }),
             Call::Redo { count } => Ok(Call::Redo { count: *count }),
             Call::Goto { node } => Ok(Call::Goto { node: *node }),
-            Call::Visit { name } => Ok(Call::Visit {
-                name: name.copy()?,
-            }),
-            Call::Mark { name } => Ok(Call::Mark {
-                name: name.copy()?,
-            }),
+            Call::Visit { name } => Ok(Call::Visit { name: name.copy()? }),
+            Call::Mark { name } => Ok(Call::Mark { name: name.copy()? }),
             Call::Prune { node } => Ok(Call::Prune { node: *node }),
             Call::WhatIf { events } => Ok(Call::WhatIf {
                 events: events.copy()?,
@@ -206,18 +202,44 @@ impl Sides {
 /// What is said to a call.
 #[derive(Debug, Drop)]
 pub enum Said {
-    Done { answer: Answer },
-    Refused { refusal: Refusal },
-    Stand { stand: Stand },
-    Marked { name: Name, node: u32 },
-    Pruned { count: u32 },
-    Sides { sides: Boxed<Sides> },
-    Sum { sum: Sum },
-    Table { rows: Boxed<Rows<TableRow>>, sum: Boxed<Sum> },
-    Activity { activity: Activity },
-    Page { state: PageState },
-    Help { help: Help },
-    Marks { marks: Boxed<Rows<NameRow>> },
+    Done {
+        answer: Answer,
+    },
+    Refused {
+        refusal: Refusal,
+    },
+    Stand {
+        stand: Stand,
+    },
+    Marked {
+        name: Name,
+        node: u32,
+    },
+    Pruned {
+        count: u32,
+    },
+    Sides {
+        sides: Boxed<Sides>,
+    },
+    Sum {
+        sum: Sum,
+    },
+    Table {
+        rows: Boxed<Rows<TableRow>>,
+        sum: Boxed<Sum>,
+    },
+    Activity {
+        activity: Activity,
+    },
+    Page {
+        state: PageState,
+    },
+    Help {
+        help: Help,
+    },
+    Marks {
+        marks: Boxed<Rows<NameRow>>,
+    },
 }
 
 fn copy_table(rows: &Boxed<Rows<TableRow>>) -> Result<Boxed<Rows<TableRow>>, AllocError>
@@ -303,5 +325,7 @@ pub struct Line {
 }
 
 const _: () = prove!(size_of::<Call>() == 32);
+
 const _: () = prove!(size_of::<Said>() == 32);
+
 const _: () = prove!(size_of::<Line>() == 80);

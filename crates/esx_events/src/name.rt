@@ -1,7 +1,8 @@
 //! Names of nodes.
 
 ghost use Rattle.std.specs.Prelude.{◌≡◌, ◌↔◌, IfOk, IfSome, IsSome, IsTrue};
-ghost use Rattle.esx_events.specs.Names.{IsName, is_name_byte, is_lower, is_name};
+ghost use Rattle.esx_events.specs.Names.{IsName, is_name_byte, is_lower, starts_lower, is_name};
+ghost use Rattle.std.specs.List.{list_all};
 
 use crate::boxed::Boxed;
 use esx_types::Bytes;
@@ -23,18 +24,26 @@ fn is_name_byte(byte: u8) -> bool
     is_lower(byte) || b'0' <= byte && byte <= b'9' || byte == b'_' || byte == b'-'
 }
 
+fn starts_lower(bytes: &[u8]) -> bool
+    ensures { result ≡ starts_lower bytes.now }
+{
+    match bytes.first() {
+        None => false,
+        Some(first) => is_lower(*first),
+    }
+}
+
+fn has_name_bytes(bytes: &[u8]) -> bool
+    ensures { result ≡ list_all is_name_byte bytes.now }
+{
+    bytes.iter().all(|byte| is_name_byte(*byte))
+}
+
 /// May these bytes be a name?
 pub fn is_name(bytes: &[u8]) -> bool
     ensures { result ≡ is_name bytes.now }
 {
-    match bytes.first() {
-        None => false,
-        Some(first) => {
-            is_lower(*first)
-                && bytes.len() <= MAX_NAME
-                && bytes.iter().all(|byte| is_name_byte(*byte))
-        }
-    }
+    starts_lower(bytes) && bytes.len() <= MAX_NAME && has_name_bytes(bytes)
 }
 
 /// A name of 1 to `MAX_NAME` small letters, digits, `_` and `-`, that begins with a letter. It is seen as
