@@ -62,7 +62,7 @@ fn checksum(alloc: Global, work: &Work) -> Result<u64> {
         let targets = if work.in_chunks {
             esx_average::targets(alloc, TAU, rows.as_slice(), work.need)?
         } else {
-            esx_plain::targets::targets(alloc, TAU, rows.as_slice(), work.need)?
+            esx_formulas::targets::targets(alloc, TAU, rows.as_slice(), work.need)?
         };
         for target in &targets {
             sum = sum.wrapping_mul(1_000_003).wrapping_add(u64::from(*target));

@@ -3,13 +3,13 @@ use Rattle.std.proofs.Common.{◌≡◌, ◌≢◌, ℕ, ◌+◌, ◌-◌, ◌*�
 use Rattle.std.proofs.lemmas.Bool.{cases_lt, cases_eq}
 use Rattle.std.proofs.lemmas.List.{length-map, length-set}
 use Rattle.std.specs.Prelude.{sum_by}
-use Rattle.esx_plain.specs.declared.targets.Row.{Row}
-use Rattle.esx_plain.specs.Ratio.{claim, ComesNoLater, AreRows, row_at}
-use Rattle.esx_plain.specs.Targets.{held, spare, revoked, AreTargets}
-use Rattle.esx_plain.specs.Payers.{IsFirstBelow, AreNoneBelow}
-use Rattle.esx_plain.proofs.Gaps.{gap, AreBelow, below_from_places, below_length, below_at, gap_chain, gap_of_equal, equal_from_gap, gap-at-le, gap-le, gap-set}
-use Rattle.esx_plain.proofs.RatioLaws.{no_later_chain, no_later_same, more_pages_no_later, claim_above_none}
-use Rattle.esx_plain.proofs.TargetLaws.{all_held, revoked_is_gap, held_at, below_held, HasTargets, targets_for, same_row}
+use Rattle.esx_formulas.specs.declared.targets.Row.{Row}
+use Rattle.esx_formulas.specs.Ratio.{claim, ComesNoLater, AreRows, row_at}
+use Rattle.esx_formulas.specs.Targets.{held, spare, revoked, AreTargets}
+use Rattle.esx_formulas.specs.Payers.{IsFirstBelow, AreNoneBelow}
+use Rattle.esx_formulas.proofs.Gaps.{gap, AreBelow, below_from_places, below_length, below_at, gap_chain, gap_of_equal, equal_from_gap, gap-at-le, gap-le, gap-set}
+use Rattle.esx_formulas.proofs.RatioLaws.{no_later_chain, no_later_same, more_pages_no_later, claim_above_none}
+use Rattle.esx_formulas.proofs.TargetLaws.{all_held, revoked_is_gap, held_at, below_held, HasTargets, targets_for, same_row}
 
 -- So many pages are left to revoke, and none was revoked that the targets leave.
 pub record IsPartial (tau : ℕ) (rows : List Row) (need : ℕ) (t : List ℕ) (left : ℕ) : Type 0 where

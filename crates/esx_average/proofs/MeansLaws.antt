@@ -1,8 +1,8 @@
 -- The averages of a path, period by period.
 use Rattle.std.proofs.Common.{◌≡◌, ℕ, List, [], ◌∷◌, ◌++◌, refl, ap, sym}
-use Rattle.esx_plain.specs.declared.scene.Estimate.{Estimate}
-use Rattle.esx_plain.specs.Average.{touched_share, slower, faster, slow_average, fast_average}
-use Rattle.esx_plain.proofs.AverageLaws.{slow_average_push, fast_average_push}
+use Rattle.esx_formulas.specs.declared.activity.Estimate.{Estimate}
+use Rattle.esx_formulas.specs.Average.{touched_share, slower, faster, slow_average, fast_average}
+use Rattle.esx_formulas.proofs.AverageLaws.{slow_average_push, fast_average_push}
 use Rattle.esx_average.specs.Means.{Means, means_of}
 
 same_means : (a b c d : ℕ) → a ≡ c → b ≡ d →

@@ -1,5 +1,5 @@
-pub use Rattle.esx_plain.specs.Average
-pub use Rattle.esx_plain.specs.Estimates
-pub use Rattle.esx_plain.specs.Ratio
-pub use Rattle.esx_plain.specs.Targets
+pub use Rattle.esx_formulas.specs.Average
+pub use Rattle.esx_formulas.specs.Estimates
+pub use Rattle.esx_formulas.specs.Ratio
+pub use Rattle.esx_formulas.specs.Targets
 pub mod Means

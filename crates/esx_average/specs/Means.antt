@@ -1,7 +1,7 @@
 -- The running averages of a machine's activity.
 use Rattle.std.specs.Prelude.{ℕ, List, Option, Some, None}
-use Rattle.esx_plain.specs.declared.scene.Estimate.{Estimate}
-use Rattle.esx_plain.specs.Average.{touched_share, slower, faster, slow_average, fast_average}
+use Rattle.esx_formulas.specs.declared.activity.Estimate.{Estimate}
+use Rattle.esx_formulas.specs.Average.{touched_share, slower, faster, slow_average, fast_average}
 
 -- the slow and the fast average, in units of 1/65,536
 pub record Means : Type 0 where

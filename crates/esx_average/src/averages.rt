@@ -2,11 +2,12 @@
 
 ghost use Rattle.std.specs.Prelude.{◌≡◌, ◌≤◌, ◌++◌, ◌∷◌, [], List};
 ghost use Rattle.std.specs.Option.{ForSome};
-ghost use Rattle.esx_plain.specs.declared.scene.Estimate.{Estimate};
-ghost use Rattle.esx_plain.specs.Average.{active_share, touched_share};
-ghost use Rattle.esx_plain.specs.Estimates.{IsEstimate};
+ghost use Rattle.esx_formulas.specs.declared.activity.Estimate.{Estimate};
+ghost use Rattle.esx_formulas.specs.Average.{active_share, touched_share};
+ghost use Rattle.esx_formulas.specs.Estimates.{IsEstimate};
 ghost use Rattle.esx_average.specs.Means.{estimate, so_far, means_of, next_means};
 
+use esx_formulas::activity::{Estimate, touched_share};
 use std::marker::Model;
 
 /// The whole of a machine's memory, as averages count it.
@@ -66,7 +67,7 @@ impl Averages {
         ensures step { result ≡ next_means self (estimate touched pages) }
         ensures path { (closed : List Estimate) → self ≡ means_of closed → result ≡ means_of (closed ++ estimate touched pages ∷ []) }
     {
-        let share = touched_share(touched, pages);
+        let share = touched_share(Estimate { touched, pages });
         Averages {
             slow: (self.slow * 7 + share) / 8,
             fast: (self.fast + share) / 2,
@@ -82,18 +83,9 @@ impl Averages {
         ensures most { result ≤ 65536 }
     {
         let open = match now {
-            Some((touched, pages)) => (self.fast + touched_share(touched, pages)) / 2,
+            Some((touched, pages)) => (self.fast + touched_share(Estimate { touched, pages })) / 2,
             None => self.fast,
         };
         self.slow.max(self.fast.max(open))
     }
-}
-
-/// The share of the sampled pages that were touched, rounded down.
-fn touched_share(touched: u32, pages: u32) -> u32
-    requires { IsEstimate (estimate touched pages) }
-    ensures value { result ≡ touched_share (estimate touched pages) }
-    ensures most { result ≤ 65536 }
-{
-    touched * WHOLE / pages
 }

@@ -3,12 +3,10 @@
 #![tactic(auto)]
 
 pub mod averages;
-pub mod ratio;
 pub mod revoke;
 
 pub use averages::Averages;
-pub use esx_plain::targets::{Row, are_rows};
-pub use ratio::least_ratio;
+pub use esx_formulas::{Row, are_rows, least_ratio};
 pub use revoke::targets;
 
 #[cfg(test)]

@@ -1,12 +1,13 @@
 //! The targets of virtual machines, where frames are needed.
 
 ghost use Rattle.std.specs.Prelude.{◌≡◌, ℕ, ◌-◌, ◌^◌, ◌≤◌, ◌<◌, IfOk, length, map, sum_by, slice_index};
-ghost use Rattle.esx_plain.specs.Ratio.{AreRows};
-ghost use Rattle.esx_plain.specs.Targets.{held, spare, AreTargets};
-ghost use Rattle.esx_plain.specs.Payers.{IsBestBelow};
+ghost use Rattle.esx_formulas.specs.Ratio.{AreRows};
+ghost use Rattle.esx_formulas.specs.Targets.{spare, AreTargets, targets_of};
+ghost use Rattle.esx_formulas.specs.Payers.{IsBestBelow};
 
-use crate::ratio::comes_no_later_at;
-use esx_plain::targets::Row;
+use esx_formulas::Row;
+use esx_formulas::ratio::comes_no_later_at;
+use esx_formulas::targets::held;
 use std::alloc::{AllocError, Global};
 
 /// The most pages that are revoked at once.
@@ -25,7 +26,8 @@ const MOST_PAGES: u32 = 65536;
 pub fn targets(alloc: Global, tau: u32, rows: &[Row], need: u32) -> Result<Vec<u32>, AllocError>
     requires tax { tau ≤ 99 }
     requires rows { AreRows rows.now }
-    ensures { IfOk result (λ v. AreTargets tau rows.now need v.items) }
+    ensures fits { IfOk result (λ v. AreTargets tau rows.now need v.items) }
+    ensures value { IfOk result (λ v. v.items ≡ targets_of tau rows.now need) }
 {
     let mut targets = held(alloc, rows)?;
     let mut left = spare(rows).min(need);
@@ -42,15 +44,6 @@ pub fn targets(alloc: Global, tau: u32, rows: &[Row], need: u32) -> Result<Vec<u
         }
     }
     Ok(targets)
-}
-
-/// The pages that each row begins with.
-fn held(alloc: Global, rows: &[Row]) -> Result<Vec<u32>, AllocError>
-    ensures { IfOk result (λ v. v.items ≡ map held rows.now) }
-{
-    rows.iter()
-        .map(|row| row.pages.max(row.floor))
-        .collect(alloc)
 }
 
 /// How many pages stand above the floors.

@@ -1,5 +1,5 @@
-use crate::{Averages, Row, are_rows, least_ratio, targets};
-use esx_plain::targets as plain;
+use crate::{Averages, Row, are_rows, targets};
+use esx_formulas::targets as plain;
 use esx_types::VmId;
 use std::alloc::Global;
 use std::process::Abort;
@@ -43,23 +43,6 @@ fn row(vm: u8, shares: u32, pages: u32, floor: u32, active: u32) -> Result<Row, 
         floor,
         active,
     })
-}
-
-#[test]
-fn an_idle_machine_pays_before_one_with_fewer_shares(rt: HostRuntime) -> Result<(), Fail> {
-    let rows = [row(0, 1000, 10, 1, 0)?, row(1, 500, 10, 1, 65536)?];
-    assert!(rt; are_rows(&rows));
-    assert_eq!(rt; least_ratio(75, &rows), VmId::new(0));
-    assert_eq!(rt; least_ratio(0, &rows), VmId::new(1));
-    Ok(())
-}
-
-#[test]
-fn no_machine_pays_at_its_floor(rt: HostRuntime) -> Result<(), Fail> {
-    let rows = [row(3, 1000, 1, 2, 0)?];
-    assert!(rt; are_rows(&rows));
-    assert_eq!(rt; least_ratio(75, &rows), None);
-    Ok(())
 }
 
 /// The targets of rows where pages are needed at a tax of 75 percent, by both ways to find them.

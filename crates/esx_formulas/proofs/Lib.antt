@@ -7,3 +7,5 @@ pub mod Claims
 pub mod TargetLaws
 pub mod Revoking
 pub mod AverageLaws
+pub mod LevelLaws
+pub mod rows

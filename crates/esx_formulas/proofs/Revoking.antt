@@ -92,17 +92,17 @@ module _ (tau : ℕ) (rows : List Row) (low : tau ≤ 99) (are : AreRows rows) w
       let count : length u ≡ length rows = length-set t i (get_or t i 0 - 1) ∙ e in
       ext_get_or no_row (map pay (with_each rows t)) (with_each rows u) (length-map (with_each rows t) pay ∙ n ∙ sym (each_length rows u count))
       (λ j q.
-          let r : j < length rows = omega (arith, length-map (with_each rows t) pay) in
-          get_or-map pay (with_each rows t) j no_row no_row (omega arith) ∙ ap pay (each_at rows t j e r)
-          ∙ elim (cases_eq j i) [
-            | inl same ↦
-                cond-true ((row_at rows j).vm == a.vm) _ _ (eq-eqb _ _ (ap (λ k. (row_at rows k).vm) same ∙ sym named))
-                ∙ ap (with_pages (row_at rows j)) (ap (λ k. get_or t k 0 - 1) same ∙ sym (ap (λ k. get_or u k 0) same ∙ get_or-set_same t i (get_or t i 0 - 1) 0 (omega arith)))
-            | inr apart ↦
-                cond-false ((row_at rows j).vm == a.vm) _ _ (ne_eqb _ _ (λ k. apart (same_row tau rows low are j i r p (k ∙ named))))
-                ∙ ap (with_pages (row_at rows j)) (sym (get_or-set_other t i j (get_or t i 0 - 1) 0 apart))
-          ]
-          ∙ sym (each_at rows u j count r))
+      let r : j < length rows = omega (arith, length-map (with_each rows t) pay) in
+      get_or-map pay (with_each rows t) j no_row no_row (omega arith) ∙ ap pay (each_at rows t j e r)
+      ∙ elim (cases_eq j i) [
+        | inl same ↦
+            cond-true ((row_at rows j).vm == a.vm) _ _ (eq-eqb _ _ (ap (λ k. (row_at rows k).vm) same ∙ sym named))
+            ∙ ap (with_pages (row_at rows j)) (ap (λ k. get_or t k 0 - 1) same ∙ sym (ap (λ k. get_or u k 0) same ∙ get_or-set_same t i (get_or t i 0 - 1) 0 (omega arith)))
+        | inr apart ↦
+            cond-false ((row_at rows j).vm == a.vm) _ _ (ne_eqb _ _ (λ k. apart (same_row tau rows low are j i r p (k ∙ named))))
+            ∙ ap (with_pages (row_at rows j)) (sym (get_or-set_other t i j (get_or t i 0 - 1) 0 apart))
+      ]
+      ∙ sym (each_at rows u j count r))
 
   -- the targets after one more page
   record After (need : ℕ) (t : List ℕ) (o : Option Claim) : Type 0 where

@@ -1,3 +1,4 @@
+pub use Rattle.esx_types.specs.Ranges
 pub mod Key
 pub mod Level
 pub mod Average
@@ -6,3 +7,4 @@ pub mod Ratio
 pub mod Targets
 pub mod Payers
 pub mod ShareLaws
+pub mod LevelLaws

@@ -1,6 +1,12 @@
-//! Laws of the ratio's order and of targets.
+//! Laws of the level, of the ratio's order and of targets.
 
+ghost use Rattle.esx_formulas.specs.LevelLaws.{AreLevelsOrdered};
 ghost use Rattle.esx_formulas.specs.ShareLaws.{AreRatiosOrdered, IsTestOfOrder, IsFirstClaimLeast, IsOneListOfTargets, HasTargetsForEachNeed, AreTargetsOfPages};
+
+/// A deeper level has no higher threshold; the level is as deep as the free frames ask, and rises by one.
+pub fn levels_are_ordered()
+    ensures { AreLevelsOrdered }
+{}
 
 /// Ratios with their machines' numbers are in a total order.
 pub fn ratios_are_ordered()

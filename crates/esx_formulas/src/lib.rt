@@ -8,6 +8,8 @@ pub mod laws;
 pub mod level;
 pub mod ratio;
 pub mod targets;
+#[cfg(test)]
+mod tests;
 
 pub use activity::{Estimate, Period};
 pub use key::content_key;

@@ -14,7 +14,7 @@ use esx_types::VmId;
 pub fn least_ratio(tau: u32, rows: &[Row]) -> Option<VmId>
     requires tax { tau ≤ 99 }
     requires rows { AreRows rows.now }
-    ensures relation { MatchOption result (AreAtFloor rows.now) (λ vm. HasLeastRatio tau rows.now vm) }
+    ensures least { MatchOption result (AreAtFloor rows.now) (λ vm. HasLeastRatio tau rows.now vm) }
     ensures value { result ≡ option_map (λ a. a.vm) (first_claim tau rows.now) }
 {
     match first_payer(tau, rows) {
@@ -55,13 +55,7 @@ fn comes_no_later(tau: u32, row: &Row, other: &Row) -> bool
 /// Does the ratio of one row at so many pages come no later than that of another at so many?
 ///
 /// Ratios compare by cross-multiplying; a product is below 2^64.
-pub fn comes_no_later_at(
-    tau: u32,
-    row: &Row,
-    pages: u32,
-    other: &Row,
-    other_pages: u32,
-) -> bool
+pub fn comes_no_later_at(tau: u32, row: &Row, pages: u32, other: &Row, other_pages: u32) -> bool
     requires tax { tau ≤ 99 }
     requires row { IsRow row.now }
     requires other { IsRow other.now }

@@ -56,7 +56,7 @@ pub fn are_rows(rows: &[Row]) -> bool
 pub fn targets(alloc: Global, tau: u32, rows: &[Row], need: u32) -> Result<Vec<u32>, AllocError>
     requires tax { tau ≤ 99 }
     requires rows { AreRows rows.now }
-    ensures relation { IfOk result (λ v. AreTargets tau rows.now need v.items) }
+    ensures fits { IfOk result (λ v. AreTargets tau rows.now need v.items) }
     ensures value { IfOk result (λ v. v.items ≡ targets_of tau rows.now need) }
 {
     let mut targets = held(alloc, rows)?;
@@ -70,7 +70,7 @@ pub fn targets(alloc: Global, tau: u32, rows: &[Row], need: u32) -> Result<Vec<u
 }
 
 /// The pages that each row begins with.
-fn held(alloc: Global, rows: &[Row]) -> Result<Vec<u32>, AllocError>
+pub fn held(alloc: Global, rows: &[Row]) -> Result<Vec<u32>, AllocError>
     ensures { IfOk result (λ v. v.items ≡ map held rows.now) }
 {
     rows.iter()

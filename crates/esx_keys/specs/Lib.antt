@@ -2,4 +2,4 @@ pub mod Arena
 pub mod Kinds
 pub mod Links
 pub mod Table
-pub use Rattle.esx_plain.specs.Key
+pub use Rattle.esx_formulas.specs.Key

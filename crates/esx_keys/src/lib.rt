@@ -3,12 +3,11 @@
 #![tactic(auto)]
 
 mod arena;
-mod content;
 mod entry;
 mod table;
 #[cfg(test)]
 mod tests;
 
-pub use content::key;
 pub use entry::{Entry, Kind};
+pub use esx_formulas::content_key as key;
 pub use table::Keys;

@@ -2,7 +2,7 @@
 use Rattle.std.specs.Prelude.{◌≡◌, ℕ}
 use Rattle.esx_types.specs.declared.config.Config.{Config}
 use Rattle.esx_types.specs.Ranges.{IsConfig}
-use Rattle.esx_plain.specs.Level.{high_threshold, soft_threshold, hard_threshold, low_threshold, margin}
+use Rattle.esx_formulas.specs.Level.{high_threshold, soft_threshold, hard_threshold, low_threshold, margin}
 use Rattle.esx_level.specs.declared.Thresholds.TheInside.{Inside}
 
 pub record AreOfSite (a : Inside) : Type 0 where

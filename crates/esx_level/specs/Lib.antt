@@ -1,3 +1,3 @@
 pub use Rattle.esx_types.specs.Ranges
-pub use Rattle.esx_plain.specs.Level
+pub use Rattle.esx_formulas.specs.Level
 pub mod Inside

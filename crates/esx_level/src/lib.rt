@@ -2,10 +2,11 @@
 //! Reallocation").
 #![tactic(auto)]
 
-ghost use Rattle.std.specs.Prelude.{◌≡◌, ◌≤◌};
-ghost use Rattle.esx_plain.specs.Level.{next_level, deepest, raised, depth, threshold};
+ghost use Rattle.std.specs.Prelude.{◌≡◌};
+ghost use Rattle.esx_formulas.specs.Level.{next_level, deepest, raised};
 ghost use Rattle.esx_types.specs.Ranges.{IsConfig};
 
+use esx_formulas::level::{depth, margin, threshold};
 use esx_types::{Config, Level};
 use std::marker::Model;
 
@@ -51,19 +52,19 @@ impl Thresholds {
             soft: threshold(config.frames, config.soft, 3),
             hard: threshold(config.frames, config.hard, 2),
             low: threshold(config.frames, config.low, 1),
-            margin: (config.frames / 200).max(1),
+            margin: margin(&config),
         }
     }
 
     /// The level after one more event, where `free` frames are free now. It falls to the deepest level
     /// whose threshold `free` is below, any number of levels at once; it rises one level at a time, and
     /// only where `free` is at least the margin above the threshold of the level that it rises to.
-    #[tactic(auto, unfolding(esx_plain::specs::Level::next_level))]
+    #[tactic(auto, unfolding(esx_formulas::specs::Level::next_level))]
     pub fn next(self, level: Level, free: u32) -> Level
         ensures { result ≡ next_level self level free }
     {
         let deepest = self.deepest(free);
-        if depth_of(level) < depth_of(deepest) {
+        if depth(level) < depth(deepest) {
             deepest
         } else {
             self.raised(free, level)
@@ -95,26 +96,6 @@ impl Thresholds {
             Level::Low if self.hard + self.margin <= free => Level::Hard,
             stays => stays,
         }
-    }
-}
-
-/// A percentage of the frames, rounded down, and no less than `least`.
-fn threshold(frames: u32, percent: u32, least: u32) -> u32
-    requires { (frames ≤ 1048576) × (percent ≤ 50) }
-    ensures { result ≡ threshold frames percent least }
-{
-    (frames * percent / 100).max(least)
-}
-
-/// How deep a level is: 0 for `High`, 3 for `Low`.
-fn depth_of(level: Level) -> u8
-    ensures { result ≡ depth level }
-{
-    match level {
-        Level::High => 0,
-        Level::Soft => 1,
-        Level::Hard => 2,
-        Level::Low => 3,
     }
 }
 

@@ -4,7 +4,6 @@
 mod change;
 mod copy;
 pub mod laws;
-mod level;
 pub mod machine;
 mod plan;
 mod reading;

@@ -2,10 +2,10 @@
 
 use crate::change::{Change, exchange};
 use crate::copy::copy_book;
-use crate::level::next_level;
 use crate::plan::plan_event;
 use crate::reading::{page_state, sum_of};
 use crate::tables::Tables;
+use esx_level::Thresholds;
 use esx_plain::Book;
 use esx_types::{Answer, Config, Event, Level, Refusal, Said, Sum, VmId};
 use std::alloc::{AllocError, Global};
@@ -83,7 +83,7 @@ impl Machine {
         let mut changes = plan.changes;
         let level = self.tables.level;
         exchange(&mut self.tables, &mut changes);
-        self.tables.level = next_level(&self.config, level, self.tables.free());
+        self.tables.level = Thresholds::of(self.config).next(level, self.tables.free());
         Ok((plan.answer, Record { level, changes }))
     }
 

@@ -8,13 +8,13 @@ use Rattle.esx_types.specs.declared.config.TheConstants.{VM_NUMBERS}
 use Rattle.esx_types.specs.declared.table.FrameRow.TheVariants as frame_is
 use Rattle.esx_plain.specs.declared.scene.Place.{Place}
 use Rattle.esx_plain.specs.declared.scene.Place.TheVariants.{Untouched, Here, Out, Lent}
-use Rattle.esx_plain.specs.declared.scene.Estimate.{Estimate}
-use Rattle.esx_plain.specs.declared.scene.Period.{Period}
+use Rattle.esx_formulas.specs.declared.activity.Estimate.{Estimate}
+use Rattle.esx_formulas.specs.declared.activity.Period.{Period}
 use Rattle.esx_plain.specs.declared.scene.Vm.{Vm}
 use Rattle.esx_plain.specs.declared.scene.Site.{Site}
 use Rattle.esx_plain.specs.Site.{is_here_at}
 use Rattle.esx_plain.specs.Step.{pages_at, pages_of}
-use Rattle.esx_plain.specs.Estimates.{IsEstimate}
+use Rattle.esx_formulas.specs.Estimates.{IsEstimate}
 use Rattle.esx_plain.specs.Show.{all_places, all_overhead, vm_places, vm_overhead, frame_row, row_of, is_out_at, slot_of, slot_row}
 use Rattle.esx_plain.specs.Shown.{first_row, first_slot, HasRow}
 use Rattle.esx_plain.specs.Sound.{IsSound}

@@ -26,7 +26,7 @@ use Rattle.esx_plain.specs.declared.scene.Vm.{Vm}
 use Rattle.esx_plain.specs.declared.scene.Site.{Site}
 use Rattle.esx_plain.specs.declared.scene.Scene.{Scene}
 use Rattle.esx_plain.specs.Site.{is_here_at, is_here, least_free, vm_at, with_vm, memory_reserved, swap_reserved, memory_reserve, swap_reserve, resident, free_count}
-use Rattle.esx_plain.specs.Level.{next_level}
+use Rattle.esx_formulas.specs.Level.{next_level}
 use Rattle.esx_plain.specs.Show.{all_places, all_overhead, vm_places, vm_overhead}
 use Rattle.esx_plain.specs.Step.{admit, admitted, step, Outcome, at_vm, start, start_vm, with_overhead, take_overhead, settle, read, write, read_answer, brought, written, in_frame, zeros, overwritten, place_at, with_place, access_refusal, is_running, is_low}
 use Rattle.esx_plain.specs.Sound.{IsSound, IsVm, IsPlace, AreAlike, pages_in, NamesVm}

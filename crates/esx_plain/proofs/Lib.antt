@@ -10,11 +10,4 @@ pub mod Finds
 pub mod FirstPages
 pub mod Counts
 pub mod Paths
-pub mod Fractions
-pub mod Gaps
-pub mod RatioLaws
-pub mod RowLaws
-pub mod PayerLaws
-pub mod TargetLaws
-pub mod AverageLaws
 pub mod Callers

@@ -11,7 +11,7 @@ use Rattle.esx_plain.specs.declared.fault.PlainFault.{PlainFault}
 use Rattle.esx_plain.specs.declared.fault.PlainFault.TheVariants as faults
 use Rattle.esx_plain.specs.declared.book.Book.{Book}
 use Rattle.esx_plain.specs.Site.{free_count}
-use Rattle.esx_plain.specs.Level.{next_level, level_of}
+use Rattle.esx_formulas.specs.Level.{next_level, level_of}
 use Rattle.esx_plain.specs.Step.{step, Outcome}
 use Rattle.esx_plain.specs.Show.{shown}
 use Rattle.esx_plain.specs.Sound.{IsSound, NamesVm}

@@ -1,9 +1,12 @@
-pub mod Key
-pub mod Average
-pub mod Estimates
-pub mod Ratio
-pub mod Targets
-pub mod Level
+pub use Rattle.esx_formulas.specs.Key
+pub use Rattle.esx_formulas.specs.Average
+pub use Rattle.esx_formulas.specs.Estimates
+pub use Rattle.esx_formulas.specs.Ratio
+pub use Rattle.esx_formulas.specs.Targets
+pub use Rattle.esx_formulas.specs.Level
+pub use Rattle.esx_formulas.specs.ShareLaws
+pub use Rattle.esx_formulas.specs.LevelLaws
+pub use Rattle.esx_formulas.specs.Payers
 pub mod Site
 pub mod Step
 pub mod Show
@@ -14,5 +17,3 @@ pub mod History
 pub mod Console
 pub mod Access
 pub mod Shown
-pub mod ShareLaws
-pub mod Payers

@@ -11,7 +11,7 @@ use Rattle.esx_types.specs.declared.table.SlotRow.{SlotRow}
 use Rattle.esx_types.specs.declared.table.SlotRow.TheVariants as slots
 use Rattle.esx_plain.specs.declared.scene.Place.{Place}
 use Rattle.esx_plain.specs.declared.scene.Place.TheVariants.{Untouched, Here, Out, Lent}
-use Rattle.esx_plain.specs.declared.scene.Period.{Period}
+use Rattle.esx_formulas.specs.declared.activity.Period.{Period}
 use Rattle.esx_plain.specs.declared.scene.Vm.{Vm}
 use Rattle.esx_plain.specs.declared.scene.Site.{Site}
 use Rattle.esx_plain.specs.declared.scene.Scene.{Scene}
@@ -19,8 +19,8 @@ use Rattle.esx_plain.specs.declared.book.PeriodRow.{PeriodRow}
 use Rattle.esx_plain.specs.declared.book.VmRow.{VmRow}
 use Rattle.esx_plain.specs.declared.book.KeyRow.{KeyRow}
 use Rattle.esx_plain.specs.declared.book.Book.{Book}
-use Rattle.esx_plain.specs.Average.{slow_average, fast_average, is_touched}
-use Rattle.esx_plain.specs.Key.{content_key}
+use Rattle.esx_formulas.specs.Average.{slow_average, fast_average, is_touched}
+use Rattle.esx_formulas.specs.Key.{content_key}
 use Rattle.esx_plain.specs.Site.{is_here_at}
 
 -- the pages of all machines

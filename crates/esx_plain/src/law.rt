@@ -8,7 +8,7 @@ ghost use Rattle.esx_types.specs.declared.event.Refusal.{Refusal};
 ghost use Rattle.esx_types.specs.declared.table.FrameRow.TheVariants as frames;
 ghost use Rattle.esx_plain.specs.declared.scene.Scene.{Scene};
 ghost use Rattle.esx_plain.specs.Site.{free_count};
-ghost use Rattle.esx_plain.specs.Level.{level_of};
+ghost use Rattle.esx_formulas.specs.Level.{level_of};
 ghost use Rattle.esx_plain.specs.Step.{pages_at};
 ghost use Rattle.esx_plain.specs.Show.{shown};
 ghost use Rattle.esx_plain.specs.Readings.{sum_of, AddUpTo};

@@ -2,25 +2,22 @@
 //! them word for word.
 #![tactic(auto)]
 
-pub mod activity;
 pub mod book;
 pub mod fault;
 pub mod history_laws;
 mod keys;
 pub mod law;
-mod level;
 mod machines;
 mod path;
 mod query;
 pub mod scene;
-pub mod share_laws;
 mod show;
 mod step;
-pub mod targets;
 #[cfg(test)]
 mod tests;
 
 pub use book::{Book, KeyRow, Mark, PeriodRow, VmRow};
+pub use esx_formulas::{Estimate, Period, activity, laws as share_laws, targets};
 pub use fault::PlainFault;
 pub use path::replay;
-pub use scene::{Estimate, Hint, Period, Place, Scene, Site, Vm};
+pub use scene::{Hint, Place, Scene, Site, Vm};

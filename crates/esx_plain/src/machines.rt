@@ -2,13 +2,13 @@
 
 ghost use Rattle.std.specs.Prelude.{◌≡◌, ℕ, ◌<◌, ◌^◌, Some, None, length, map, option_map, IfOk};
 ghost use Rattle.esx_plain.specs.declared.scene.Vm.{Vm};
-ghost use Rattle.esx_plain.specs.Average.{is_touched};
 ghost use Rattle.esx_plain.specs.Show.{map_row, period_row, vm_row, vm_rows};
 ghost use Rattle.esx_plain.specs.Shown.{HasRow};
 
-use crate::activity::{fast_average, slow_average};
 use crate::book::{Mark, PeriodRow, VmRow};
-use crate::scene::{Period, Place, Site, Vm};
+use crate::scene::{Place, Site, Vm};
+use esx_formulas::Period;
+use esx_formulas::activity::{fast_average, slow_average};
 use esx_types::{MapRow, Rows};
 use std::alloc::{AllocError, Global};
 
@@ -26,36 +26,30 @@ impl Place {
     }
 }
 
-impl Period {
-    fn is_touched(&self, page: u32) -> bool
-        ensures { result ≡ is_touched self.now page }
-    {
-        self.accessed.as_slice().iter().any(|own| *own == page)
+/// The sampled pages of a period, each marked whether it was accessed.
+fn marks(alloc: Global, period: &Period) -> Result<Rows<Mark>, AllocError>
+    ensures { IfOk result (λ rows. rows ≡ (period_row period.now).marks) }
+{
+    let mut marks = Rows::new(alloc);
+    for page in period.pages.as_slice() {
+        marks.push(Mark {
+            page: *page,
+            touched: period.is_touched(*page),
+        })?;
     }
+    Ok(marks)
+}
 
-    fn marks(&self, alloc: Global) -> Result<Rows<Mark>, AllocError>
-        ensures { IfOk result (λ rows. rows ≡ (period_row self.now).marks) }
-    {
-        let mut marks = Rows::new(alloc);
-        for page in self.pages.as_slice() {
-            marks.push(Mark {
-                page: *page,
-                touched: self.is_touched(*page),
-            })?;
-        }
-        Ok(marks)
-    }
-
-    fn row(&self, alloc: Global) -> Result<PeriodRow, AllocError>
-        requires { length self.now.accessed < 2 ^ 32 }
-        ensures { IfOk result (λ row. row ≡ period_row self.now) }
-    {
-        Ok(PeriodRow {
-            length: self.length,
-            done: self.accessed.len() as u32,
-            marks: self.marks(alloc)?,
-        })
-    }
+/// The row of an open period.
+fn period_row(alloc: Global, period: &Period) -> Result<PeriodRow, AllocError>
+    requires { length period.now.accessed < 2 ^ 32 }
+    ensures { IfOk result (λ row. row ≡ period_row period.now) }
+{
+    Ok(PeriodRow {
+        length: period.length,
+        done: period.accessed.len() as u32,
+        marks: marks(alloc, period)?,
+    })
 }
 
 impl Vm {
@@ -75,7 +69,7 @@ impl Vm {
     {
         match &self.period {
             None => Ok(None),
-            Some(period) => Ok(Some(period.row(alloc)?)),
+            Some(period) => Ok(Some(period_row(alloc, period)?)),
         }
     }
 

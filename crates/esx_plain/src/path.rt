@@ -8,8 +8,8 @@ ghost use Rattle.esx_plain.specs.Replay.{opening, next, run, Runs, Steps, replay
 
 use crate::book::Book;
 use crate::fault::PlainFault;
-use crate::level::next_level;
 use crate::scene::{Scene, Site, Vm};
+use esx_formulas::level::next_level;
 use esx_types::{Answer, Config, Event, Level, Refusal, Rows, VM_NUMBERS};
 use std::alloc::{AllocError, Global};
 

@@ -130,8 +130,3 @@ fn the_first_refusal_ends_a_path(rt: HostRuntime) {
         assert_eq!(rt; fault, Some(PlainFault::Refused { at: 3, refusal }));
     }
 }
-
-#[test]
-fn a_key_is_the_first_eight_bytes_of_the_digest(rt: HostRuntime) {
-    assert_eq!(rt; keys::content_key(b"abc"), 0xba7816bf8f01cfea);
-}

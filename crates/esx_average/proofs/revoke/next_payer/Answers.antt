@@ -1,5 +1,5 @@
 use Rattle.std.proofs.Common.{ℕ, ◌-◌, slice_index, refl}
-use Rattle.esx_plain.proofs.PayerLaws.{best_skips, best_begins, best_keeps, best_yields}
+use Rattle.esx_formulas.proofs.PayerLaws.{best_skips, best_begins, best_keeps, best_yields}
 use Rattle.esx_average.proofs.revoke.next_payer.Goals as goal
 use Rattle.esx_average.proofs.revoke.next_payer.Goals.{in-Some, in_default-2, in_default}
 

@@ -1,5 +1,5 @@
 use Rattle.std.proofs.Common.{slice_index, ◌-◌}
-use Rattle.esx_plain.specs.Payers.{IsBestBelow}
+use Rattle.esx_formulas.specs.Payers.{IsBestBelow}
 use Rattle.esx_average.proofs.revoke.next_payer.Given as goal
 
 abbrev pub invariant-loop-i : goal.invariant-loop-i

@@ -2,7 +2,9 @@ use Rattle.std.proofs.Common.{◌≡◌, ◌+◌, ◌-◌, ◌*◌, ◌≤◌, l
 use Rattle.std.proofs.lemmas.Nat.{mul-le}
 use Rattle.std.proofs.lemmas.List.{get_or_read}
 use Rattle.esx_types.specs.declared.config.TheConstants.{VM_NUMBERS}
-use Rattle.esx_plain.specs.Payers.{IsFirstBelow, AreNoneBelow}
+use Rattle.esx_formulas.specs.Targets.{AreTargets}
+use Rattle.esx_formulas.proofs.Revoking.{only_worked_out}
+use Rattle.esx_formulas.specs.Payers.{IsFirstBelow, AreNoneBelow}
 use Rattle.esx_average.proofs.RowLaws.{rows_few, spare_few}
 use Rattle.esx_average.proofs.ChunkLaws.{IsStep, partial_begins, partial_count, partial_step, partial_some, partial_ends, partial_most}
 use Rattle.esx_average.proofs.revoke.targets.Goals as goal
@@ -63,4 +65,6 @@ loop-left-preserved c =
 pub returns : goal.returns
 returns c =
     let none : c.loop-left.left ≡ 0 = omega arith in
-    partial_ends c.args.tau c.args.rows.now c.requires.tax c.requires.rows c.args.need c.loop-left.targets.items (rw none at c.loop-left.invariant.partial)
+    let hold : AreTargets c.args.tau c.args.rows.now c.args.need c.loop-left.targets.items =
+    partial_ends c.args.tau c.args.rows.now c.requires.tax c.requires.rows c.args.need c.loop-left.targets.items (rw none at c.loop-left.invariant.partial) in
+    record { fits = hold; value = only_worked_out c.args.tau c.args.rows.now c.requires.tax c.requires.rows c.args.need c.loop-left.targets.items hold }

@@ -14,7 +14,7 @@ returns-in-None c =
     let hold : AreTargets c.args.tau c.args.rows.now c.args.need c.loop-taken.targets.items =
     targets_stay c.args.tau c.args.rows.now c.requires.tax c.requires.rows c.loop-taken.taken c.args.need c.loop-taken.targets.items c.loop-taken.invariant
     (rw c.as_slice.ensures.value at c.in-None.ensures) (omega arith) in
-    record { relation = hold; value = only_worked_out c.args.tau c.args.rows.now c.requires.tax c.requires.rows c.args.need c.loop-taken.targets.items hold }
+    record { fits = hold; value = only_worked_out c.args.tau c.args.rows.now c.requires.tax c.requires.rows c.args.need c.loop-taken.targets.items hold }
 
 pub returns-clause-value : goal.returns-clause-value
 returns-clause-value c =

@@ -1,4 +1,5 @@
 use Rattle.std.proofs.Common.{◌<◌, ◌^◌, ℕ, length, sym, ap, subst, ◌∙◌}
+use Rattle.esx_types.specs.declared.config.Config.{Config}
 use Rattle.esx_plain.specs.declared.book.Book.{Book}
 use Rattle.esx_plain.specs.declared.scene.Scene.{Scene}
 use Rattle.esx_plain.specs.Level.{next_level}
@@ -31,8 +32,8 @@ invariant_of-self c =
     let config = c.self.inside.config in
     let book = book_in c.self.inside.tables in
     let mid = book_in c.exchange.new.tables in
-    let level = c.next_level-self-inside.result in
-    let follows = c.next_level-self-inside.ensures ∙ ap (λ (k : ℕ). next_level config book.level k) c.free.ensures in
+    let level = c.next-self-inside.result in
+    let follows = c.next-self-inside.ensures ∙ ap (λ (site : Config). next_level site book.level c.free.result) c.of.ensures ∙ ap (λ (k : ℕ). next_level config book.level k) c.free.ensures in
     kept_after config book mid c.in-Ok.plan.changes.items c.exchange.new.changes.items c.args.event.now c.in-Ok.plan.answer level c.self.invariant
     (record { named = c.in-Ok.ensures.named; step = c.in-Ok.ensures.plans; tables = c.exchange.ensures.tables; changes = c.exchange.ensures.changes; follows = follows })
 
@@ -41,8 +42,8 @@ returns c =
     let config = c.self.inside.config in
     let book = book_in c.self.inside.tables in
     let mid = book_in c.exchange.new.tables in
-    let level = c.next_level-self-inside.result in
-    let follows = c.next_level-self-inside.ensures ∙ ap (λ (k : ℕ). next_level config book.level k) c.free.ensures in
+    let level = c.next-self-inside.result in
+    let follows = c.next-self-inside.ensures ∙ ap (λ (site : Config). next_level site book.level c.free.result) c.of.ensures ∙ ap (λ (k : ℕ). next_level config book.level k) c.free.ensures in
     let new : Kept = record { config = config; book = record mid { level = level } } in
     let back : Back = record { level = book.level; changes = c.exchange.new.changes.items } in
     let P : Kept → Type 0 = λ k. (scene : Scene) → Shows k scene → Accepts k new c.in-Ok.plan.answer back (next k.config scene c.args.event.now) in

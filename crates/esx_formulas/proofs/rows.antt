@@ -1,0 +1,4 @@
+pub mod Levels
+pub mod Averages
+pub mod Shares
+pub mod Keys

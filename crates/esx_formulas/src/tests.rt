@@ -1,0 +1,101 @@
+use crate::activity::{active_share, fast_average, slow_average, touched_share};
+use crate::level::next_level;
+use crate::targets::targets;
+use crate::{Estimate, Period, Row, are_rows, content_key, least_ratio};
+use esx_types::{Config, Level, Rows, VmId};
+use std::test::Fail;
+
+#[test]
+fn a_key_is_the_first_eight_bytes_of_the_digest(rt: HostRuntime) {
+    assert_eq!(rt; content_key(b"abc"), 0xba78_16bf_8f01_cfea);
+    assert_eq!(rt; content_key(b""), 0xe3b0_c442_98fc_1c14);
+}
+
+#[test]
+fn averages_follow_closed_periods(rt: HostRuntime) {
+    let first = Estimate {
+        touched: 1,
+        pages: 4,
+    };
+    let second = Estimate {
+        touched: 2,
+        pages: 2,
+    };
+    assert_eq!(rt; touched_share(first), 16384);
+    assert_eq!(rt; slow_average(&[first, second]), 60160);
+    assert_eq!(rt; fast_average(&[first, second]), 53248);
+    assert_eq!(rt; active_share(33614, 2048, Some(second)), 33792);
+}
+
+#[test]
+fn a_period_knows_its_pages(rt: HostRuntime) -> Result<(), Fail> {
+    let mut accessed = Rows::new(rt.alloc());
+    accessed.push(5)?;
+    let period = Period {
+        length: 9,
+        pages: Rows::new(rt.alloc()),
+        accessed,
+    };
+    assert!(rt; period.is_touched(5));
+    assert!(rt; !period.is_touched(6));
+    Ok(())
+}
+
+#[test]
+fn a_level_falls_at_once_and_rises_by_one(rt: HostRuntime) -> Result<(), Fail> {
+    let site = Config {
+        frames: 1000,
+        page: 16,
+        slots: 8,
+        tau: 75,
+        high: 6,
+        soft: 4,
+        hard: 2,
+        low: 1,
+        nodes: 16777216,
+    };
+    let site = site.check()?;
+    assert_eq!(rt; next_level(&site, Level::High, 9), Level::Low);
+    assert_eq!(rt; next_level(&site, Level::Low, 24), Level::Low);
+    assert_eq!(rt; next_level(&site, Level::Low, 65), Level::Hard);
+    Ok(())
+}
+
+fn row(vm: u8, shares: u32, pages: u32, floor: u32, active: u32) -> Result<Row, Fail> {
+    let vm = VmId::new(vm).ok_or("no machine has this number")?;
+    Ok(Row {
+        vm,
+        shares,
+        pages,
+        floor,
+        active,
+    })
+}
+
+#[test]
+fn an_idle_machine_pays_before_one_with_fewer_shares(rt: HostRuntime) -> Result<(), Fail> {
+    let rows = [row(0, 1000, 10, 1, 0)?, row(1, 500, 10, 1, 65536)?];
+    assert!(rt; are_rows(&rows));
+    assert_eq!(rt; least_ratio(75, &rows), VmId::new(0));
+    assert_eq!(rt; least_ratio(0, &rows), VmId::new(1));
+    Ok(())
+}
+
+#[test]
+fn no_machine_pays_at_its_floor(rt: HostRuntime) -> Result<(), Fail> {
+    let rows = [row(3, 1000, 1, 2, 0)?];
+    assert!(rt; are_rows(&rows));
+    assert_eq!(rt; least_ratio(75, &rows), None);
+    Ok(())
+}
+
+#[test]
+fn a_tie_goes_to_the_lower_machine(rt: HostRuntime) -> Result<(), Fail> {
+    let rows = [row(0, 1000, 10, 2, 65536)?, row(1, 1000, 6, 2, 65536)?];
+    assert!(rt; are_rows(&rows));
+    assert_eq!(rt;
+        targets(rt.alloc(), 75, &rows, 5)?.as_slice(),
+        [5, 6].as_slice()
+    );
+    Ok(())
+}
