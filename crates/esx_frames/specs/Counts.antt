@@ -2,7 +2,8 @@
 use Rattle.std.specs.Prelude.{ℕ, ◌+◌, ◌-◌, Bool, if◌then◌else◌, List, count_by}
 use Rattle.esx_types.specs.declared.table.FrameRow.{FrameRow}
 use Rattle.esx_types.specs.declared.table.FrameRow.TheVariants.{Free, Overhead, Private, Shared}
-use Rattle.esx_frames.specs.Rows.{is_free, is_overhead, is_private, is_shared}
+use Rattle.esx_types.specs.Frames.{is_free, is_overhead, is_private, is_shared}
+use Rattle.esx_lists.specs.Counts.{one}
 use Rattle.esx_frames.specs.declared.counts.Counts.{Counts}
 
 abbrev pub counts_of : List FrameRow → Counts
@@ -19,9 +20,6 @@ count_like c Free = c.free
 count_like c Overhead = c.overhead
 count_like c (Private bytes) = c.private
 count_like c (Shared count bytes) = c.shared
-
-abbrev pub one : Bool → ℕ
-one counted = if counted then 1 else 0
 
 -- with one more row
 abbrev pub with_row : Counts → FrameRow → Counts

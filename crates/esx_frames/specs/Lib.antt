@@ -1,3 +1,5 @@
-pub mod Rows
+pub use Rattle.esx_types.specs.Frames
+pub use Rattle.esx_lists.specs.Trades
 pub mod Counts
+pub mod Marks
 pub mod Table

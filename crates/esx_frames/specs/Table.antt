@@ -1,7 +1,7 @@
 -- What a table keeps beside its rows.
 use Rattle.std.specs.Prelude.{◌≡◌, ◌^◌, ◌<◌, Bool, List, length, map}
 use Rattle.esx_types.specs.declared.table.FrameRow.{FrameRow}
-use Rattle.esx_frames.specs.Rows.{is_free}
+use Rattle.esx_types.specs.Frames.{is_free}
 use Rattle.esx_frames.specs.Counts.{counts_of}
 use Rattle.esx_frames.specs.declared.counts.Counts.{Counts}
 

@@ -1,14 +1,16 @@
 //! The table: its rows, an index of the free ones, and the counts.
 
-ghost use Rattle.std.specs.Prelude.{◌≡◌, ◌≢◌, ◌+◌, ◌^◌, ◌<◌, ◌≤◌, IfOk, IfErr, OnErr, IsTrue, Some, None, length, replicate, slice_set};
+ghost use Rattle.std.specs.Prelude.{◌≡◌, ◌≢◌, ◌+◌, ◌^◌, ◌<◌, ◌≤◌, IfOk, IfErr, OnErr, IsTrue, Some, None, length, replicate, slice_index_or, slice_set};
 ghost use Rattle.esx_types.specs.declared.table.FrameRow.{FrameRow};
 ghost use Rattle.esx_types.specs.declared.table.FrameRow.TheVariants.{Free};
-ghost use Rattle.esx_frames.specs.Rows.{is_free, row_at, least_free, bytes_of, holds_bytes, ref_count, with_count};
+ghost use Rattle.esx_types.specs.Frames.{frame_at, least_frame, bytes_of, holds_bytes, ref_count, with_count};
 ghost use Rattle.esx_frames.specs.Counts.{counts_of};
+ghost use Rattle.esx_frames.specs.Marks.{bytes_traded_at, mark_traded_at, slot_traded_at};
 
 use crate::counts::Counts;
+use crate::marks::{Mark, trade_bytes, trade_mark, trade_slot};
 use esx_index::FreeIndex;
-use esx_types::FrameRow;
+use esx_types::{Bytes, FrameRow, SlotRow};
 use std::alloc::{AllocError, Global};
 use std::marker::Model;
 
@@ -58,10 +60,17 @@ impl FrameTable {
         self.rows.len() as u32
     }
 
+    /// All rows, in the order of their frames.
+    pub fn rows(&self) -> &[FrameRow]
+        ensures { result.now ≡ self.now }
+    {
+        self.rows.as_slice()
+    }
+
     /// The row of a frame.
     pub fn row(&self, mpn: u32) -> &FrameRow
         requires { mpn < length self.now }
-        ensures { result.now ≡ row_at self.now mpn }
+        ensures { result.now ≡ frame_at self.now mpn }
     {
         &self.rows[mpn as usize]
     }
@@ -69,8 +78,8 @@ impl FrameTable {
     /// The bytes of the page in a frame.
     pub fn bytes(&self, mpn: u32) -> &[u8]
         requires in_range { mpn < length self.now }
-        requires holds { IsTrue (holds_bytes (row_at self.now mpn)) }
-        ensures { result.now ≡ bytes_of (row_at self.now mpn) }
+        requires holds { IsTrue (holds_bytes (frame_at self.now mpn)) }
+        ensures { result.now ≡ bytes_of (frame_at self.now mpn) }
     {
         match &self.rows[mpn as usize] {
             FrameRow::Private { bytes } => bytes.as_slice(),
@@ -88,7 +97,7 @@ impl FrameTable {
 
     /// The least frame that is free; none where no frame is.
     pub fn least_free(&self) -> Option<u32>
-        ensures { result ≡ least_free self.now }
+        ensures { result ≡ least_frame self.now }
     {
         let mpn = self.free.least()?;
         Some(mpn as u32)
@@ -99,11 +108,11 @@ impl FrameTable {
         requires { row ≢ FrameRow.Free }
 
         // On `Ok` the row stands in the least free frame.
-        ensures least { IfOk result (λ mpn. least_free self.old ≡ Some mpn) }
+        ensures least { IfOk result (λ mpn. least_frame self.old ≡ Some mpn) }
         ensures rows { IfOk result (λ mpn. self.new ≡ slice_set self.old mpn row) }
 
         // Where no frame is free the row comes back, and nothing has changed.
-        ensures full { OnErr result (least_free self.old ≡ None) }
+        ensures full { OnErr result (least_frame self.old ≡ None) }
         ensures back { IfErr result (λ back. back ≡ row) }
         ensures unchanged { OnErr result (self.new ≡ self.old) }
     {
@@ -118,24 +127,72 @@ impl FrameTable {
     pub fn swap_row(&mut self, mpn: u32, row: &mut FrameRow)
         requires { mpn < length self.old }
         ensures rows { self.new ≡ slice_set self.old mpn row.old }
-        ensures row { row.new ≡ row_at self.old mpn }
+        ensures row { row.new ≡ frame_at self.old mpn }
     {
         let at = mpn as usize;
         self.counts.remove(&self.rows[at]);
         self.counts.add(row);
-        let free = is_free(row);
-        if free != is_free(&self.rows[at]) {
+        let free = row.is_free();
+        if free != self.rows[at].is_free() {
             self.free.set(at, free);
         }
         std::mem::swap(&mut self.rows[at], row);
     }
 
+    /// Trades a frame's row with the one that is handed over. Past the end nothing changes.
+    pub fn trade(&mut self, mpn: u32, row: &mut FrameRow)
+        ensures rows { self.new ≡ slice_set self.old mpn row.old }
+        ensures row { row.new ≡ slice_index_or self.old mpn row.old }
+    {
+        if mpn < self.len() {
+            self.swap_row(mpn, row);
+        }
+    }
+
+    /// Trades bytes with as many of the page in a frame, from byte `offset` on. Where no page is, or
+    /// where they do not fit, nothing changes.
+    pub fn trade_bytes(&mut self, mpn: u32, offset: u32, bytes: &mut Bytes)
+        ensures rows { self.new ≡ (bytes_traded_at mpn offset self.old bytes.old).0 }
+        ensures bytes { bytes.new ≡ (bytes_traded_at mpn offset self.old bytes.old).1 }
+    {
+        if mpn < self.len() {
+            trade_bytes(&mut self.rows[mpn as usize], offset as usize, bytes);
+        }
+    }
+
+    /// Trades the mark of a page in a frame, and leaves its bytes. Where no page is nothing changes.
+    pub fn trade_mark(&mut self, mpn: u32, mark: &mut Mark)
+        ensures rows { self.new ≡ (mark_traded_at mpn self.old mark.old).0 }
+        ensures mark { mark.new ≡ (mark_traded_at mpn self.old mark.old).1 }
+    {
+        let at = mpn as usize;
+        if at < self.rows.len() {
+            self.counts.remove(&self.rows[at]);
+            trade_mark(&mut self.rows[at], mark);
+            self.counts.add(&self.rows[at]);
+        }
+    }
+
+    /// Trades the page of a private frame, or none, for the page of a slot, or none, and copies no
+    /// byte. Where the frame is overhead or shared, and past the end, nothing changes.
+    pub fn trade_slot(&mut self, mpn: u32, slot: &mut SlotRow)
+        ensures rows { self.new ≡ (slot_traded_at mpn self.old slot.old).0 }
+        ensures slot { slot.new ≡ (slot_traded_at mpn self.old slot.old).1 }
+    {
+        if mpn < self.len() {
+            let mut row = FrameRow::Free;
+            self.swap_row(mpn, &mut row);
+            trade_slot(&mut row, slot);
+            self.swap_row(mpn, &mut row);
+        }
+    }
+
     /// Counts one more page that is mapped to a shared frame.
     pub fn add_ref(&mut self, mpn: u32)
         requires in_range { mpn < length self.old }
-        requires shared { 1 ≤ ref_count (row_at self.old mpn) }
-        requires room { ref_count (row_at self.old mpn) < 2 ^ 24 }
-        ensures { let row = row_at self.old mpn in
+        requires shared { 1 ≤ ref_count (frame_at self.old mpn) }
+        requires room { ref_count (frame_at self.old mpn) < 2 ^ 24 }
+        ensures { let row = frame_at self.old mpn in
             self.new ≡ slice_set self.old mpn (with_count row (ref_count row + 1)) }
     {
         match &mut self.rows[mpn as usize] {
@@ -147,9 +204,9 @@ impl FrameTable {
     /// Counts one page less, and gives the new count. At 0 the caller frees the frame by `swap_row`.
     pub fn drop_ref(&mut self, mpn: u32) -> u32
         requires in_range { mpn < length self.old }
-        requires shared { 1 ≤ ref_count (row_at self.old mpn) }
-        ensures count { result + 1 ≡ ref_count (row_at self.old mpn) }
-        ensures rows { self.new ≡ slice_set self.old mpn (with_count (row_at self.old mpn) result) }
+        requires shared { 1 ≤ ref_count (frame_at self.old mpn) }
+        ensures count { result + 1 ≡ ref_count (frame_at self.old mpn) }
+        ensures rows { self.new ≡ slice_set self.old mpn (with_count (frame_at self.old mpn) result) }
     {
         match &mut self.rows[mpn as usize] {
             FrameRow::Shared { count, .. } => {
@@ -160,12 +217,6 @@ impl FrameTable {
             _ => unreachable!(),
         }
     }
-}
-
-fn is_free(row: &FrameRow) -> bool
-    ensures { result ≡ is_free row.now }
-{
-    matches!(row, FrameRow::Free)
 }
 
 fn free_rows(alloc: Global, frames: u32) -> Result<Vec<FrameRow>, AllocError>

@@ -3,6 +3,9 @@
 
 mod counts;
 mod frames;
+pub mod laws;
+mod marks;
 
 pub use counts::Counts;
 pub use frames::FrameTable;
+pub use marks::Mark;

@@ -1,13 +1,13 @@
 -- Marks in words: after a write, and the least of them.
-use Rattle.std.proofs.Common.{◌≡◌, ◌≢◌, ℕ, ◌+◌, ◌-◌, ◌*◌, ◌/◌, ◌%◌, ◌^◌, ◌<◌, ◌≤◌, min, Bool, true, false, not, eqb, if◌then◌else◌, List, length, get_or, set, replicate, position, Some, None, IfSome, w64, refl, sym, ap, ◌∙◌, inl, inr, ltb, arith, get_or-set_same, get_or-set_other}
+use Rattle.std.proofs.Common.{◌≡◌, ◌≢◌, ℕ, ◌+◌, ◌-◌, ◌*◌, ◌/◌, ◌%◌, ◌^◌, ◌<◌, ◌≤◌, min, Bool, true, false, not, eqb, if◌then◌else◌, List, length, get_or, set, replicate, Some, None, IfSome, w64, refl, sym, ap, ◌∙◌, inl, inr, ltb, arith, get_or-set_same, get_or-set_other}
 use Rattle.std.specs.Int.{bit_at, trailing_zeros, div_ceil}
 use Rattle.std.proofs.lemmas.Bool.{cases_eq, cases_lt, cases_order, both_ways, eqb-true, eq-eqb, ne_eqb, lt-ltb, le-ltb, not-false}
 use Rattle.std.proofs.lemmas.List.{ext_get_or, get_or_read, length-map, length-set, get_or-map, get_or_past, get_or-replicate, length-replicate}
 use Rattle.std.proofs.lemmas.List.FromFn.{get_or-map-range_with_len}
-use Rattle.std.proofs.lemmas.List.Quantifiers.{position-Some}
+use Rattle.std.specs.List.{position_from}
 use Rattle.std.proofs.lemmas.Nat.{pow_below}
 use Rattle.std.proofs.lemmas.Nat.Bits.{bit_at-zero, bit_at-trailing_zeros, bit_at_ones, bit_at_ones_above}
-use Rattle.esx_index.specs.Lists.{position_is, position_none, position-None}
+use Rattle.esx_lists.proofs.Positions.{first_is, first_is_none, none_passes, first_found}
 use Rattle.esx_index.specs.Places.{is_marked, places, has_mark}
 use Rattle.esx_index.specs.Marks.{MarksFirst, lowest_mark_of}
 use Rattle.esx_index.specs.Falls.{length-places}
@@ -70,9 +70,9 @@ pub unmarked : (words : List ℕ) (i : ℕ) → get_or words (i / 64) 0 ≡ 0 �
 unfolding is_marked
 unmarked words i e = rw (e, bit_at-zero (i % 64)) refl
 
-pub least_none : (len : ℕ) (words : List ℕ) → ((j : ℕ) → get_or words j 0 ≡ 0) → position (λ b. b) (places len words) ≡ None
+pub least_none : (len : ℕ) (words : List ℕ) → ((j : ℕ) → get_or words j 0 ≡ 0) → position_from (λ b. b) 0 (places len words) ≡ None
 least_none len words none =
-    position_none (λ b. b) (places len words) false (λ k h.
+    first_is_none (λ b. b) (places len words) false (λ k h.
     let within : k < len = rw length-places at h in
     get_or-places len words k false within ∙ unmarked words k (none (k / 64)))
 
@@ -88,26 +88,26 @@ tells_mark words j h = get_or-map (λ w. not (eqb w 0)) words j 0 false h
 zero_from_false : (w : ℕ) → not (eqb w 0) ≡ false → w ≡ 0
 zero_from_false w e = eqb-true w 0 (not-false (eqb w 0) e)
 
-pub leads_over : (words : List ℕ) (at : ℕ) → position (λ b. b) (has_mark words) ≡ Some at → LeadsTo words at
+pub leads_over : (words : List ℕ) (at : ℕ) → position_from (λ b. b) 0 (has_mark words) ≡ Some at → LeadsTo words at
 leads_over words at e =
-    let f = position-Some (λ b. b) (has_mark words) at false e in
+    let f = first_found (λ b. b) (has_mark words) at false e in
     let in_range : at < length words = rw (length-map words (λ w. not (eqb w 0))) at f.0 in
     record {
       before = λ j h. zero_from_false _ (sym (tells_mark words j (omega arith)) ∙ f.2 j h);
       rest = λ z. let t : not (eqb (get_or words at 0) 0) ≡ true = sym (tells_mark words at in_range) ∙ f.1 in absurd (both_ways _ (rw z refl) t);
     }
 
-pub unmarked_all : (words : List ℕ) → position (λ b. b) (has_mark words) ≡ None → (j : ℕ) → get_or words j 0 ≡ 0
+pub unmarked_all : (words : List ℕ) → position_from (λ b. b) 0 (has_mark words) ≡ None → (j : ℕ) → get_or words j 0 ≡ 0
 unmarked_all words e j =
     elim (cases_lt j (length words)) [
-      | inl h ↦ zero_from_false _ (sym (tells_mark words j h) ∙ position-None (λ b. b) (has_mark words) false e j (rw (length-map words (λ w. not (eqb w 0))) h))
+      | inl h ↦ zero_from_false _ (sym (tells_mark words j h) ∙ none_passes (λ b. b) (has_mark words) false e j (rw (length-map words (λ w. not (eqb w 0))) h))
       | inr h ↦ get_or_past words j 0 h
     ]
 
 -- the lowest mark of the word where the marks begin is the least place
 pub record IsLeast (len : ℕ) (words : List ℕ) (place : ℕ) : Type 0 where
   pub in_range : place < len
-  pub first : position (λ b. b) (places len words) ≡ Some place
+  pub first : position_from (λ b. b) 0 (places len words) ≡ Some place
 
 pub least_at : (len : ℕ) (words : List ℕ) (at : ℕ) → LeadsTo words at → 0 < get_or words at 0 → get_or words at 0 < 2 ^ 64 → ((i : ℕ) → len ≤ i → is_marked words i ≡ false) → IsLeast len words (at * 64 + trailing_zeros w64 (get_or words at 0))
 least_at len words at leads some fits within =
@@ -123,11 +123,11 @@ least_at len words at leads some fits within =
     ] in
     record {
       in_range = in_range;
-      first = position_is (λ b. b) (places len words) (at * 64 + low) false (rw length-places in_range) (get_or-places len words _ false in_range ∙ here)
+      first = first_is (λ b. b) (places len words) (at * 64 + low) false (rw length-places in_range) (get_or-places len words _ false in_range ∙ here)
           (λ k h. get_or-places len words k false (omega arith) ∙ before k h);
     }
 
-pub least_is : (len : ℕ) (words : List ℕ) (at : ℕ) → LeadsTo words at → get_or words at 0 < 2 ^ 64 → ((i : ℕ) → len ≤ i → is_marked words i ≡ false) → lowest_mark_of words at ≡ position (λ b. b) (places len words)
+pub least_is : (len : ℕ) (words : List ℕ) (at : ℕ) → LeadsTo words at → get_or words at 0 < 2 ^ 64 → ((i : ℕ) → len ≤ i → is_marked words i ≡ false) → lowest_mark_of words at ≡ position_from (λ b. b) 0 (places len words)
 least_is len words at leads fits within =
     elim (cases_eq (get_or words at 0) 0) [
       | inl e ↦ rw (eq-eqb (get_or words at 0) 0 e) (sym (least_none len words (leads.rest e)))

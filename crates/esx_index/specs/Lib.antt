@@ -1,4 +1,3 @@
-pub mod Lists
 pub mod Places
 pub mod Index
 pub mod Falls

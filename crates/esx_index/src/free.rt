@@ -1,6 +1,7 @@
 //! The index: a word for each sixty-four places, and an index of its own over the words.
 
-ghost use Rattle.std.specs.Prelude.{◌≡◌, ◌<◌, ◌^◌, IfOk, IfSome, true, length, position, replicate, slice_index, slice_set};
+ghost use Rattle.std.specs.Prelude.{◌≡◌, ◌<◌, ◌^◌, IfOk, IfSome, true, length, replicate, slice_index, slice_set};
+ghost use Rattle.std.specs.List.{position_from};
 ghost use Rattle.esx_index.specs.Marks.{MarksFirst, lowest_mark_of};
 
 use crate::word::{first_marked, with_mark};
@@ -78,7 +79,7 @@ impl FreeIndex {
 
     /// The least free place; none where no place is free.
     pub fn least(&self) -> Option<usize>
-        ensures { result ≡ position (λ free. free) self.now }
+        ensures { result ≡ position_from (λ free. free) 0 self.now }
     {
         match &self.above {
             Above::Top => lowest_mark(&self.words, 0),

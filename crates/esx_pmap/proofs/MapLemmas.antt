@@ -1,29 +1,30 @@
 -- A page map's counts, after a change and in a search.
-use Rattle.std.proofs.Common.{◌≡◌, ◌≢◌, ℕ, zero, suc, ◌+◌, ◌-◌, ◌*◌, ◌/◌, ◌%◌, ◌^◌, ◌<◌, ◌≤◌, min, true, cond, List, length, get_or, set, take, drop, replicate, sum, count_by, refl, sym, ap, ◌∙◌, inl, inr, mul-zero, arith, get_or-set_same, get_or-set_other}
+use Rattle.std.proofs.Common.{◌≡◌, ◌≢◌, ℕ, zero, suc, ◌+◌, ◌-◌, ◌*◌, ◌/◌, ◌%◌, ◌^◌, ◌<◌, ◌≤◌, min, Bool, true, false, cond, List, [], ◌∷◌, length, get_or, set, take, drop, replicate, sum, count_by, refl, sym, ap, ◌∙◌, inl, inr, mul-zero, arith, get_or-set_same, get_or-set_other}
 use Rattle.std.specs.Int.{div_ceil}
-use Rattle.std.specs.List.{range_with_len}
 use Rattle.std.proofs.Math.Seq.{take-add, take-set-lt}
 use Rattle.std.proofs.lemmas.Bool.{cases_eq, cases_lt}
 use Rattle.std.proofs.lemmas.List.{length-set, length-take, length-drop, length-replicate, get_or-take, get_or-drop, get_or-replicate, get_or_past, drop-set-lt, drop-set-add, take-set-le, take_all, take_min, take-take, drop-replicate}
-use Rattle.std.proofs.lemmas.List.Sums.{sum_by_more, sum_by-append, sum_by-take-le, count_by-le-length}
-use Rattle.std.proofs.lemmas.List.Folds.{sum_by-replicate}
+use Rattle.std.proofs.lemmas.List.Sums.{sum_by-cons, sum_by_more, sum_by-append, sum_by-take-le, count_by-le-length}
 use Rattle.esx_types.specs.declared.table.MapRow.{MapRow}
-use Rattle.esx_types.specs.declared.table.MapRow.TheVariants.{Untouched}
-use Rattle.esx_pmap.specs.Rows.{is_here, row_at, resident_count, resident_pages, block_count}
-use Rattle.esx_pmap.specs.Counts.{one}
-use Rattle.esx_pmap.specs.Map.{IsMap}
-use Rattle.esx_pmap.proofs.Lists.{count_by-set, counted_there, count_by-take, entry_of_filter}
+use Rattle.esx_types.specs.declared.table.MapRow.TheVariants.{Untouched, Lent}
+use Rattle.esx_types.specs.Pages.{is_here, is_out, is_lent, is_lent_in, page_at, resident_from, resident_count, resident_pages, out_count}
+use Rattle.esx_lists.specs.Counts.{one}
+use Rattle.esx_pmap.specs.Blocks.{block_count}
+use Rattle.esx_pmap.specs.declared.loans.Loan.{Loan}
+use Rattle.esx_pmap.specs.Loans.{AreLoans, lent_in, all_lent}
+use Rattle.esx_pmap.specs.Map.{IsMap, AreLent}
+use Rattle.esx_lists.proofs.Counts.{count_by-set, count_by-set-fits, counted_there, count_by-replicate}
 
 -- a page's place within its block
 in_block : (rows : List MapRow) (i : ℕ) → i < length rows → i % 256 < length (take 256 (drop (i / 256 * 256) rows))
 in_block rows i h = rw (length-take, length-drop) (omega arith)
 
-row_in_block : (rows : List MapRow) (i : ℕ) → get_or (take 256 (drop (i / 256 * 256) rows)) (i % 256) Untouched ≡ row_at rows i
+row_in_block : (rows : List MapRow) (i : ℕ) → get_or (take 256 (drop (i / 256 * 256) rows)) (i % 256) Untouched ≡ page_at rows i
 row_in_block rows i =
     let place : i / 256 * 256 + i % 256 ≡ i = omega arith in
-    get_or-take 256 (drop (i / 256 * 256) rows) (i % 256) Untouched (omega arith) ∙ (get_or-drop (i / 256 * 256) rows (i % 256) Untouched ∙ ap (row_at rows) place)
+    get_or-take 256 (drop (i / 256 * 256) rows) (i % 256) Untouched (omega arith) ∙ (get_or-drop (i / 256 * 256) rows (i % 256) Untouched ∙ ap (page_at rows) place)
 
-pub block_count-set_same : (rows : List MapRow) (i : ℕ) (row : MapRow) → i < length rows → block_count (set rows i row) (i / 256) ≡ block_count rows (i / 256) - one (is_here (row_at rows i)) + one (is_here row)
+pub block_count-set_same : (rows : List MapRow) (i : ℕ) (row : MapRow) → i < length rows → block_count (set rows i row) (i / 256) ≡ block_count rows (i / 256) - one (is_here (page_at rows i)) + one (is_here row)
 block_count-set_same rows i row h =
     let start = i / 256 * 256 in
     let place : i ≡ start + i % 256 = omega arith in
@@ -41,27 +42,18 @@ block_count-set_other rows i b row ne =
           ap (λ n. block_count (set rows n row) b) place ∙ rw (drop-set-add (b * 256) rows (i - b * 256) row, take-set-le 256 (drop (b * 256) rows) (i - b * 256) row past) refl
     ]
 
-pub block_there : (rows : List MapRow) (i : ℕ) → i < length rows → one (is_here (row_at rows i)) ≤ block_count rows (i / 256)
+pub block_there : (rows : List MapRow) (i : ℕ) → i < length rows → one (is_here (page_at rows i)) ≤ block_count rows (i / 256)
 block_there rows i h = rw (row_in_block rows i) at (counted_there is_here (take 256 (drop (i / 256 * 256) rows)) (i % 256) Untouched (in_block rows i h))
 
-pub block_fits : (rows : List MapRow) (i : ℕ) (row : MapRow) → i < length rows → block_count rows (i / 256) - one (is_here (row_at rows i)) + one (is_here row) < 2 ^ 32
+pub block_fits : (rows : List MapRow) (i : ℕ) (row : MapRow) → i < length rows → block_count rows (i / 256) - one (is_here (page_at rows i)) + one (is_here row) < 2 ^ 32
 block_fits rows i row h =
     let e = block_count-set_same rows i row h in
     let l = count_by-le-length is_here (take 256 (drop (i / 256 * 256) (set rows i row))) in
     let m = length-take 256 (drop (i / 256 * 256) (set rows i row)) in
     omega (arith, e, l, m)
 
-pub resident_there : (rows : List MapRow) (i : ℕ) → i < length rows → one (is_here (row_at rows i)) ≤ resident_count rows
-resident_there rows i h = counted_there is_here rows i Untouched h
-
-pub resident_fits : (rows : List MapRow) (i : ℕ) (row : MapRow) → i < length rows → length rows < 2 ^ 32 → resident_count rows - one (is_here (row_at rows i)) + one (is_here row) < 2 ^ 32
-resident_fits rows i row h small =
-    let e = count_by-set is_here rows i row Untouched h in
-    let l = count_by-le-length is_here (set rows i row) in
-    omega (arith, e, l, length-set rows i row)
-
-pub map_set : (rows : List MapRow) (blocks : List ℕ) (resident i count all : ℕ) (row : MapRow) → IsMap rows blocks resident → i < length rows → count ≡ get_or blocks (i / 256) 0 - one (is_here (row_at rows i)) + one (is_here row) → all ≡ resident - one (is_here (row_at rows i)) + one (is_here row) → IsMap (set rows i row) (set blocks (i / 256) count) all
-map_set rows blocks resident i count all row m h counted alike = record {
+pub map_set : (rows : List MapRow) (blocks : List ℕ) (resident out i count all outside : ℕ) (row : MapRow) → IsMap rows blocks resident out → i < length rows → count ≡ get_or blocks (i / 256) 0 - one (is_here (page_at rows i)) + one (is_here row) → all ≡ resident - one (is_here (page_at rows i)) + one (is_here row) → outside ≡ out - one (is_out (page_at rows i)) + one (is_out row) → IsMap (set rows i row) (set blocks (i / 256) count) all outside
+map_set rows blocks resident out i count all outside row m h counted alike away = record {
   fits = rw length-set m.fits;
   enough = rw (length-set, length-set) m.enough;
   each = λ b. elim (cases_eq b (i / 256)) [
@@ -71,10 +63,11 @@ map_set rows blocks resident i count all row m h counted alike = record {
     | inr ne ↦ rw (get_or-set_other blocks (i / 256) b count 0 ne) (m.each b ∙ sym (block_count-set_other rows i b row ne))
   ];
   all = alike ∙ (rw m.all (sym (count_by-set is_here rows i row Untouched h)));
+  outside = away ∙ (rw m.outside (sym (count_by-set is_out rows i row Untouched h)));
 }
 
 none_of : (k : ℕ) → resident_count (replicate k Untouched) ≡ 0
-none_of k = sum_by-replicate (λ x. cond (is_here x) 1 0) k Untouched ∙ mul-zero k
+none_of k = count_by-replicate is_here k Untouched refl
 
 none_in : (k b : ℕ) → block_count (replicate k Untouched) b ≡ 0
 none_in k b =
@@ -90,12 +83,13 @@ zero_or_past n b =
     ]
 
 -- no page of a new map is in a frame
-pub map_new : (max n : ℕ) → max < 2 ^ 32 → n ≡ div_ceil max 256 → IsMap (replicate max Untouched) (replicate n 0) 0
+pub map_new : (max n : ℕ) → max < 2 ^ 32 → n ≡ div_ceil max 256 → IsMap (replicate max Untouched) (replicate n 0) 0 0
 map_new max n small e = record {
   fits = rw length-replicate small;
   enough = rw (length-replicate, length-replicate) (omega arith);
   each = λ b. zero_or_past n b ∙ sym (none_in max b);
   all = sym (none_of max);
+  outside = sym (count_by-replicate is_out max Untouched refl);
 }
 
 -- the counts of the first blocks are those of their pages
@@ -106,8 +100,8 @@ sum_blocks rows blocks each (suc b) h =
     let place : (b + 1) * 256 ≡ b * 256 + 256 = omega arith in
     rw (next, sum_by_more (λ x. x) blocks b 0 (omega arith), each b, place, take-add (b * 256) 256 rows, sum_by-append (λ x. cond (is_here x) 1 0) (take (b * 256) rows) (take 256 (drop (b * 256) rows)), sum_blocks rows blocks each b (omega arith)) refl
 
-pub sum_all : (rows : List MapRow) (blocks : List ℕ) (resident : ℕ) → IsMap rows blocks resident → sum blocks ≡ resident_count rows
-sum_all rows blocks resident m =
+pub sum_all : (rows : List MapRow) (blocks : List ℕ) (resident out : ℕ) → IsMap rows blocks resident out → sum blocks ≡ resident_count rows
+sum_all rows blocks resident out m =
     let e = sum_blocks rows blocks m.each (length blocks) (omega arith) in
     rw (take_all (length blocks) blocks (omega arith), take_all (length blocks * 256) rows (omega (arith, m.enough))) at e
 
@@ -117,31 +111,72 @@ block_rows rows b end e =
     let cut : end - b * 256 ≡ min 256 (length (drop (b * 256) rows)) = rw length-drop (omega arith) in
     rw cut (take_min 256 (drop (b * 256) rows))
 
-pub rest_within : (rows : List MapRow) (blocks : List ℕ) (resident b rest end : ℕ) → IsMap rows blocks resident → end ≡ min (b * 256 + 256) (length rows) → rest < get_or blocks b 0 → rest < resident_count (take (end - b * 256) (drop (b * 256) rows))
-rest_within rows blocks resident b rest end m e h = rw (block_rows rows b end e, ← m.each b) h
+pub rest_within : (rows : List MapRow) (blocks : List ℕ) (resident out b rest end : ℕ) → IsMap rows blocks resident out → end ≡ min (b * 256 + 256) (length rows) → rest < get_or blocks b 0 → rest < resident_count (take (end - b * 256) (drop (b * 256) rows))
+rest_within rows blocks resident out b rest end m e h = rw (block_rows rows b end e, ← m.each b) h
+
+next_entry : (p : ℕ) (row : MapRow) (rows : List MapRow) (i : ℕ) → get_or (resident_from (p + 1) rows) (resident_count (take i rows)) 0 ≡ p + 1 + i → (t : Bool) → is_here row ≡ t
+    → get_or (resident_from p (row ∷ rows)) (resident_count (row ∷ take i rows)) 0 ≡ p + suc i
+next_entry p row rows i rest true e =
+    let more : resident_count (row ∷ take i rows) ≡ suc (resident_count (take i rows)) = sum_by-cons (λ x. cond (is_here x) 1 0) row (take i rows) ∙ rw e (omega arith) in
+    rw (more, e) (rest ∙ omega arith)
+next_entry p row rows i rest false e =
+    let none : resident_count (row ∷ take i rows) ≡ resident_count (take i rows) = sum_by-cons (λ x. cond (is_here x) 1 0) row (take i rows) ∙ rw e (omega arith) in
+    rw (none, e) (rest ∙ omega arith)
+
+-- the page with so many before it that are in a frame is that entry of those that are
+entry_of_page : (p : ℕ) (rows : List MapRow) (i : ℕ) → i < length rows → is_here (page_at rows i) ≡ true → get_or (resident_from p rows) (resident_count (take i rows)) 0 ≡ p + i
+entry_of_page p [] i h here = absurd (omega (arith, h))
+entry_of_page p (row ∷ rows) zero h here = rw here (omega arith)
+entry_of_page p (row ∷ rows) (suc i) h here = next_entry p row rows i (entry_of_page (p + 1) rows i (omega arith) here) (is_here row) refl
 
 -- a page of a map, by its place in a block
 pub record IsNth (rows : List MapRow) (k page : ℕ) : Type 0 where
   pub in_range : page < length rows
-  pub here : is_here (row_at rows page) ≡ true
+  pub here : is_here (page_at rows page) ≡ true
   pub entry : page ≡ get_or (resident_pages rows) k 0
 
-pub nth_is : (rows : List MapRow) (blocks : List ℕ) (resident k b rest end at : ℕ) → IsMap rows blocks resident → end ≡ min (b * 256 + 256) (length rows) → b < length blocks → sum (take b blocks) + rest ≡ k → at < length (take (end - b * 256) (drop (b * 256) rows)) → is_here (row_at (take (end - b * 256) (drop (b * 256) rows)) at) ≡ true → resident_count (take at (take (end - b * 256) (drop (b * 256) rows))) ≡ rest → IsNth rows k (b * 256 + at)
-nth_is rows blocks resident k b rest end at m e in_blocks before there passes count =
+pub nth_is : (rows : List MapRow) (blocks : List ℕ) (resident out k b rest end at : ℕ) → IsMap rows blocks resident out → end ≡ min (b * 256 + 256) (length rows) → b < length blocks → sum (take b blocks) + rest ≡ k → at < length (take (end - b * 256) (drop (b * 256) rows)) → is_here (page_at (take (end - b * 256) (drop (b * 256) rows)) at) ≡ true → resident_count (take at (take (end - b * 256) (drop (b * 256) rows))) ≡ rest → IsNth rows k (b * 256 + at)
+nth_is rows blocks resident out k b rest end at m e in_blocks before there passes count =
     let cut = block_rows rows b end e in
     let block = take 256 (drop (b * 256) rows) in
     let page = b * 256 + at in
     let near : at < length block = rw cut at there in
     let small : at < 256 = let m = rw length-take at near in omega arith in
     let in_range : page < length rows = let m = rw (length-take, length-drop) at near in omega arith in
-    let row : row_at block at ≡ row_at rows page = get_or-take 256 (drop (b * 256) rows) at Untouched small ∙ get_or-drop (b * 256) rows at Untouched in
-    let here : is_here (row_at rows page) ≡ true = ap is_here (sym row) ∙ rw cut at passes in
+    let row : page_at block at ≡ page_at rows page = get_or-take 256 (drop (b * 256) rows) at Untouched small ∙ get_or-drop (b * 256) rows at Untouched in
+    let here : is_here (page_at rows page) ≡ true = ap is_here (sym row) ∙ rw cut at passes in
     let part : resident_count (take at (drop (b * 256) rows)) ≡ rest = rw (cut, take-take at 256 (drop (b * 256) rows) (omega arith)) at count in
     let front : resident_count (take page rows) ≡ k =
     rw (take-add (b * 256) at rows, sum_by-append (λ x. cond (is_here x) 1 0) (take (b * 256) rows) (take at (drop (b * 256) rows)), ← sum_blocks rows blocks m.each b (omega arith), part) before in
-    let places : count_by (λ i. is_here (row_at rows i)) (range_with_len 0 page) ≡ k = sym (count_by-take is_here Untouched rows page (omega arith)) ∙ front in
     record {
       in_range = in_range;
       here = here;
-      entry = sym (rw places at (entry_of_filter (λ i. is_here (row_at rows i)) (length rows) page in_range here));
+      entry = sym (rw front at (entry_of_page 0 rows page in_range here) ∙ omega arith);
     }
+
+-- The pages lent, after a change of one row.
+
+pub loans_new : (max capacity : ℕ) → max ≤ capacity → AreLent (replicate max Untouched) [] capacity
+loans_new max capacity room = record {
+  loans = record { rising = λ i j q r. absurd (omega (arith, r)); some = λ i r. absurd (omega (arith, r)) };
+  each = λ e. sym (count_by-replicate (is_lent_in e) max Untouched refl);
+  all = sym (count_by-replicate is_lent max Untouched refl);
+  room = rw length-replicate room;
+}
+
+-- without a page's row there are fewer pages lent than rows
+pub others_lent : (rows : List MapRow) (i left : ℕ) → i < length rows → left + one (is_lent (page_at rows i)) ≡ count_by is_lent rows → left < length rows
+others_lent rows i left h e =
+    let gone = count_by-set is_lent rows i (Lent 0) Untouched h in
+    let all = count_by-le-length is_lent (set rows i (Lent 0)) in
+    omega (arith, e, gone, all, length-set rows i (Lent 0))
+
+pub loans_moved : (rows : List MapRow) (i : ℕ) (row : MapRow) (before left after : List Loan) (had room : ℕ) → i < length rows → AreLent rows before had → had ≤ room → AreLoans after
+    → ((e : ℕ) → lent_in e left + one (is_lent_in e (page_at rows i)) ≡ lent_in e before) → all_lent left + one (is_lent (page_at rows i)) ≡ all_lent before
+    → ((e : ℕ) → lent_in e after ≡ lent_in e left + one (is_lent_in e row)) → all_lent after ≡ all_lent left + one (is_lent row) → AreLent (set rows i row) after room
+loans_moved rows i row before left after had room h l more a gone lost came won = record {
+  loans = a;
+  each = λ e. let s = count_by-set (is_lent_in e) rows i row Untouched h in omega (arith, s, l.each e, gone e, came e);
+  all = let s = count_by-set is_lent rows i row Untouched h in omega (arith, s, l.all, lost, won);
+  room = rw length-set (let r = l.room in omega arith);
+}

@@ -1,3 +1,4 @@
-pub mod Rows
+pub use Rattle.esx_types.specs.Pages
+pub mod Blocks
+pub mod Loans
 pub mod Map
-pub mod Counts

@@ -1,26 +1,10 @@
 //! Counts of resident pages.
 
-ghost use Rattle.std.specs.Prelude.{◌≡◌, ◌+◌, ◌-◌, ◌<◌, ◌≤◌, ◌^◌, IsTrue, length, slice_index, sum, take};
+ghost use Rattle.std.specs.Prelude.{◌≡◌, ◌+◌, ◌<◌, IsTrue, length, slice_index, sum, take};
 ghost use Rattle.esx_types.specs.declared.table.MapRow.{MapRow};
-ghost use Rattle.esx_pmap.specs.Rows.{is_here, row_at, resident_count};
-ghost use Rattle.esx_pmap.specs.Counts.{one};
+ghost use Rattle.esx_types.specs.Pages.{is_here, page_at, resident_count};
 
 use esx_types::MapRow;
-
-pub fn is_here(row: &MapRow) -> bool
-    ensures { result ≡ is_here row.now }
-{
-    matches!(row, MapRow::Here { .. })
-}
-
-/// A count after one page was, or is, among those that it counts.
-pub fn moved(count: u32, was: bool, is: bool) -> u32
-    requires there { one was ≤ count }
-    requires fits { count - one was + one is < 2 ^ 32 }
-    ensures { result ≡ count - one was + one is }
-{
-    count - u32::from(was) + u32::from(is)
-}
 
 /// The block in which the `k`-th counted page is, and how many come before it there.
 pub fn nth_block(blocks: &[u32], k: u32) -> (usize, u32)
@@ -43,12 +27,12 @@ pub fn nth_block(blocks: &[u32], k: u32) -> (usize, u32)
 pub fn nth_here(rows: &[MapRow], k: u32) -> usize
     requires { k < resident_count rows.now }
     ensures in_range { result < length rows.now }
-    ensures here { IsTrue (is_here (row_at rows.now result)) }
+    ensures here { IsTrue (is_here (page_at rows.now result)) }
     ensures before { resident_count (take result rows.now) ≡ k }
 {
     let mut rest = k;
     for (at, row) in rows.iter().enumerate() {
-        if is_here(row) {
+        if row.is_here() {
             if rest == 0 {
                 return at;
             }

@@ -2,6 +2,8 @@
 #![tactic(auto)]
 
 mod blocks;
+pub mod laws;
+mod loans;
 mod map;
 
 pub use map::PageMap;

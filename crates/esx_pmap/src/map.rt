@@ -1,11 +1,14 @@
-//! The map: its rows, and for each block of pages how many are in a frame.
+//! The map: its rows, and the numbers of pages in frames, in slots and lent.
 
-ghost use Rattle.std.specs.Prelude.{◌≡◌, ◌<◌, ◌*◌, IfOk, IsTrue, length, replicate, slice_index, slice_set};
+ghost use Rattle.std.specs.Prelude.{◌≡◌, ◌<◌, ◌*◌, IfOk, IsTrue, length, replicate, slice_index, slice_index_or, slice_set};
 ghost use Rattle.esx_types.specs.declared.table.MapRow.{MapRow};
 ghost use Rattle.esx_types.specs.declared.table.MapRow.TheVariants.{Untouched};
-ghost use Rattle.esx_pmap.specs.Rows.{is_here, row_at, resident_count, resident_pages, block_count};
+ghost use Rattle.esx_types.specs.Pages.{is_here, page_at, resident_count, resident_pages, out_count, lent_count};
+ghost use Rattle.esx_pmap.specs.Blocks.{block_count};
 
-use crate::blocks::{is_here, moved, nth_block, nth_here};
+use crate::blocks::{nth_block, nth_here};
+use crate::loans::{Loan, enter, leave, lent_in};
+use esx_lists::moved;
 use esx_types::MapRow;
 use std::alloc::{AllocError, Global};
 use std::marker::Model;
@@ -16,24 +19,27 @@ const BLOCK: usize = 256;
 /// Where the pages of a virtual machine are, seen as the list of their rows; a page's number is its place.
 ///
 /// No call after `new` takes memory. A resident page is found by passing whole blocks of pages by their
-/// counts.
+/// counts. The pages lent are counted by their epochs, so that a machine's next epoch, and its last one
+/// again, cost nothing here.
 #[derive(Drop)]
 pub struct PageMap {
     rows: Vec<MapRow>,
     blocks: Vec<u32>,
     resident: u32,
+    out: u32,
+    loans: Vec<Loan>,
 }
 
 impl Model for PageMap {
-    ghost use Rattle.std.specs.Prelude.{List};
+    ghost use Rattle.std.specs.Prelude.{List, vec_capacity};
     ghost use Rattle.esx_types.specs.declared.table.MapRow.{MapRow};
-    ghost use Rattle.esx_pmap.specs.Map.{IsMap};
+    ghost use Rattle.esx_pmap.specs.Map.{IsMap, AreLent};
 
     ghost Value = { List MapRow };
 
     ghost view = { λ a. a.rows.items };
 
-    ghost invariant = { λ a. IsMap a.rows.items a.blocks.items a.resident };
+    ghost invariant = { λ a. IsMap a.rows.items a.blocks.items a.resident a.out × AreLent a.rows.items a.loans.items (vec_capacity a.loans) };
 }
 
 impl PageMap {
@@ -46,6 +52,8 @@ impl PageMap {
             rows: vec![in alloc; MapRow::Untouched; len]?,
             blocks: vec![in alloc; 0; len.div_ceil(BLOCK)]?,
             resident: 0,
+            out: 0,
+            loans: Vec::with_capacity(alloc, len)?,
         })
     }
 
@@ -59,7 +67,7 @@ impl PageMap {
     /// The row of a page.
     pub fn at(&self, page: u32) -> MapRow
         requires { page < length self.now }
-        ensures { result ≡ row_at self.now page }
+        ensures { result ≡ page_at self.now page }
     {
         self.rows[page as usize]
     }
@@ -68,15 +76,49 @@ impl PageMap {
     pub fn swap_row(&mut self, page: u32, row: &mut MapRow)
         requires { page < length self.old }
         ensures rows { self.new ≡ slice_set self.old page row.old }
-        ensures row { row.new ≡ row_at self.old page }
+        ensures row { row.new ≡ page_at self.old page }
     {
         let at = page as usize;
-        let was = is_here(&self.rows[at]);
-        let is = is_here(row);
+        let old = self.rows[at];
+        let (was, is) = (old.is_here(), row.is_here());
         self.resident = moved(self.resident, was, is);
         let count = moved(self.blocks[at / BLOCK], was, is);
         self.blocks[at / BLOCK] = count;
+        self.out = moved(self.out, old.is_out(), row.is_out());
+        leave(&mut self.loans, &old);
+        enter(&mut self.loans, row);
         std::mem::swap(&mut self.rows[at], row);
+    }
+
+    /// Trades a page's row with the one that is handed over. Past the end nothing changes.
+    pub fn trade(&mut self, page: u32, row: &mut MapRow)
+        ensures rows { self.new ≡ slice_set self.old page row.old }
+        ensures row { row.new ≡ slice_index_or self.old page row.old }
+    {
+        if page < self.len() {
+            self.swap_row(page, row);
+        }
+    }
+
+    /// All rows, in the order of their pages.
+    pub fn rows(&self) -> &[MapRow]
+        ensures { result.now ≡ self.now }
+    {
+        self.rows.as_slice()
+    }
+
+    /// How many pages are in a swap slot.
+    pub fn out(&self) -> u32
+        ensures { result ≡ out_count self.now }
+    {
+        self.out
+    }
+
+    /// How many pages were lent in an epoch.
+    pub fn lent(&self, epoch: u32) -> u32
+        ensures { result ≡ lent_count epoch self.now }
+    {
+        lent_in(&self.loans, epoch)
     }
 
     /// How many pages are in a frame.
@@ -99,7 +141,7 @@ impl PageMap {
         requires { k < resident_count self.now }
         ensures page { result ≡ slice_index (resident_pages self.now) k }
         ensures in_range { result < length self.now }
-        ensures here { IsTrue (is_here (row_at self.now result)) }
+        ensures here { IsTrue (is_here (page_at self.now result)) }
     {
         let (block, rest) = nth_block(&self.blocks, k);
         let start = block * BLOCK;

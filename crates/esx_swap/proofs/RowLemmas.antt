@@ -1,25 +1,27 @@
--- What a change of one row does to the index of free rows.
-use Rattle.std.proofs.Common.{◌≡◌, ℕ, ◌^◌, ◌<◌, Bool, true, List, set, replicate, sym, ◌∙◌}
-use Rattle.esx_index.specs.Lists.{map-set_same, map-replicate}
+-- What a change of one row does to the index of free rows, and to their number.
+use Rattle.std.proofs.Common.{◌≡◌, ℕ, ◌+◌, ◌-◌, ◌^◌, ◌<◌, ◌≤◌, Bool, true, false, cond, map, List, length, get_or, set, replicate, count_by, sym, ap, ◌∙◌, arith, mul-one}
+use Rattle.std.proofs.Math.Seq.{map-set_same}
 use Rattle.std.proofs.lemmas.List.{length-set, length-replicate, map-set}
+use Rattle.std.proofs.lemmas.List.Sums.{count_by-le-length}
+use Rattle.std.proofs.lemmas.List.Folds.{sum_by-replicate}
+use Rattle.esx_lists.specs.Counts.{one}
+use Rattle.esx_lists.proofs.Counts.{count_by-set, map-replicate}
 use Rattle.esx_types.specs.declared.table.SlotRow.{SlotRow}
 use Rattle.esx_types.specs.declared.table.SlotRow.TheVariants.{Free}
-use Rattle.esx_swap.specs.Rows.{is_free, row_at}
+use Rattle.esx_types.specs.Slots.{is_empty, slot_at}
 use Rattle.esx_swap.specs.Table.{IsTable}
 
--- the table after a row of the other kind was written, and of the same
-pub table_set : (rows : List SlotRow) (i : ℕ) (row : SlotRow) (index : List Bool) → IsTable rows index → IsTable (set rows i row) (set index i (is_free row))
-table_set rows i row index t = record {
+-- the table after a row was written
+pub table_set : (rows : List SlotRow) (i : ℕ) (row : SlotRow) (index before : List Bool) (count had : ℕ) → IsTable rows before had → i < length rows → index ≡ map is_empty (set rows i row) → count ≡ had - one (is_empty (slot_at rows i)) + one (is_empty row) → IsTable (set rows i row) index count
+table_set rows i row index before count had t h free counted = record {
   fits = rw length-set t.fits;
-  free = rw t.free (sym (map-set is_free rows i row));
+  free = free;
+  counted = counted ∙ rw t.counted (sym (count_by-set is_empty rows i row Free h));
 }
 
-pub table_set_same : (rows : List SlotRow) (i : ℕ) (row : SlotRow) (index : List Bool) → IsTable rows index → is_free row ≡ is_free (row_at rows i) → IsTable (set rows i row) index
-table_set_same rows i row index t same =
-    record {
-      fits = rw length-set t.fits;
-      free = t.free ∙ sym (map-set_same is_free rows i row Free same);
-    }
-
-pub table_new : (n : ℕ) → n < 2 ^ 32 → IsTable (replicate n Free) (replicate n true)
-table_new n small = record { fits = rw length-replicate small; free = sym (map-replicate is_free n Free) }
+pub table_new : (n : ℕ) → n < 2 ^ 32 → IsTable (replicate n Free) (replicate n true) n
+table_new n small = record {
+  fits = rw length-replicate small;
+  free = sym (map-replicate is_empty n Free);
+  counted = rw (sum_by-replicate (λ x. cond (is_empty x) 1 0) n Free) (sym (mul-one n));
+}

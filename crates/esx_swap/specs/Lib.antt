@@ -1,2 +1,2 @@
-pub mod Rows
+pub use Rattle.esx_types.specs.Slots
 pub mod Table

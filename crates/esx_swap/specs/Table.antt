@@ -1,9 +1,10 @@
 -- What a table keeps beside its rows.
-use Rattle.std.specs.Prelude.{◌≡◌, ◌^◌, ◌<◌, Bool, List, length, map}
+use Rattle.std.specs.Prelude.{◌≡◌, ℕ, ◌^◌, ◌<◌, Bool, List, length, map, count_by}
 use Rattle.esx_types.specs.declared.table.SlotRow.{SlotRow}
-use Rattle.esx_swap.specs.Rows.{is_free}
+use Rattle.esx_types.specs.Slots.{is_empty}
 
--- a slot's number fits, and the index says which slots are free
-pub record IsTable (rows : List SlotRow) (index : List Bool) : Type 0 where
+-- a slot's number fits, the index says which slots are free, and the count is theirs
+pub record IsTable (rows : List SlotRow) (index : List Bool) (count : ℕ) : Type 0 where
   pub fits : length rows < 2 ^ 32
-  pub free : index ≡ map is_free rows
+  pub free : index ≡ map is_empty rows
+  pub counted : count ≡ count_by is_empty rows

@@ -1,11 +1,12 @@
-//! The table: its rows, and an index of the free ones.
+//! The table: its rows, an index of the free ones, and their number.
 
-ghost use Rattle.std.specs.Prelude.{◌≡◌, ◌<◌, IfOk, length, replicate, slice_set};
+ghost use Rattle.std.specs.Prelude.{◌≡◌, ◌<◌, IfOk, count_by, length, replicate, slice_index_or, slice_set};
 ghost use Rattle.esx_types.specs.declared.table.SlotRow.{SlotRow};
 ghost use Rattle.esx_types.specs.declared.table.SlotRow.TheVariants.{Free};
-ghost use Rattle.esx_swap.specs.Rows.{is_free, row_at, least_free};
+ghost use Rattle.esx_types.specs.Slots.{is_empty, slot_at, least_slot};
 
 use esx_index::FreeIndex;
+use esx_lists::moved;
 use esx_types::SlotRow;
 use std::alloc::{AllocError, Global};
 use std::marker::Model;
@@ -17,6 +18,7 @@ use std::marker::Model;
 pub struct Slots {
     rows: Vec<SlotRow>,
     free: FreeIndex,
+    count: u32,
 }
 
 impl Model for Slots {
@@ -28,7 +30,7 @@ impl Model for Slots {
 
     ghost view = { λ a. a.rows.items };
 
-    ghost invariant = { λ a. IsTable a.rows.items a.free };
+    ghost invariant = { λ a. IsTable a.rows.items a.free a.count };
 }
 
 impl Slots {
@@ -38,7 +40,11 @@ impl Slots {
     {
         let free = FreeIndex::new(alloc, slots as usize)?;
         let rows = free_rows(alloc, slots)?;
-        Ok(Slots { rows, free })
+        Ok(Slots {
+            rows,
+            free,
+            count: slots,
+        })
     }
 
     /// How many slots there are.
@@ -48,17 +54,31 @@ impl Slots {
         self.rows.len() as u32
     }
 
+    /// How many slots are free.
+    pub fn free(&self) -> u32
+        ensures { result ≡ count_by is_empty self.now }
+    {
+        self.count
+    }
+
+    /// All rows, in the order of their slots.
+    pub fn rows(&self) -> &[SlotRow]
+        ensures { result.now ≡ self.now }
+    {
+        self.rows.as_slice()
+    }
+
     /// The row of a slot.
     pub fn row(&self, slot: u32) -> &SlotRow
         requires { slot < length self.now }
-        ensures { result.now ≡ row_at self.now slot }
+        ensures { result.now ≡ slot_at self.now slot }
     {
         &self.rows[slot as usize]
     }
 
     /// The least slot that is free; none where no slot is.
     pub fn least_free(&self) -> Option<u32>
-        ensures { result ≡ least_free self.now }
+        ensures { result ≡ least_slot self.now }
     {
         let slot = self.free.least()?;
         Some(slot as u32)
@@ -68,21 +88,27 @@ impl Slots {
     pub fn swap_row(&mut self, slot: u32, row: &mut SlotRow)
         requires { slot < length self.old }
         ensures rows { self.new ≡ slice_set self.old slot row.old }
-        ensures row { row.new ≡ row_at self.old slot }
+        ensures row { row.new ≡ slot_at self.old slot }
     {
         let at = slot as usize;
-        let free = is_free(row);
-        if free != is_free(&self.rows[at]) {
-            self.free.set(at, free);
+        let was = self.rows[at].is_empty();
+        let is = row.is_empty();
+        self.count = moved(self.count, was, is);
+        if is != was {
+            self.free.set(at, is);
         }
         std::mem::swap(&mut self.rows[at], row);
     }
-}
 
-fn is_free(row: &SlotRow) -> bool
-    ensures { result ≡ is_free row.now }
-{
-    matches!(row, SlotRow::Free)
+    /// Trades a slot's row with the one that is handed over. Past the end nothing changes.
+    pub fn trade(&mut self, slot: u32, row: &mut SlotRow)
+        ensures rows { self.new ≡ slice_set self.old slot row.old }
+        ensures row { row.new ≡ slice_index_or self.old slot row.old }
+    {
+        if slot < self.len() {
+            self.swap_row(slot, row);
+        }
+    }
 }
 
 fn free_rows(alloc: Global, slots: u32) -> Result<Vec<SlotRow>, AllocError>

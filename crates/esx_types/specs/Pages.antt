@@ -17,6 +17,13 @@ is_out (Here frame) = false
 is_out (Out slot) = true
 is_out (Lent epoch) = false
 
+-- whether the page is lent, in whichever epoch
+abbrev pub is_lent : MapRow → Bool
+is_lent Untouched = false
+is_lent (Here frame) = false
+is_lent (Out slot) = false
+is_lent (Lent epoch) = true
+
 -- whether the page was lent in this epoch
 abbrev pub is_lent_in : ℕ → MapRow → Bool
 is_lent_in epoch Untouched = false

@@ -1,5 +1,5 @@
 use Rattle.std.proofs.Common.{◌≡◌, ◌+◌, take}
-use Rattle.esx_pmap.specs.Rows.{resident_count}
+use Rattle.esx_types.specs.Pages.{resident_count}
 use Rattle.esx_pmap.proofs.blocks.nth_here.Given as goal
 
 abbrev pub invariant-loop-at : goal.invariant-loop-at

@@ -1,8 +1,9 @@
 use Rattle.std.proofs.Common.{◌≡◌, ◌<◌, length, refl, ap, sym, ◌∙◌, arith}
 use Rattle.std.proofs.lemmas.List.{get_or_read, map-set}
-use Rattle.esx_index.specs.Lists.{map-set_same, same_tests}
+use Rattle.std.proofs.Math.Seq.{map-set_same}
+use Rattle.esx_lists.proofs.Counts.{same_tests}
 use Rattle.esx_types.specs.declared.table.FrameRow.TheVariants.{Free}
-use Rattle.esx_frames.specs.Rows.{is_free, row_at}
+use Rattle.esx_types.specs.Frames.{is_free, frame_at}
 use Rattle.esx_frames.specs.Counts.{with_row, without_row}
 use Rattle.esx_frames.proofs.RowLemmas.{count_fits, table_set}
 use Rattle.esx_frames.proofs.frames.FrameTable.swap_row.Goals as goal
@@ -19,12 +20,12 @@ invariant_of-self c =
     let h : c.args.mpn < length c.self.inside.rows.items = omega (arith, ap length c.self.view_is) in
     let row = get_or_read c.self.inside.rows.items c.args.mpn _ h c.index.ensures Free in
     let row-2 = get_or_read c.self.inside.rows.items c.args.mpn _ h c.index-2.ensures Free in
-    let counts : c.add.new.self ≡ with_row (without_row c.self.inside.counts (row_at c.self.inside.rows.items c.args.mpn)) c.args.row.now = rw (c.add.ensures, c.remove.ensures, row) refl in
+    let counts : c.add.new.self ≡ with_row (without_row c.self.inside.counts (frame_at c.self.inside.rows.items c.args.mpn)) c.args.row.now = rw (c.add.ensures, c.remove.ensures, row) refl in
     elim c.if-free-is_free.branch [
       | then-free-is_free w ↦
           let free = w.set.ensures ∙ rw (c.is_free-free.ensures, c.self.invariant.free) (sym (map-set is_free c.self.inside.rows.items c.args.mpn c.args.row.now)) in
           rw (w.self-inside-is, c.swap.ensures.x_after) (table_set _ _ _ _ _ _ _ c.self.invariant h free counts)
       | else-free-is_free w ↦
-          let same : is_free c.args.row.now ≡ is_free (row_at c.self.inside.rows.items c.args.mpn) = sym c.is_free-free.ensures ∙ (same_tests _ _ w.if-free-is_free.false ∙ (c.is_free.ensures ∙ ap is_free row-2)) in
+          let same : is_free c.args.row.now ≡ is_free (frame_at c.self.inside.rows.items c.args.mpn) = sym c.is_free-free.ensures ∙ (same_tests _ _ w.if-free-is_free.false ∙ (c.is_free.ensures ∙ ap is_free row-2)) in
           rw (w.self-inside-is, c.swap.ensures.x_after) (table_set _ _ _ _ _ _ _ c.self.invariant h (c.self.invariant.free ∙ sym (map-set_same is_free c.self.inside.rows.items c.args.mpn c.args.row.now Free same)) counts)
     ]

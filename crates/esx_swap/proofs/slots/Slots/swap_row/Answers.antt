@@ -1,20 +1,32 @@
 use Rattle.std.proofs.Common.{◌≡◌, ◌<◌, length, ap, sym, ◌∙◌, arith}
-use Rattle.std.proofs.lemmas.List.{get_or_read}
-use Rattle.esx_index.specs.Lists.{same_tests}
+use Rattle.std.proofs.Math.Seq.{map-set_same}
+use Rattle.std.proofs.lemmas.List.{get_or_read, map-set}
+use Rattle.esx_lists.proofs.Counts.{count_by-set-fits, counted_there, same_tests}
 use Rattle.esx_types.specs.declared.table.SlotRow.TheVariants.{Free}
-use Rattle.esx_swap.specs.Rows.{is_free, row_at}
-use Rattle.esx_swap.proofs.RowLemmas.{table_set, table_set_same}
+use Rattle.esx_types.specs.Slots.{is_empty, slot_at}
+use Rattle.esx_swap.proofs.RowLemmas.{table_set}
 use Rattle.esx_swap.proofs.slots.Slots.swap_row.Goals as goal
-use Rattle.esx_swap.proofs.slots.Slots.swap_row.Goals.{then-free-is_free, else-free-is_free}
+use Rattle.esx_swap.proofs.slots.Slots.swap_row.Goals.{then-is-was, else-is-was}
+
+pub moved-self-inside-requires : goal.moved-self-inside-requires
+moved-self-inside-requires c =
+    let rows = c.self.inside.rows.items in
+    let h : c.args.slot < length rows = omega (arith, ap length c.self.view_is) in
+    let was = c.is_empty-was.ensures ∙ ap is_empty (get_or_read rows c.args.slot _ h c.index.ensures Free) in
+    rw (c.self.invariant.counted, was) (record { there = counted_there is_empty rows c.args.slot Free h; fits = rw c.is_empty-is.ensures (count_by-set-fits is_empty rows c.args.slot c.args.row.now Free 4294967296 h c.self.invariant.fits) })
 
 pub invariant_of-self : goal.invariant_of-self
 invariant_of-self c =
-    let h : c.args.slot < length c.self.inside.rows.items = omega (arith, ap length c.self.view_is) in
-    let row = get_or_read c.self.inside.rows.items c.args.slot _ h c.index.ensures Free in
-    elim c.if-free-is_free.branch [
-      | then-free-is_free w ↦
-          rw (w.self-inside-is, c.swap.ensures.x_after, w.set.ensures, c.is_free-free.ensures) (table_set _ _ _ _ c.self.invariant)
-      | else-free-is_free w ↦
-          let same : is_free c.args.row.now ≡ is_free (row_at c.self.inside.rows.items c.args.slot) = sym c.is_free-free.ensures ∙ (same_tests _ _ w.if-free-is_free.false ∙ (c.is_free.ensures ∙ ap is_free row)) in
-          rw (w.self-inside-is, c.swap.ensures.x_after) (table_set_same _ _ _ _ c.self.invariant same)
+    let rows = c.self.inside.rows.items in
+    let row = c.args.row.now in
+    let h : c.args.slot < length rows = omega (arith, ap length c.self.view_is) in
+    let was = c.is_empty-was.ensures ∙ ap is_empty (get_or_read rows c.args.slot _ h c.index.ensures Free) in
+    let counted = rw (was, c.is_empty-is.ensures) at c.moved-self-inside.ensures in
+    elim c.if-is-was.branch [
+      | then-is-was w ↦
+          let free = w.set.ensures ∙ rw (c.is_empty-is.ensures, c.self.invariant.free) (sym (map-set is_empty rows c.args.slot row)) in
+          rw (w.self-inside-is, c.swap.ensures.x_after) (table_set rows c.args.slot row _ _ _ _ c.self.invariant h free counted)
+      | else-is-was w ↦
+          let same : is_empty row ≡ is_empty (slot_at rows c.args.slot) = sym c.is_empty-is.ensures ∙ (same_tests _ _ w.if-is-was.false ∙ was) in
+          rw (w.self-inside-is, c.swap.ensures.x_after) (table_set rows c.args.slot row _ _ _ _ c.self.invariant h (c.self.invariant.free ∙ sym (map-set_same is_empty rows c.args.slot row Free same)) counted)
     ]

@@ -1,4 +1,4 @@
--- What one row adds to a count.
+-- What one item adds to a count.
 use Rattle.std.specs.Prelude.{ℕ, Bool, if◌then◌else◌}
 
 abbrev pub one : Bool → ℕ

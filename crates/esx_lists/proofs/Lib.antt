@@ -1,0 +1,4 @@
+pub mod Trades
+pub mod Turns
+pub mod Counts
+pub mod Positions
