@@ -1,5 +1,5 @@
 -- What the frames and slots of a site keep where one page goes to another place, and where an overhead frame comes or goes.
-use Rattle.std.proofs.Common.{◌≡◌, ◌≢◌, ℕ, ◌+◌, ◌≤◌, ◌<◌, Bool, true, false, List, [], ◌∷◌, ◌++◌, refl, sym, ap, ◌∙◌, subst, arith, cond, Option, Some, None, inl, inr, ◌==◌, ◌-◌}
+use Rattle.std.proofs.Common.{◌≡◌, ◌≢◌, ℕ, ◌+◌, ◌≤◌, ◌<◌, Bool, true, false, List, [], ◌∷◌, ◌++◌, refl, sym, ap, ◌∙◌, subst, arith, cond, Option, Some, None, inl, inr, ◌==◌, ◌-◌, length, count_by, length-append}
 use Rattle.std.specs.List.{filter, list_any, AllByRecursion}
 use Rattle.std.proofs.lemmas.Bool.{cases_eq, false≢true}
 use Rattle.esx_types.specs.declared.table.FrameRow.{FrameRow}
@@ -115,7 +115,7 @@ less_key (frames.Shared count bytes) key h = of _ h
     of true e = e
     of false e = cc
 
-frame_left : (n : ℕ) (ps qs : List Place) (os : List ℕ) (bytes : List ℕ) (f : ℕ) (shared : Bool) (q : Place) → AreFrames n ps os → Changed (Here bytes f shared) q ps qs → IsNowhere q
+pub frame_left : (n : ℕ) (ps qs : List Place) (os : List ℕ) (bytes : List ℕ) (f : ℕ) (shared : Bool) (q : Place) → AreFrames n ps os → Changed (Here bytes f shared) q ps qs → IsNowhere q
     → FrameMoves ps qs f (less (row_of (in_frame f ps)))
 frame_left n ps qs os bytes f shared q fine ch away =
     let p : Place = Here bytes f shared in
@@ -130,7 +130,7 @@ frame_left n ps qs os bytes f shared q fine ch away =
       slots = λ i. filter_neither (is_out_at i) p q ps qs ch refl (away.out i);
     }
 
-frame_before : (ps qs : List Place) (bytes : List ℕ) (f : ℕ) (shared : Bool) (q : Place) (ch : Changed (Here bytes f shared) q ps qs)
+pub frame_before : (ps qs : List Place) (bytes : List ℕ) (f : ℕ) (shared : Bool) (q : Place) (ch : Changed (Here bytes f shared) q ps qs)
     → in_frame f ps ≡ filter (is_here_at f) ch.front ++ Here bytes f shared ∷ filter (is_here_at f) ch.back
 frame_before ps qs bytes f shared q ch =
     let p : Place = Here bytes f shared in
@@ -138,7 +138,7 @@ frame_before ps qs bytes f shared q ch =
     let bs = filter (is_here_at f) ch.back in
     filter_before (is_here_at f) p q ps qs ch ∙ ap (λ b. fs ++ cond b (p ∷ bs) bs) (eqb_same f)
 
-slot_left : (n : ℕ) (ps qs : List Place) (os : List ℕ) (bytes : List ℕ) (i : ℕ) (q : Place) → AreFrames n ps os → Changed (Out bytes i) q ps qs → IsNowhere q → SlotMoves ps qs i slots.Free
+pub slot_left : (n : ℕ) (ps qs : List Place) (os : List ℕ) (bytes : List ℕ) (i : ℕ) (q : Place) → AreFrames n ps os → Changed (Out bytes i) q ps qs → IsNowhere q → SlotMoves ps qs i slots.Free
 slot_left n ps qs os bytes i q fine ch away =
     let p : Place = Out bytes i in
     let fs = filter (is_out_at i) ch.front in
@@ -184,7 +184,7 @@ more_key bytes true frames.Overhead key fits h = absurd fits
 more_key bytes true (frames.Private old) key fits h = absurd fits
 more_key bytes true (frames.Shared count old) key fits h = (refl, (let e = fits.1 in let d = ap content_key e in cc))
 
-frame_joined : (n : ℕ) (ps qs : List Place) (os : List ℕ) (p : Place) (bytes : List ℕ) (f : ℕ) (shared : Bool) → AreFrames n ps os → Changed p (Here bytes f shared) ps qs → IsNowhere p
+pub frame_joined : (n : ℕ) (ps qs : List Place) (os : List ℕ) (p : Place) (bytes : List ℕ) (f : ℕ) (shared : Bool) → AreFrames n ps os → Changed p (Here bytes f shared) ps qs → IsNowhere p
     → FitsRow bytes shared (row_of (in_frame f ps)) → FrameMoves ps qs f (more bytes shared (row_of (in_frame f ps)))
 frame_joined n ps qs os p bytes f shared fine ch away fits =
     let q : Place = Here bytes f shared in
@@ -199,7 +199,7 @@ frame_joined n ps qs os p bytes f shared fine ch away fits =
       slots = λ i. filter_neither (is_out_at i) p q ps qs ch (away.out i) refl;
     }
 
-slot_joined : (n : ℕ) (ps qs : List Place) (os : List ℕ) (p : Place) (bytes : List ℕ) (i : ℕ) → AreFrames n ps os → Changed p (Out bytes i) ps qs → IsNowhere p
+pub slot_joined : (n : ℕ) (ps qs : List Place) (os : List ℕ) (p : Place) (bytes : List ℕ) (i : ℕ) → AreFrames n ps os → Changed p (Out bytes i) ps qs → IsNowhere p
     → slot_of (in_slot i ps) ≡ slots.Free → SlotMoves ps qs i (slots.Held bytes)
 slot_joined n ps qs os p bytes i fine ch away free =
     let q : Place = Out bytes i in
@@ -225,3 +225,89 @@ page_joins n ps qs os p (Here bytes f shared) fine ch away fits =
     frames_move n ps qs os f (more bytes shared row) fine (frame_joined n ps qs os p bytes f shared fine ch away fits.row) fits.clear
     (λ g key a b. (let k = more_key bytes shared row key fits.row a in fits.fresh k.0 g (b ∙ ap Some k.1)))
 page_joins n ps qs os p (Out bytes i) fine ch away fits = slots_move n ps qs os i (slots.Held bytes) fine (slot_joined n ps qs os p bytes i fine ch away fits)
+
+-- Where a page goes from one place to another, by way of nowhere.
+
+abbrev pub between : (p q : Place) (ps qs : List Place) → Changed p q ps qs → List Place
+between p q ps qs ch = ch.front ++ Untouched ∷ ch.back
+
+abbrev pub goes_off : (p q : Place) (ps qs : List Place) (ch : Changed p q ps qs) → Changed p Untouched ps (between p q ps qs ch)
+goes_off p q ps qs ch = record { front = ch.front; back = ch.back; before = ch.before; after = refl }
+
+abbrev pub comes_on : (p q : Place) (ps qs : List Place) (ch : Changed p q ps qs) → Changed Untouched q (between p q ps qs ch) qs
+comes_on p q ps qs ch = record { front = ch.front; back = ch.back; before = refl; after = ch.after }
+
+pub page_moves : (n : ℕ) (ps qs : List Place) (os : List ℕ) (p q : Place) (ch : Changed p q ps qs) → AreFrames n ps os
+    → (AreFrames n (between p q ps qs ch) os → FitsIn (between p q ps qs ch) os q) → AreFrames n qs os
+page_moves n ps qs os p q ch fine fits =
+    let mid = between p q ps qs ch in
+    let off = page_leaves n ps mid os p Untouched fine (goes_off p q ps qs ch) untouched_nowhere in
+    page_joins n mid qs os Untouched q off (comes_on p q ps qs ch) untouched_nowhere (fits off)
+
+-- what is in a frame and a slot on the way
+pub on_the_way : (p q : Place) (ps qs : List Place) (ch : Changed p q ps qs) (f : ℕ)
+    → in_frame f (between p q ps qs ch) ≡ filter (is_here_at f) ch.front ++ filter (is_here_at f) ch.back
+on_the_way p q ps qs ch f = filter_after (is_here_at f) p Untouched ps (between p q ps qs ch) (goes_off p q ps qs ch)
+
+none_either : {X : Type 0} (b : Bool) (x : X) (fs bs : List X) → fs ++ cond b (x ∷ bs) bs ≡ [] → fs ++ bs ≡ []
+none_either true x fs bs h = absurd (not_none fs bs x h)
+none_either false x fs bs h = h
+
+pub none_on_the_way : (p q : Place) (ps qs : List Place) (ch : Changed p q ps qs) (f : ℕ) → in_frame f ps ≡ [] → in_frame f (between p q ps qs ch) ≡ []
+none_on_the_way p q ps qs ch f none =
+    on_the_way p q ps qs ch f ∙ none_either (is_here_at f p) p (filter (is_here_at f) ch.front) (filter (is_here_at f) ch.back) (sym (filter_before (is_here_at f) p q ps qs ch) ∙ none)
+
+pub no_slot_on_the_way : (p q : Place) (ps qs : List Place) (ch : Changed p q ps qs) (i : ℕ) → in_slot i ps ≡ [] → in_slot i (between p q ps qs ch) ≡ []
+no_slot_on_the_way p q ps qs ch i none =
+    filter_after (is_out_at i) p Untouched ps (between p q ps qs ch) (goes_off p q ps qs ch)
+    ∙ none_either (is_out_at i p) p (filter (is_out_at i) ch.front) (filter (is_out_at i) ch.back) (sym (filter_before (is_out_at i) p q ps qs ch) ∙ none)
+
+one_left : {X : Type 0} (fs bs : List X) (x : X) → length (fs ++ x ∷ bs) ≤ 1 → fs ++ bs ≡ []
+one_left [] [] x h = refl
+one_left [] (b ∷ bs) x h = absurd (omega arith)
+one_left (f ∷ fs) bs x h = absurd (let e = length-append fs (x ∷ bs) in omega arith)
+
+-- a page that is alone in its frame leaves it free
+pub alone_on_the_way : (b : List ℕ) (f : ℕ) (sh : Bool) (q : Place) (ps qs : List Place) (ch : Changed (Here b f sh) q ps qs) → length (in_frame f ps) ≤ 1
+    → in_frame f (between (Here b f sh) q ps qs ch) ≡ []
+alone_on_the_way b f sh q ps qs ch one =
+    let P : List Place → Type 0 = λ xs. length xs ≤ 1 in
+    on_the_way (Here b f sh) q ps qs ch f
+    ∙ one_left (filter (is_here_at f) ch.front) (filter (is_here_at f) ch.back) (Here b f sh) (subst P (frame_before ps qs b f sh q ch) one)
+
+-- other frames
+pub others_on_the_way : (p q : Place) (ps qs : List Place) (ch : Changed p q ps qs) (f : ℕ) → is_here_at f p ≡ false → in_frame f (between p q ps qs ch) ≡ in_frame f ps
+others_on_the_way p q ps qs ch f other = filter_neither (is_here_at f) p Untouched ps (between p q ps qs ch) (goes_off p q ps qs ch) other refl
+
+-- into a frame that nobody is in
+pub fits_free : (ps : List Place) (os : List ℕ) (bytes : List ℕ) (f : ℕ) → is_listed f os ≡ false → in_frame f ps ≡ [] → FitsFrame ps os bytes f false
+fits_free ps os bytes f clear none =
+    let P : List Place → Type 0 = λ xs. FitsRow bytes false (row_of xs) in
+    record { clear = clear; row = subst P (sym none) tt; fresh = λ e. absurd (false≢true e) }
+
+-- to be shared in a frame that nobody is in, where no frame is shared under the key
+pub fits_new_share : (ps : List Place) (os : List ℕ) (bytes : List ℕ) (f : ℕ) → is_listed f os ≡ false → in_frame f ps ≡ []
+    → ((g : ℕ) → key_of_row (row_of (in_frame g ps)) ≡ Some (content_key bytes) → g ≡ f) → FitsFrame ps os bytes f true
+fits_new_share ps os bytes f clear none fresh =
+    let P : List Place → Type 0 = λ xs. FitsRow bytes true (row_of xs) in
+    record { clear = clear; row = subst P (sym none) tt; fresh = λ e. fresh }
+
+-- into a frame that is shared with the same bytes
+pub fits_share : (n : ℕ) (ps : List Place) (os : List ℕ) (bytes : List ℕ) (f count : ℕ) → AreFrames n ps os → is_listed f os ≡ false → row_of (in_frame f ps) ≡ frames.Shared count bytes
+    → FitsFrame ps os bytes f true
+fits_share n ps os bytes f count fine clear is =
+    let P : FrameRow → Type 0 = FitsRow bytes true in
+    record { clear = clear; row = subst P (sym is) (refl, refl); fresh = λ e g h. fine.keys g f (content_key bytes) h (ap key_of_row is) }
+
+-- Overhead frames that come and go.
+
+pub frames_listed : (n : ℕ) (ps : List Place) (os ns : List ℕ) → AreFrames n ps os → AllByRecursion (λ f. f < n) ns → ((f : ℕ) → count_by (λ g. g == f) ns ≤ 1)
+    → ((f : ℕ) → is_listed f ns ≡ true → in_frame f ps ≡ []) → AreFrames n ps ns
+frames_listed n ps os ns fine below once apart = record {
+  alike = fine.alike;
+  single = fine.single;
+  below = below;
+  once = once;
+  apart = apart;
+  keys = fine.keys;
+}
