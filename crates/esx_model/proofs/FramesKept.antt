@@ -1,7 +1,8 @@
 -- What the frames and slots of a site keep where one page goes to another place, and where an overhead frame comes or goes.
-use Rattle.std.proofs.Common.{◌≡◌, ◌≢◌, ℕ, ◌+◌, ◌≤◌, ◌<◌, Bool, true, false, List, [], ◌∷◌, ◌++◌, refl, sym, ap, ◌∙◌, subst, arith, cond, Option, Some, None, inl, inr, ◌==◌, ◌-◌, length, count_by, length-append}
+use Rattle.std.proofs.Common.{◌≡◌, ◌≢◌, ℕ, ◌+◌, ◌≤◌, ◌<◌, Bool, true, false, List, [], ◌∷◌, ◌++◌, refl, sym, ap, ◌∙◌, subst, arith, cond, Option, Some, None, inl, inr, ◌==◌, ◌-◌, length, count_by, length-append, ◌||◌}
 use Rattle.std.specs.List.{filter, list_any, AllByRecursion}
 use Rattle.std.proofs.lemmas.Bool.{cases_eq, false≢true}
+use Rattle.std.proofs.lemmas.Bool.Decides.{nat_tests}
 use Rattle.esx_types.specs.declared.table.FrameRow.{FrameRow}
 use Rattle.esx_types.specs.declared.table.FrameRow.TheVariants as frames
 use Rattle.esx_types.specs.declared.table.SlotRow.{SlotRow}
@@ -13,7 +14,7 @@ use Rattle.esx_model.specs.Places.{is_here_at, is_out_at}
 use Rattle.esx_model.specs.Show.{in_frame, in_slot, is_listed, row_of, slot_of}
 use Rattle.esx_model.specs.Moved.{less, more, FitsRow}
 use Rattle.esx_model.specs.sound.Frames.{AreFrames, pages_for, pages_out_for, key_of_row}
-use Rattle.esx_model.proofs.Lists.{Changed, filter_before, filter_after, filter_neither, eqb_same, eqb_other, not_none}
+use Rattle.esx_model.proofs.Lists.{Changed, filter_before, filter_after, filter_neither, eqb_same, eqb_other, not_none, Inserted, counted_more, all_fewer, none_listed, listed_more, one, all_more}
 use Rattle.esx_model.proofs.Alike.{Stands, stands_alike, left_by, come_by, StandsOut, out_alike, left_out_by, come_out_by}
 
 -- the same pages in each frame and slot
@@ -311,3 +312,30 @@ frames_listed n ps os ns fine below once apart = record {
   apart = apart;
   keys = fine.keys;
 }
+
+or_nothing : (b : Bool) → b ≡ (b || false)
+or_nothing true = refl
+or_nothing false = refl
+
+pub frames_more : (n : ℕ) (ps : List Place) (os ns : List ℕ) (f : ℕ) → AreFrames n ps os → Inserted f os ns → f < n → in_frame f ps ≡ [] → is_listed f os ≡ false → AreFrames n ps ns
+frames_more n ps os ns f fine i below none clear = frames_listed n ps os ns fine (all_more (λ f. f < n) f os ns i below fine.below) (λ g. once g (f == g) refl) (λ g h. apart g (f == g) refl h)
+  where
+    once : (g : ℕ) (t : Bool) → (f == g) ≡ t → count_by (λ h. h == g) ns ≤ 1
+    once g false e = (let more = counted_more (λ h. h == g) f os ns i in let none : one (f == g) ≡ 0 = ap one e in let old = fine.once g in omega (arith, more, none, old))
+    once g true e =
+        let same : f ≡ g = grind (arith, nat_tests) in
+        let P : ℕ → Type 0 = λ k. is_listed k os ≡ false in
+        let more = counted_more (λ h. h == g) f os ns i in
+        let some : one (f == g) ≡ 1 = ap one e in
+        let old = none_listed g os (subst P same clear) in
+        omega (arith, more, some, old)
+    apart : (g : ℕ) (t : Bool) → (f == g) ≡ t → is_listed g ns ≡ true → in_frame g ps ≡ []
+    apart g true e h = (let same : f ≡ g = grind (arith, nat_tests) in let P : ℕ → Type 0 = λ k. in_frame k ps ≡ [] in subst P same none)
+    apart g false e h = fine.apart g (or_nothing (is_listed g os) ∙ ap (λ b. is_listed g os || b) (sym e) ∙ sym (listed_more (λ h. h == g) f os ns i) ∙ h)
+
+pub frames_fewer : (n : ℕ) (ps : List Place) (os ns : List ℕ) (f : ℕ) → AreFrames n ps os → Inserted f ns os → AreFrames n ps ns
+frames_fewer n ps os ns f fine i = frames_listed n ps os ns fine (all_fewer (λ f. f < n) f ns os i fine.below) once
+    (λ g h. fine.apart g (listed_more (λ h. h == g) f ns os i ∙ ap (λ b. b || (f == g)) h))
+  where
+    once : (g : ℕ) → count_by (λ h. h == g) ns ≤ 1
+    once g = (let more = counted_more (λ h. h == g) f ns os i in let old = fine.once g in omega (arith, more, old))

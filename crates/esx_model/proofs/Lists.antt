@@ -1,5 +1,5 @@
 -- Lists: what differs at one place, tables of a function, and what holds of each element.
-use Rattle.std.proofs.Common.{zero, suc, ◌≡◌, ◌≢◌, ℕ, ◌+◌, ◌<◌, Bool, true, false, ◌||◌, not, List, [], ◌∷◌, ◌++◌, length, length-append, map, get_or, set, take, drop, count_by, refl, sym, ap, ◌∙◌, append_assoc, arith, cond, Option, Some, None, inl, inr, ◌⊎◌, ◌==◌}
+use Rattle.std.proofs.Common.{zero, suc, ◌≡◌, ◌≢◌, ℕ, ◌+◌, ◌<◌, Bool, true, false, ◌||◌, not, List, [], ◌∷◌, ◌++◌, length, length-append, map, get_or, set, take, drop, count_by, refl, sym, ap, ◌∙◌, append_assoc, arith, cond, Option, Some, None, inl, inr, ◌⊎◌, ◌==◌, subst}
 use Rattle.std.proofs.lemmas.List.{get_or-set_same, get_or-set_other, length-set}
 use Rattle.std.proofs.lemmas.List.FromFn.{fill_by_all, length-map-range_with_len, get_or-map-range_with_len}
 use Rattle.std.proofs.lemmas.Bool.{cases_eq}
@@ -8,6 +8,8 @@ use Rattle.std.specs.List.{flat_map, filter, list_any, AllByRecursion, range_wit
 use Rattle.std.proofs.lemmas.List.{set_split}
 use Rattle.std.proofs.lemmas.Grind.{common_steps, flat_map-append}
 use Rattle.std.proofs.lemmas.List.Elements.{filter-append}
+use Rattle.std.proofs.lemmas.List.Folds.{list_any-append}
+use Rattle.std.proofs.lemmas.List.Sums.{sum_by-append, sum_by-cons}
 
 -- xs has x where ys has y, and else they are one
 pub record Changed {X : Type 0} (x y : X) (xs ys : List X) : Type 0 where
@@ -208,3 +210,91 @@ pub some_below : {X : Type 0} (xs : List (Option X)) (n : ℕ) (x : X) → get_o
 some_below [] n x h = cc
 some_below (o ∷ os) zero x h = omega arith
 some_below (o ∷ os) (suc n) x h = let below = some_below os n x h in omega arith
+
+-- what one element adds to a count
+abbrev pub one : Bool → ℕ
+one b = cond b 1 0
+
+-- One element more.
+
+pub record Inserted {X : Type 0} (x : X) (xs ys : List X) : Type 0 where
+  pub front : List X
+  pub back : List X
+  pub before : xs ≡ front ++ back
+  pub after : ys ≡ front ++ x ∷ back
+
+-- a part that has one more at its end
+pub inserted_inside : {A X : Type 0} (h : A → List X) (a b : A) (xs ys : List A) (x : X) → Changed a b xs ys → h b ≡ h a ++ x ∷ [] → Inserted x (flat_map h xs) (flat_map h ys)
+inserted_inside {X = X} h a b xs ys x outer more = record {
+  front = flat_map h outer.front ++ h a;
+  back = flat_map h outer.back;
+  before = ap (flat_map h) outer.before ∙ flat_map-append h outer.front (a ∷ outer.back) ∙ simp append_assoc;
+  after = ap (flat_map h) outer.after ∙ flat_map-append h outer.front (b ∷ outer.back) ∙ ap (λ (m : List X). flat_map h outer.front ++ (m ++ flat_map h outer.back)) more ∙ simp append_assoc;
+}
+
+pub listed_more : (p : ℕ → Bool) (x : ℕ) (xs ys : List ℕ) → Inserted x xs ys → list_any p ys ≡ (list_any p xs || p x)
+listed_more p x xs ys i =
+    ap (list_any p) i.after ∙ list_any-append p i.front (x ∷ i.back) ∙ swapped (list_any p i.front) (p x) (list_any p i.back)
+    ∙ ap (λ b. b || p x) (sym (ap (list_any p) i.before ∙ list_any-append p i.front i.back))
+  where
+    swapped : (a b c : Bool) → (a || (b || c)) ≡ ((a || c) || b)
+    swapped true b c = refl
+    swapped false true true = refl
+    swapped false true false = refl
+    swapped false false true = refl
+    swapped false false false = refl
+
+pub counted_more : (p : ℕ → Bool) (x : ℕ) (xs ys : List ℕ) → Inserted x xs ys → count_by p ys ≡ count_by p xs + cond (p x) 1 0
+counted_more p x xs ys i =
+    let f = λ (y : ℕ). cond (p y) 1 0 in
+    let after = ap (count_by p) i.after in
+    let before = ap (count_by p) i.before in
+    let split = sum_by-append f i.front (x ∷ i.back) in
+    let whole = sum_by-append f i.front i.back in
+    let more = sum_by-cons f x i.back in
+    omega (arith, after, before, split, whole, more)
+
+pub all_more : (P : ℕ → Type 0) (x : ℕ) (xs ys : List ℕ) → Inserted x xs ys → P x → AllByRecursion P xs → AllByRecursion P ys
+all_more P x xs ys i p h =
+    let Q : List ℕ → Type 0 = AllByRecursion P in
+    let parts = subst Q i.before h in
+    subst Q (sym i.after) (all_append P i.front (x ∷ i.back) (all_front P i.front i.back parts) (p, all_back P i.front i.back parts))
+
+pub all_fewer : (P : ℕ → Type 0) (x : ℕ) (xs ys : List ℕ) → Inserted x xs ys → AllByRecursion P ys → AllByRecursion P xs
+all_fewer P x xs ys i h =
+    let Q : List ℕ → Type 0 = AllByRecursion P in
+    let parts = subst Q i.after h in
+    subst Q (sym i.before) (all_append P i.front i.back (all_front P i.front (x ∷ i.back) parts) (all_back P i.front (x ∷ i.back) parts).1)
+
+pub none_listed : (f : ℕ) (xs : List ℕ) → list_any (λ g. g == f) xs ≡ false → count_by (λ g. g == f) xs ≡ 0
+none_listed f [] h = refl
+none_listed f (x ∷ xs) h =
+    let parts = or_false (x == f) (list_any (λ g. g == f) xs) h in
+    let more = sum_by-cons (λ y. cond (y == f) 1 0) x xs in
+    let none : one (x == f) ≡ 0 = ap one parts.0 in
+    let rest = none_listed f xs parts.1 in
+    omega (arith, more, none, rest)
+
+none_counted_one : {X : Type 0} (p q : X → Bool) (x : X) (xs : List X) → ((x : X) → q x ≡ true → p x ≡ true) → count_by p (x ∷ xs) ≡ 0 → (count_by p xs ≡ 0 → filter q xs ≡ []) → (b : Bool) → q x ≡ b → filter q (x ∷ xs) ≡ []
+none_counted_one p q x xs within h rest false e =
+    let more = sum_by-cons (λ y. cond (p y) 1 0) x xs in
+    let tail : count_by p xs ≡ 0 = omega arith in
+    ap (λ b. cond b (x ∷ filter q xs) (filter q xs)) e ∙ rest tail
+none_counted_one p q x xs within h rest true e =
+    absurd (let more = sum_by-cons (λ y. cond (p y) 1 0) x xs in let some : one (p x) ≡ 1 = ap one (within x e) in omega (arith, more, some, h))
+
+-- nothing passes where none is counted
+pub none_counted : {X : Type 0} (p q : X → Bool) (xs : List X) → ((x : X) → q x ≡ true → p x ≡ true) → count_by p xs ≡ 0 → filter q xs ≡ []
+none_counted p q [] within h = refl
+none_counted p q (x ∷ xs) within h = none_counted_one p q x xs within h (λ t. none_counted p q xs within t) (q x) refl
+
+pub flipped : {X : Type 0} (x y : X) (xs ys : List X) → Changed x y xs ys → Changed y x ys xs
+flipped x y xs ys h = record { front = h.front; back = h.back; before = h.after; after = h.before }
+
+filter_parts : {A X : Type 0} (q : X → Bool) (h : A → List X) (xs : List A) → filter q (flat_map h xs) ≡ flat_map (λ a. filter q (h a)) xs
+filter_parts q h [] = refl
+filter_parts {X = X} q h (x ∷ xs) = filter-append q (h x) (flat_map h xs) ∙ ap (λ (m : List X). filter q (h x) ++ m) (filter_parts q h xs)
+
+-- a part with as many that pass leaves all that pass
+pub filter_inside : {A X : Type 0} (q : X → Bool) (h : A → List X) (a b : A) (xs ys : List A) → Changed a b xs ys → filter q (h a) ≡ filter q (h b) → filter q (flat_map h ys) ≡ filter q (flat_map h xs)
+filter_inside q h a b xs ys ch same = filter_parts q h ys ∙ same_inside (λ a. filter q (h a)) a b xs ys ch same ∙ sym (filter_parts q h xs)

@@ -12,10 +12,7 @@ use Rattle.esx_model.specs.Places.{is_here, is_out, is_lent_in}
 use Rattle.esx_model.specs.Site.{place_at, resident, paged_out, lent}
 use Rattle.esx_model.specs.Hints.{with_place}
 use Rattle.esx_model.specs.sound.Machines.{IsVm, IsPlace, FitsState}
-use Rattle.esx_model.proofs.Lists.{all_set, all_at}
-
-abbrev pub one : Bool → ℕ
-one b = cond b 1 0
+use Rattle.esx_model.proofs.Lists.{one, all_set, all_at}
 
 -- so many pages pass a test after one of them went to another place
 pub count_placed : (p : Place → Bool) (v : Vm) (page : ℕ) (q : Place) → page < length v.places → count_by p (with_place page q v).places + one (p (place_at v page)) ≡ count_by p v.places + one (p q)

@@ -18,7 +18,8 @@ use Rattle.esx_model.specs.event.Balloon.{is_lent, popped, unless_due, lend_gate
 use Rattle.esx_model.specs.sound.Machines.{IsVm, IsPlace}
 use Rattle.esx_model.specs.sound.Sound.{IsSound}
 use Rattle.esx_model.proofs.Lists.{all_map, chosen}
-use Rattle.esx_model.proofs.Machines.{fits_as, running_fits, not_out, not_lent, lent_placed, one, most_one}
+use Rattle.esx_model.proofs.Lists.{one}
+use Rattle.esx_model.proofs.Machines.{fits_as, running_fits, not_out, not_lent, lent_placed, most_one}
 use Rattle.esx_model.proofs.Kept.{Becomes, row_only, placed_sound}
 use Rattle.esx_model.proofs.Rooms.{room_nowhere, room_lent}
 use Rattle.esx_model.proofs.Gates.{of_vm, passed, gives, accepted, not_not, runs}
