@@ -298,3 +298,7 @@ filter_parts {X = X} q h (x ∷ xs) = filter-append q (h x) (flat_map h xs) ∙ 
 -- a part with as many that pass leaves all that pass
 pub filter_inside : {A X : Type 0} (q : X → Bool) (h : A → List X) (a b : A) (xs ys : List A) → Changed a b xs ys → filter q (h a) ≡ filter q (h b) → filter q (flat_map h ys) ≡ filter q (flat_map h xs)
 filter_inside q h a b xs ys ch same = filter_parts q h ys ∙ same_inside (λ a. filter q (h a)) a b xs ys ch same ∙ sym (filter_parts q h xs)
+
+pub all_middle : {X : Type 0} (P : X → Type 0) (fs bs : List X) (x : X) → AllByRecursion P (fs ++ x ∷ bs) → P x
+all_middle P [] bs x h = h.0
+all_middle P (f ∷ fs) bs x h = all_middle P fs bs x h.1

@@ -6,3 +6,4 @@ pub mod Gone
 pub mod Access
 pub mod Starting
 pub mod Admission
+pub mod Sharing
