@@ -302,3 +302,10 @@ filter_inside q h a b xs ys ch same = filter_parts q h ys ∙ same_inside (λ a.
 pub all_middle : {X : Type 0} (P : X → Type 0) (fs bs : List X) (x : X) → AllByRecursion P (fs ++ x ∷ bs) → P x
 all_middle P [] bs x h = h.0
 all_middle P (f ∷ fs) bs x h = all_middle P fs bs x h.1
+
+pub find_in : {X : Type 0} (p : X → Bool) (xs : List X) (x : X) → find p xs ≡ Some x → (front : List X) × (back : List X) × (xs ≡ front ++ x ∷ back)
+find_in p [] x h = cc
+find_in {X = X} p (y ∷ ys) x h = elim (chosen (p y) (Some y) (find p ys) (Some x) h) [
+  | inl w ↦ ([], ys, (let e = w.1 in cc))
+  | inr w ↦ (let rest = find_in p ys x w.1 in (y ∷ rest.0, rest.1, ap (λ (m : List X). y ∷ m) rest.2))
+]

@@ -1,18 +1,19 @@
 -- What a machine keeps where one of its pages goes to another place.
-use Rattle.std.proofs.Common.{◌≡◌, ◌≢◌, ℕ, ◌+◌, ◌-◌, ◌≤◌, ◌<◌, Bool, true, false, length, set, count_by, sum_by, refl, sym, ap, ◌∙◌, arith, cond, None, subst}
+use Rattle.std.proofs.Common.{zero, [], ◌≡◌, ◌≢◌, ℕ, ◌+◌, ◌-◌, ◌≤◌, ◌<◌, Bool, true, false, length, set, count_by, sum_by, refl, sym, ap, ◌∙◌, arith, cond, None, subst, List, ◌∷◌, get_or, slice_get, Some, suc, ◌%◌}
 use Rattle.std.proofs.lemmas.List.{length-set}
-use Rattle.std.proofs.lemmas.List.Sums.{sum_by-set}
+use Rattle.std.proofs.lemmas.List.Sums.{sum_by-set, sum_by-cons}
 use Rattle.esx_types.specs.declared.config.Config.{Config}
 use Rattle.esx_types.specs.declared.vm.VmState.{VmState}
 use Rattle.esx_types.specs.declared.vm.VmState.TheVariants.{Starting, Running, Stopping}
 use Rattle.esx_model.specs.declared.scene.Place.{Place}
-use Rattle.esx_model.specs.declared.scene.Place.TheVariants.{Untouched}
+use Rattle.esx_model.specs.declared.scene.Place.TheVariants.{Untouched, Here, Out, Lent}
 use Rattle.esx_model.specs.declared.scene.Vm.{Vm}
 use Rattle.esx_model.specs.Places.{is_here, is_out, is_lent_in}
-use Rattle.esx_model.specs.Site.{place_at, resident, paged_out, lent}
+use Rattle.esx_model.specs.Site.{place_at, resident, paged_out, lent, here_from}
 use Rattle.esx_model.specs.Hints.{with_place}
 use Rattle.esx_model.specs.sound.Machines.{IsVm, IsPlace, FitsState}
 use Rattle.esx_model.proofs.Lists.{one, all_set, all_at}
+use Rattle.esx_model.specs.event.Paging.{victim}
 
 -- so many pages pass a test after one of them went to another place
 pub count_placed : (p : Place → Bool) (v : Vm) (page : ℕ) (q : Place) → page < length v.places → count_by p (with_place page q v).places + one (p (place_at v page)) ≡ count_by p v.places + one (p q)
@@ -82,3 +83,44 @@ not_lent c v page q fine within e =
 pub most_one : (b : Bool) → one b ≤ 1
 most_one true = omega arith
 most_one false = omega arith
+
+-- pages here and out are different pages
+pub apart_counts : (ps : List Place) → count_by is_here ps + count_by is_out ps ≤ length ps
+apart_counts [] = omega arith
+apart_counts (p ∷ ps) =
+    let here = sum_by-cons (λ x. cond (is_here x) 1 0) p ps in
+    let out = sum_by-cons (λ x. cond (is_out x) 1 0) p ps in
+    let both = at_most_one p in
+    let rest = apart_counts ps in
+    omega (arith, here, out, both, rest)
+  where
+    at_most_one : (p : Place) → one (is_here p) + one (is_out p) ≤ 1
+    at_most_one Untouched = omega arith
+    at_most_one (Here bytes f shared) = omega arith
+    at_most_one (Out bytes i) = omega arith
+    at_most_one (Lent e) = omega arith
+
+-- the page that a word draws is here
+
+abbrev IsDrawn : ℕ → List Place → ℕ → Type 0
+IsDrawn i ps q = (j : ℕ) × (q ≡ i + j) × (j < length ps) × (is_here (get_or ps j Untouched) ≡ true)
+
+drawn_later : (i : ℕ) (p : Place) (ps : List Place) (q : ℕ) → IsDrawn (i + 1) ps q → IsDrawn i (p ∷ ps) q
+drawn_later i p ps q r = (suc r.0, omega (arith, r.1), omega (arith, r.2), r.3)
+
+drawn_one : (i : ℕ) (p : Place) (ps : List Place) (q : ℕ) (b : Bool) → is_here p ≡ b → ((k : ℕ) → slice_get (here_from (i + 1) ps) k ≡ Some q → IsDrawn (i + 1) ps q)
+    → (k : ℕ) → slice_get (cond b (i ∷ here_from (i + 1) ps) (here_from (i + 1) ps)) k ≡ Some q → IsDrawn i (p ∷ ps) q
+drawn_one i p ps q true e rest zero h = (zero, (let d : i ≡ q = cc in omega (arith, d)), omega arith, e)
+drawn_one i p ps q true e rest (suc k) h = drawn_later i p ps q (rest k h)
+drawn_one i p ps q false e rest k h = drawn_later i p ps q (rest k h)
+
+drawn_from : (i : ℕ) (ps : List Place) (k q : ℕ) → slice_get (here_from i ps) k ≡ Some q → IsDrawn i ps q
+drawn_from i [] k q h = cc
+drawn_from i (p ∷ ps) k q h = drawn_one i p ps q (is_here p) refl (λ j e. drawn_from (i + 1) ps j q e) k h
+
+pub drawn_is_here : (v : Vm) (word q : ℕ) → victim v word ≡ Some q → (q < length v.places) × (is_here (place_at v q) ≡ true)
+drawn_is_here v word q h =
+    let d = drawn_from 0 v.places (word % resident v) q h in
+    let same : q ≡ d.0 = omega (arith, d.1) in
+    let P : ℕ → Type 0 = λ k. (k < length v.places) × (is_here (get_or v.places k Untouched) ≡ true) in
+    subst P (sym same) (d.2, d.3)

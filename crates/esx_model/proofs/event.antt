@@ -7,3 +7,4 @@ pub mod Access
 pub mod Starting
 pub mod Admission
 pub mod Sharing
+pub mod Paging

@@ -24,8 +24,7 @@ use Rattle.esx_model.specs.sound.Frames.{AreFrames}
 use Rattle.esx_model.specs.sound.Sound.{IsSound}
 use Rattle.esx_model.proofs.Lists.{Changed, changed_by_set, Inserted, inserted_inside, same_inside, filter_inside, flipped, none_counted, some_below, chosen, one}
 use Rattle.esx_model.proofs.FramesKept.{frames_same, frames_fewer}
-use Rattle.esx_model.proofs.HintsKept.{hints_stay}
-use Rattle.esx_model.proofs.HintsStay.{hints_where}
+use Rattle.esx_model.proofs.HintsKept.{hints_stay, hints_where}
 use Rattle.esx_model.proofs.Kept.{Becomes, conclude, vm_changed, places_same, place_changed}
 use Rattle.esx_model.proofs.Gates.{of_vm, passed, gives, accepted, not_not, stops}
 

@@ -32,7 +32,7 @@ use Rattle.esx_model.specs.sound.Machines.{IsVm, IsPlace, FitsState}
 use Rattle.esx_model.specs.sound.Frames.{AreFrames, key_of_row}
 use Rattle.esx_model.specs.sound.Hints.{AreHints}
 use Rattle.esx_model.specs.sound.Sound.{IsSound}
-use Rattle.esx_model.proofs.Lists.{all_append, all_middle, chosen, some_below, one, find_passes, all_map}
+use Rattle.esx_model.proofs.Lists.{all_append, all_middle, chosen, some_below, one, find_passes, find_in, all_map}
 use Rattle.esx_model.proofs.Machines.{not_out, not_lent, old_place}
 use Rattle.esx_model.proofs.HintsKept.{hints_more, other_hint_private, key_small}
 use Rattle.esx_model.proofs.Kept.{placed_sound, placed_is, page_is_in, vm_placed_there}
@@ -42,13 +42,6 @@ use Rattle.esx_model.proofs.event.Balloon.{past_start, below_max}
 use Rattle.esx_types.specs.declared.vm.VmSpec.{VmSpec}
 
 -- What is found among the pages of a site.
-
-pub find_in : {X : Type 0} (p : X → Bool) (xs : List X) (x : X) → find p xs ≡ Some x → (front : List X) × (back : List X) × (xs ≡ front ++ x ∷ back)
-find_in p [] x h = cc
-find_in {X = X} p (y ∷ ys) x h = elim (chosen (p y) (Some y) (find p ys) (Some x) h) [
-  | inl w ↦ ([], ys, (let e = w.1 in cc))
-  | inr w ↦ (let rest = find_in p ys x w.1 in (y ∷ rest.0, rest.1, ap (λ (m : List X). y ∷ m) rest.2))
-]
 
 pub none_filtered : {X : Type 0} (p q : X → Bool) (xs : List X) → find p xs ≡ None → find p (filter q xs) ≡ None
 none_filtered p q [] h = refl
