@@ -2,7 +2,6 @@
 use Rattle.std.proofs.Common.{◌≡◌, ◌≢◌, ℕ, zero, suc, ◌+◌, ◌*◌, ◌<◌, ◌≤◌, ◌^◌, Bool, true, false, not, ◌&&◌, ◌||◌, nat_le, List, [], ◌∷◌, ◌++◌, length, take, refl, sym, ap, ◌∙◌, subst, arith, cond, Option, Some, None, ◌==◌}
 use Rattle.std.specs.List.{filter, find, fold, AllByRecursion}
 use Rattle.std.proofs.lemmas.Bool.Decides.{nat_tests}
-use Rattle.esx_formulas.specs.Key.{content_key, from_bytes}
 use Rattle.esx_model.specs.declared.scene.Hint.{Hint}
 use Rattle.esx_model.specs.declared.scene.Place.{Place}
 use Rattle.esx_model.specs.Places.{is_private}
@@ -225,6 +224,3 @@ other_hint_private at key n page hints h fine found =
     both true false h = (refl, refl)
     both false true h = cc
     both false false h = cc
-
-pub key_small : (bytes : List ℕ) → content_key bytes < 2 ^ 64
-key_small bytes = ?

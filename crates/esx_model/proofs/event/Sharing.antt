@@ -34,7 +34,8 @@ use Rattle.esx_model.specs.sound.Hints.{AreHints}
 use Rattle.esx_model.specs.sound.Sound.{IsSound}
 use Rattle.esx_model.proofs.Lists.{all_append, all_middle, chosen, some_below, one, find_passes, find_in, all_map}
 use Rattle.esx_model.proofs.Machines.{not_out, not_lent, old_place}
-use Rattle.esx_model.proofs.HintsKept.{hints_more, other_hint_private, key_small}
+use Rattle.esx_model.proofs.HintsKept.{hints_more, other_hint_private}
+use Rattle.esx_model.proofs.Keys.{key_small}
 use Rattle.esx_model.proofs.Kept.{placed_sound, placed_is, page_is_in, vm_placed_there}
 use Rattle.esx_model.proofs.Rooms.{Room, IsIn, room_to_share, room_shared, private_alone, row_here, shared_row, apart_frames}
 use Rattle.esx_model.proofs.Gates.{of_vm, passed, gives, accepted, not_not, runs}
