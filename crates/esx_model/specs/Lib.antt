@@ -15,3 +15,4 @@ pub mod WhatIf
 pub mod Console
 pub mod Alone
 pub mod Tables
+pub mod Moved

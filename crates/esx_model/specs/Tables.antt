@@ -24,7 +24,7 @@ use Rattle.esx_model.specs.declared.tables.VmFacts.{VmFacts}
 use Rattle.esx_model.specs.declared.tables.VmTable.{VmTable}
 use Rattle.esx_model.specs.declared.tables.Tables.{Tables}
 use Rattle.esx_model.specs.Places.{is_here_at}
-use Rattle.esx_model.specs.Site.{vm_at, place_in, resident, paged_out, lent}
+use Rattle.esx_model.specs.Site.{place_of, resident, paged_out, lent}
 use Rattle.esx_model.specs.Hints.{in_order}
 use Rattle.esx_model.specs.Show.{frame_row, frame_rows, slot_rows, period_row, with_key}
 
@@ -68,7 +68,7 @@ standing_of v = record { spec = v.facts.spec; state = v.facts.state; target = v.
 
 -- the hint's page is in frame f
 abbrev pub is_hint_in : Site → ℕ → Hint → Bool
-is_hint_in s f h = is_here_at f (place_in (vm_at s h.vm) h.page)
+is_hint_in s f h = is_here_at f (place_of s h.vm h.page)
 
 abbrev pub hint_listing : Option Hint → Listing
 hint_listing None = listings.Unlisted
