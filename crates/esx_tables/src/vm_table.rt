@@ -62,7 +62,8 @@ impl VmTable {
             VmPart::Touched { mark } => turn_touched(&mut fields.period, *mark),
             VmPart::Averages { averages } => mem::swap(&mut fields.averages, averages),
             VmPart::OverheadTop { frame } => {
-                trade_top(&mut fields.overhead, fields.spec.overhead, frame)
+                let room = fields.spec.overhead;
+                trade_top(&mut fields.overhead, room, frame);
             }
         }
     }
