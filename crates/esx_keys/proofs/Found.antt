@@ -6,7 +6,7 @@ use Rattle.std.proofs.Math.ListN.{get_or-eq_default}
 use Rattle.esx_lists.proofs.Positions.{none_passes, first_found}
 use Rattle.esx_types.specs.declared.table.Listing.{Listing}
 use Rattle.esx_types.specs.declared.table.Listing.TheVariants.{Unlisted, Shared, Hinted}
-use Rattle.esx_keys.specs.Listed.{listing_at, is_shared_under, is_hinted_under, IsSharedUnder, IsHintedUnder}
+use Rattle.esx_types.specs.Listings.{listing_at, is_shared_under, is_hinted_under, IsSharedUnder, IsHintedUnder}
 
 shared_is : (key : ℕ) (x : Listing) → is_shared_under key x ≡ true → IsSharedUnder key x
 shared_is key Unlisted e = false≢true e

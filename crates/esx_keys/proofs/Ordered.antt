@@ -7,7 +7,7 @@ use Rattle.std.specs.List.{filter}
 use Rattle.std.specs.List.Sorted.{IsSortedByKey, IsStableByKey, IsNonDecreasingBy, ties}
 use Rattle.std.specs.Ordering.{nat_cmp, is_lt}
 use Rattle.std.proofs.lemmas.List.Sorted.{IsNonDecreasingBy-from_sort}
-use Rattle.esx_keys.specs.Listed.{with_placed, in_order}
+use Rattle.esx_types.specs.Listings.{with_placed, in_order}
 
 -- neither of two elements comes before the other by its key
 abbrev level : {X : Type 0} → (X → ℕ) → X → X → Bool

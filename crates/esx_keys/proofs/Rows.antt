@@ -3,7 +3,7 @@ use Rattle.std.proofs.Common.{◌≡◌, ℕ, zero, suc, ◌+◌, ◌<◌, List,
 use Rattle.std.specs.List.{cons_option}
 use Rattle.esx_types.specs.declared.table.Listing.{Listing}
 use Rattle.esx_types.specs.declared.table.KeyRow.{KeyRow}
-use Rattle.esx_keys.specs.Listed.{shared_row, shared_from}
+use Rattle.esx_types.specs.Listings.{shared_row, shared_from}
 
 cons_option-append : {X : Type 0} (o : Option X) (xs ys : List X) → cons_option o (xs ++ ys) ≡ cons_option o xs ++ ys
 cons_option-append None xs ys = refl

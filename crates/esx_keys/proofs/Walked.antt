@@ -9,7 +9,7 @@ use Rattle.esx_keys.specs.declared.index.Index.{Index}
 use Rattle.esx_keys.specs.declared.entry.Kind.{Kind}
 use Rattle.esx_keys.specs.declared.entry.Kind.TheVariants.{Shared as SharedKind, Hint as HintKind}
 use Rattle.esx_keys.specs.Chains.{Leads}
-use Rattle.esx_keys.specs.Listed.{listing_at}
+use Rattle.esx_types.specs.Listings.{listing_at}
 use Rattle.esx_keys.specs.Index.{is_under, chain_of, chain_in, IsIndex}
 
 -- no frame before this one is what is looked for, and this one is in its chain

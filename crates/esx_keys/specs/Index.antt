@@ -7,7 +7,7 @@ use Rattle.esx_keys.specs.declared.entry.Kind.{Kind}
 use Rattle.esx_keys.specs.declared.entry.Kind.TheVariants.{Shared as SharedKind, Hint as HintKind}
 use Rattle.esx_keys.specs.declared.index.Index.{Index}
 use Rattle.esx_keys.specs.Chains.{IsChained, link_at}
-use Rattle.esx_keys.specs.Listed.{listing_at, is_shared_under, is_hinted_under}
+use Rattle.esx_types.specs.Listings.{listing_at, is_shared_under, is_hinted_under}
 
 -- what a look-up of a kind looks for
 abbrev pub is_under : Kind → ℕ → Listing → Bool

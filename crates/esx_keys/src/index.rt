@@ -4,7 +4,7 @@ ghost use Rattle.std.specs.Prelude.{◌≡◌, ◌<◌, ℕ, Option, Some, None,
 ghost use Rattle.std.specs.Int.{IsPowerOfTwo};
 ghost use Rattle.std.specs.List.{position_from};
 ghost use Rattle.esx_types.specs.declared.table.Listing.TheVariants.{Unlisted};
-ghost use Rattle.esx_keys.specs.Listed.{listing_at};
+ghost use Rattle.esx_types.specs.Listings.{listing_at};
 ghost use Rattle.esx_keys.specs.Chains.{AreApart, IsBefore, IsMoved, IsChained};
 ghost use Rattle.esx_keys.specs.Index.{is_under, chain_of, chain_in, link_in, IsIndex, SameSizes};
 

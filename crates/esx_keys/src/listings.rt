@@ -5,7 +5,7 @@ ghost use Rattle.std.specs.List.{position_from};
 ghost use Rattle.esx_types.specs.declared.table.Listing.TheVariants.{Unlisted};
 ghost use Rattle.esx_types.specs.declared.table.KeyRow.{KeyRow};
 ghost use Rattle.esx_types.specs.declared.table.Hint.{Hint};
-ghost use Rattle.esx_keys.specs.Listed.{listing_at, is_shared_under, is_hinted_under, IsSharedUnder, IsHintedUnder, shared_from, hints_of, in_order};
+ghost use Rattle.esx_types.specs.Listings.{listing_at, is_shared_under, is_hinted_under, IsSharedUnder, IsHintedUnder, shared_from, hints_of, in_order};
 
 use crate::entry::Kind;
 use crate::index::Index;

@@ -3,7 +3,7 @@
 ghost use Rattle.std.specs.Prelude.{◌≡◌, ◌<◌, ◌^◌, IfOk, length};
 ghost use Rattle.esx_types.specs.declared.table.KeyRow.{KeyRow};
 ghost use Rattle.esx_types.specs.declared.table.Hint.{Hint};
-ghost use Rattle.esx_keys.specs.Listed.{shared_row, hint_row, shared_from, hints_of, in_order};
+ghost use Rattle.esx_types.specs.Listings.{shared_row, hint_row, shared_from, hints_of, in_order};
 
 use esx_types::{Hint, KeyRow, Listing, Rows};
 use std::alloc::{AllocError, Global};

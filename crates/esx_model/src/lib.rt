@@ -9,4 +9,4 @@ pub mod tables;
 pub use book::{Book, Mark, PeriodRow, VmRow};
 pub use look::{Look, Standing};
 pub use scene::{Place, Scene, Site, Vm};
-pub use tables::{Tables, VmFacts, VmTable};
+pub use tables::Tables;

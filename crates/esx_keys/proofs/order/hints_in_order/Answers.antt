@@ -1,7 +1,7 @@
 use Rattle.std.proofs.Common.{rules, ap, ◌∙◌}
 use Rattle.std.proofs.lemmas.List.Sorted.{answers_always}
 use Rattle.esx_types.specs.declared.table.Hint.{Hint}
-use Rattle.esx_keys.specs.Listed.{in_order}
+use Rattle.esx_types.specs.Listings.{in_order}
 use Rattle.esx_keys.proofs.Ordered.{in_order-from_sort}
 use Rattle.esx_keys.proofs.order.hints_in_order.Goals as goal
 

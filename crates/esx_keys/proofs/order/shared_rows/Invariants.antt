@@ -1,5 +1,5 @@
 use Rattle.std.proofs.Common.{◌≡◌, take}
-use Rattle.esx_keys.specs.Listed.{shared_from}
+use Rattle.esx_types.specs.Listings.{shared_from}
 use Rattle.esx_keys.proofs.order.shared_rows.Given as goal
 
 abbrev pub invariant-loop-frame : goal.invariant-loop-frame

@@ -2,7 +2,7 @@ use Rattle.std.proofs.Common.{◌≡◌, ◌%◌, ◌<◌, false, true, length, 
 use Rattle.std.proofs.lemmas.List.{get_or_read}
 use Rattle.std.proofs.lemmas.Nat.{pow_pos}
 use Rattle.esx_types.specs.declared.table.Listing.TheVariants.{Unlisted}
-use Rattle.esx_keys.specs.Listed.{listing_at}
+use Rattle.esx_types.specs.Listings.{listing_at}
 use Rattle.esx_keys.specs.Index.{is_under}
 use Rattle.esx_keys.proofs.Walked.{walk_starts, walk_goes_on, walk_finds, walk_ends}
 use Rattle.esx_keys.proofs.index.Index.find.Goals as goal

@@ -1,0 +1,5 @@
+pub use Rattle.esx_model.specs.Tables
+pub use Rattle.esx_lists.specs.Trades
+pub mod Machines
+pub mod Fields
+pub mod Changes
