@@ -11,7 +11,7 @@ use Rattle.esx_model.specs.declared.scene.Place.{Place}
 use Rattle.esx_model.specs.declared.scene.Place.TheVariants.{Untouched, Here, Out, Lent}
 use Rattle.esx_types.specs.declared.table.Listing.{Listing}
 use Rattle.esx_types.specs.declared.table.Listing.TheVariants as listings
-use Rattle.esx_model.specs.declared.tables.VmTable.{VmTable}
+use Rattle.esx_model.specs.declared.book.VmRow.{VmRow}
 use Rattle.esx_model.specs.declared.tables.Tables.{Tables}
 
 -- the row of a frame after one of its pages left
@@ -51,7 +51,7 @@ listing_for bytes true = listings.Shared (content_key bytes)
 abbrev pub listing_at : List Listing → ℕ → Listing
 listing_at rows f = slice_index_or rows f listings.Unlisted
 
-abbrev pub put_vm : Tables → ℕ → Option VmTable → Tables
+abbrev pub put_vm : Tables → ℕ → Option VmRow → Tables
 put_vm b n row = record b { vms = slice_set b.vms n row }
 
 abbrev pub put_frame : Tables → ℕ → FrameRow → Listing → Tables
