@@ -263,7 +263,7 @@ no_slot_on_the_way p q ps qs ch i none =
     filter_after (is_out_at i) p Untouched ps (between p q ps qs ch) (goes_off p q ps qs ch)
     ∙ none_either (is_out_at i p) p (filter (is_out_at i) ch.front) (filter (is_out_at i) ch.back) (sym (filter_before (is_out_at i) p q ps qs ch) ∙ none)
 
-one_left : {X : Type 0} (fs bs : List X) (x : X) → length (fs ++ x ∷ bs) ≤ 1 → fs ++ bs ≡ []
+pub one_left : {X : Type 0} (fs bs : List X) (x : X) → length (fs ++ x ∷ bs) ≤ 1 → fs ++ bs ≡ []
 one_left [] [] x h = refl
 one_left [] (b ∷ bs) x h = absurd (omega arith)
 one_left (f ∷ fs) bs x h = absurd (let e = length-append fs (x ∷ bs) in omega arith)

@@ -19,7 +19,7 @@ use Rattle.esx_model.specs.sound.Machines.{IsVm, IsPlace}
 use Rattle.esx_model.specs.sound.Frames.{AreFrames}
 use Rattle.esx_model.specs.sound.Hints.{AreHints}
 use Rattle.esx_model.specs.sound.Sound.{IsSound}
-use Rattle.esx_model.proofs.Lists.{Changed, changed_by_set, changed_inside, same_inside, some_below}
+use Rattle.esx_model.proofs.Lists.{Changed, changed_by_set, changed_inside, same_inside, some_below, set_again}
 use Rattle.esx_model.proofs.FramesKept.{FitsIn, between, page_moves}
 use Rattle.esx_model.proofs.HintsKept.{hints_placed, hints_stay}
 use Rattle.esx_model.proofs.Rooms.{Room, IsIn, is_in_changed}
@@ -162,3 +162,22 @@ page_is_in s n page v there within = is_in_changed (place_at v page) Untouched (
 pub vm_placed_there : (s : Site) (n page : ℕ) (v : Vm) (q : Place) → vm_at s n ≡ Some v → vm_at (placed s n page q) n ≡ Some (with_place page q v)
 vm_placed_there s n page v q there =
     ap (λ t. vm_at t n) (placed_is s n page v q there) ∙ get_or-set_same s.vms n (Some (with_place page q v)) None (some_below s.vms n v there)
+
+-- all pages of the site around the one that was placed
+pub placed_changed : (s : Site) (n page : ℕ) (v : Vm) (q : Place) → vm_at s n ≡ Some v → page < length v.places → Changed (place_at v page) q (all_places s) (all_places (placed s n page q))
+placed_changed s n page v q there within =
+    let P : Site → Type 0 = λ t. Changed (place_at v page) q (all_places s) (all_places t) in
+    subst P (sym (placed_is s n page v q there)) (page_changed s n page v q (hints_at n page q s.hints) there within)
+
+pub placed_overhead : (s : Site) (n page : ℕ) (v : Vm) (q : Place) → vm_at s n ≡ Some v → all_overhead (placed s n page q) ≡ all_overhead s
+placed_overhead s n page v q there = ap all_overhead (placed_is s n page v q there) ∙ overhead_same s n v (with_place page q v) (hints_at n page q s.hints) there refl
+
+-- the site with machine n at other places, and other hints
+abbrev pub site_at : Site → ℕ → Vm → List Place → List Hint → Site
+site_at s n v places hints = site_with s n (record v { places = places }) hints
+
+pub placed_at : (s : Site) (n k : ℕ) (v : Vm) (places : List Place) (hints : List Hint) (q : Place) → vm_at s n ≡ Some v → placed (site_at s n v places hints) n k q ≡ site_at s n v (set places k q) (hints_at n k q hints)
+placed_at s n k v places hints q there =
+    let w : Vm = record v { places = places } in
+    placed_is (site_at s n v places hints) n k w q (get_or-set_same s.vms n (Some w) None (some_below s.vms n v there))
+    ∙ ap (λ (vms : List (Option Vm)). record s { vms = vms; hints = hints_at n k q hints }) (set_again s.vms n (Some w) (Some (with_place k q w)))

@@ -8,3 +8,4 @@ pub mod Starting
 pub mod Admission
 pub mod Sharing
 pub mod Paging
+pub mod Replacing

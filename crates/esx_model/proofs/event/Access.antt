@@ -58,7 +58,7 @@ pub settled : (s : Site) (n page : ℕ) (a : Answer) (bytes : List ℕ) (shared 
 settled s n page a bytes shared None r h = cc
 settled s n page a bytes shared (Some f) r h = (f, refl, h)
 
-whole_page : (c : Config) (e : ℕ) (p : Place) → IsPlace c e p → length (contents c p) ≡ c.page
+pub whole_page : (c : Config) (e : ℕ) (p : Place) → IsPlace c e p → length (contents c p) ≡ c.page
 whole_page c e Untouched h = length-replicate c.page 0
 whole_page c e (Here bytes f shared) h = h.1
 whole_page c e (Out bytes i) h = h.1
