@@ -179,9 +179,9 @@ none_found p a zero f none below from = absurd (omega arith)
 none_found p a (suc n) f none below from = elim (chosen (p a) (Some a) (find p (range_with_len (a + 1) n)) None none) [
   | inl w ↦ cc
   | inr w ↦ elim (cases_eq f a) [
-      | inl e ↦ ap p e ∙ w.0
-      | inr other ↦ none_found p (a + 1) n f w.1 (omega arith) (omega arith)
-    ]
+    | inl e ↦ ap p e ∙ w.0
+    | inr other ↦ none_found p (a + 1) n f w.1 (omega arith) (omega arith)
+  ]
 ]
 
 not_false : (b : Bool) → not b ≡ false → b ≡ true

@@ -1,7 +1,8 @@
 -- What the reserves give to events: a page that has to go out finds a slot, and one that makes room is alone in its frame.
-use Rattle.std.proofs.Common.{◌≡◌, ℕ, ◌+◌, ◌-◌, ◌≤◌, ◌<◌, ◌%◌, Bool, true, false, ◌||◌, nat_lt, List, [], ◌∷◌, ◌++◌, length, length-append, refl, sym, ap, ◌∙◌, subst, arith, cond, Option, Some, None, Result, Ok}
+use Rattle.std.proofs.Common.{◌≡◌, ℕ, ◌+◌, ◌-◌, ◌≤◌, ◌<◌, Bool, true, false, ◌||◌, nat_lt, List, [], ◌∷◌, ◌++◌, length, length-append, refl, ap, ◌∙◌, subst, arith, cond, Option, Some, None, Result, Ok}
 use Rattle.std.specs.List.{filter, list_any}
 use Rattle.std.proofs.lemmas.Bool.Decides.{nat_tests}
+use Rattle.std.proofs.lemmas.List.{length-set}
 use Rattle.std.proofs.lemmas.List.Elements.{filter-append}
 use Rattle.esx_types.specs.declared.config.Config.{Config}
 use Rattle.esx_types.specs.declared.level.Level.{Level}
@@ -16,7 +17,7 @@ use Rattle.esx_model.specs.declared.scene.Vm.{Vm}
 use Rattle.esx_model.specs.declared.scene.Site.{Site}
 use Rattle.esx_model.specs.Places.{is_here, is_here_at, is_out, contents}
 use Rattle.esx_model.specs.Site.{vm_at, place_at, resident, paged_out, least_slot, free_count, pages_at, all_places}
-use Rattle.esx_model.specs.Show.{in_frame, pages_in}
+use Rattle.esx_model.specs.Show.{in_frame}
 use Rattle.esx_model.specs.Hints.{with_place, with_change, placed}
 use Rattle.esx_model.specs.event.Outcome.{Outcome, Gate, Passes, at_vm, unless, first, or_else, standing}
 use Rattle.esx_model.specs.event.Balloon.{popped}
@@ -29,7 +30,7 @@ use Rattle.esx_model.proofs.Machines.{out_placed, here_placed, apart_counts, dra
 use Rattle.esx_model.proofs.Rooms.{IsIn, pages_at_is}
 use Rattle.esx_model.proofs.Kept.{page_is_in}
 use Rattle.esx_model.proofs.Counting.{IsFull, slot_is_there, full_site, drawn}
-use Rattle.esx_model.proofs.Gates.{of_vm, passed}
+use Rattle.esx_model.proofs.Gates.{of_vm, passed, accepted}
 use Rattle.esx_model.proofs.event.Balloon.{below_max}
 
 -- a gate that nothing stops at
@@ -83,9 +84,11 @@ swap_out_goes c s level n word v sound there passes =
     let above = above_target c s level n v sound there passes in
     let slot = swap_out_finds_slot c s level n v sound there passes in
     let page = drawn v word (omega (arith, above)) in
-    let rest = leave_goes c s n v (victim v word) page.0 slot.0 page.1 slot.1 in
-    (rest.0, ap (λ o. at_vm o (λ w. unless (swap_out_gate level (standing w)) (leave c s n w (victim w word)))) there
-      ∙ passing (swap_out_gate level (standing v)) (leave c s n v (victim v word)) passes ∙ rest.1)
+    let rest = leave_goes c s n v (victim v word) page.0 slot.0 page.1 slot.1 in (
+      rest.0,
+      ap (λ o. at_vm o (λ w. unless (swap_out_gate level (standing w)) (leave c s n w (victim w word)))) there
+          ∙ passing (swap_out_gate level (standing v)) (leave c s n v (victim v word)) passes ∙ rest.1,
+    )
 
 -- A page makes room.
 
@@ -101,9 +104,9 @@ pub record IsWanted (c : Config) (s : Site) (page : ℕ) (v : Vm) : Type 0 where
 
 pub wanted : (c : Config) (s : Site) (page : ℕ) (v : Vm) → Passes (gate_of c s page v) → IsWanted c s page v
 wanted c s page v passes =
-    let parts = or_false (is_here (place_at v page)) (nat_lt 0 (free_count c.frames s) || list_any is_above_min s.vms) passes.1.1.0 in
-    let more = or_false (nat_lt 0 (free_count c.frames s)) (list_any is_above_min s.vms) parts.1 in
-    record { below = below_max v.spec.max page passes.1.0; away = parts.0; none = no_more (free_count c.frames s) more.0; few = more.1 }
+    let parts = or_false (is_here (place_at v page) || nat_lt 0 (free_count c.frames s)) (list_any is_above_min s.vms) passes.1.1.0 in
+    let more = or_false (is_here (place_at v page)) (nat_lt 0 (free_count c.frames s)) parts.0 in
+    record { below = below_max v.spec.max page passes.1.0; away = more.0; none = no_more (free_count c.frames s) more.1; few = parts.1 }
   where
     no_more : (k : ℕ) → nat_lt 0 k ≡ false → k ≡ 0
     no_more k h = grind (arith, nat_tests)
@@ -117,4 +120,111 @@ away_less c s page v fine within away kept =
     let apart = apart_counts w.places in
     let no_here : one (is_here (place_at v page)) ≡ 0 = ap one away in
     let no_out : one (is_out (place_at v page)) ≡ 0 = ap one kept in
-    ?
+    let same = length-set v.places page (Out [] 0) in
+    omega (arith, here, out, apart, no_here, no_out, same, fine.pages)
+
+-- the slot for the page that makes room
+freed_goes : (c : Config) (s : Site) (p : Place) → (is_out p ≡ false → (i : ℕ) × (least_slot c.slots s ≡ Some i)) → is_here p ≡ false → (i : ℕ) × (freed_slot c s p ≡ Some i)
+freed_goes c s Untouched slot away = slot refl
+freed_goes c s (Here bytes f shared) slot away = slot refl
+freed_goes c s (Out bytes i) slot away = (i, refl)
+freed_goes c s (Lent e) slot away = slot refl
+
+pub replace_finds_free_slot : (c : Config) (s : Site) (n page : ℕ) (v : Vm) → IsSound c s → vm_at s n ≡ Some v → Passes (gate_of c s page v) → is_out (place_at v page) ≡ false
+    → (i : ℕ) × (least_slot c.slots s ≡ Some i)
+replace_finds_free_slot c s n page v sound there passes kept =
+    let fine = sound.each n v there in
+    let w = wanted c s page v passes in
+    let least = (full_site c s sound w.none w.few).least n v there in
+    let less = away_less c s page v fine (omega (arith, fine.pages, w.below)) w.away kept in
+    slot_is_there c s n v sound there (omega (arith, less, least))
+
+replace_finds_slot : (c : Config) (s : Site) (n page : ℕ) (v : Vm) → IsSound c s → vm_at s n ≡ Some v → Passes (gate_of c s page v) → (i : ℕ) × (freed_slot c s (place_at v page) ≡ Some i)
+replace_finds_slot c s n page v sound there passes =
+    freed_goes c s (place_at v page) (λ kept. replace_finds_free_slot c s n page v sound there passes kept) (wanted c s page v passes).away
+
+trade_goes : (c : Config) (s : Site) (n page : ℕ) (to : Place) (q : ℕ) (p : Place) (o : Option ℕ) (i : ℕ) → is_here p ≡ true → o ≡ Some i → Goes (trade c s n page to q p o)
+trade_goes c s n page to q Untouched o i h e = cc
+trade_goes c s n page to q (Here bytes f shared) o i h e =
+    ((answers.Replaced q i f, placed (placed (with_change s n (popped page)) n q (Out bytes i)) n page (Here (contents c to) f false)), ap (trade c s n page to q (Here bytes f shared)) e)
+trade_goes c s n page to q (Out bytes j) o i h e = cc
+trade_goes c s n page to q (Lent d) o i h e = cc
+
+trade_for_goes : (c : Config) (s : Site) (n : ℕ) (v : Vm) (page word q i : ℕ) → victim v word ≡ Some q → freed_slot c s (place_at v page) ≡ Some i → Goes (trade_for c s n v page (victim v word))
+trade_for_goes c s n v page word q i e slot =
+    let known = drawn_is_here v word q e in
+    let rest = trade_goes c s n page (place_at v page) q (place_at v q) (freed_slot c s (place_at v page)) i known.1 slot in
+    (rest.0, ap (trade_for c s n v page) e ∙ rest.1)
+
+pub replace_goes : (c : Config) (s : Site) (n page word : ℕ) (v : Vm) → IsSound c s → vm_at s n ≡ Some v → Passes (gate_of c s page v) → Goes (replace c s n page word)
+unfolding replace
+replace_goes c s n page word v sound there passes =
+    let fine = sound.each n v there in
+    let w = wanted c s page v passes in
+    let least = (full_site c s sound w.none w.few).least n v there in
+    let slot = replace_finds_slot c s n page v sound there passes in
+    let q = drawn v word (omega (arith, least, fine.good.least_min)) in
+    let rest = trade_for_goes c s n v page word q.0 slot.0 q.1 slot.1 in (
+      rest.0,
+      ap (λ o. at_vm o (λ x. unless (gate_of c s page x) (trade_for c s n x page (victim x word)))) there
+          ∙ passing (gate_of c s page v) (trade_for c s n v page (victim v word)) passes ∙ rest.1,
+    )
+
+-- The page that makes room is alone in its frame.
+
+some_in : (ps : List Place) (bytes : List ℕ) (f : ℕ) (shared : Bool) → IsIn ps (Here bytes f shared) → 1 ≤ length (in_frame f ps)
+some_in ps bytes f shared i =
+    let p : Place = Here bytes f shared in
+    let fs = filter (is_here_at f) i.front in
+    let bs = filter (is_here_at f) i.back in
+    let split : in_frame f ps ≡ fs ++ p ∷ bs = ap (in_frame f) i.is ∙ filter-append (is_here_at f) i.front (p ∷ i.back) ∙ ap (λ b. fs ++ cond b (p ∷ bs) bs) (eqb_same f) in
+    let both = length-append fs (p ∷ bs) in
+    omega (arith, ap length split, both)
+
+answer_same : (a b : Answer) (t u : Site) → accepted a t ≡ Ok (b, u) → a ≡ b
+answer_same a b t u h = let pair : (a, t) ≡ (b, u) = cc in ap (λ (x : Answer × Site). x.0) pair
+
+traded_frame : (c : Config) (s : Site) (n page : ℕ) (to : Place) (q : ℕ) (p : Place) (o : Option ℕ) (a slot f : ℕ) (t : Site) → trade c s n page to q p o ≡ Ok (answers.Replaced a slot f, t)
+    → (bytes : List ℕ) × (shared : Bool) × (p ≡ Here bytes f shared)
+traded_frame c s n page to q Untouched o a slot f t h = cc
+traded_frame c s n page to q (Here bytes g shared) None a slot f t h = cc
+traded_frame c s n page to q (Here bytes g shared) (Some i) a slot f t h = (
+  bytes,
+  shared,
+  (let e = answer_same (answers.Replaced q i g) (answers.Replaced a slot f) (placed (placed (with_change s n (popped page)) n q (Out bytes i)) n page (Here (contents c to) g false)) t h in cc),
+)
+traded_frame c s n page to q (Out bytes j) o a slot f t h = cc
+traded_frame c s n page to q (Lent d) o a slot f t h = cc
+
+here_below : (c : Config) (e : ℕ) (p : Place) (bytes : List ℕ) (f : ℕ) (shared : Bool) → IsPlace c e p → p ≡ Here bytes f shared → f < c.frames
+here_below c e p bytes f shared h is = let P : Place → Type 0 = IsPlace c e in (subst P is h).0
+
+victim_alone : (c : Config) (s : Site) (n page word : ℕ) (v : Vm) (o : Option ℕ) (a slot f : ℕ) (t : Site) → IsSound c s → vm_at s n ≡ Some v → IsFull c s → victim v word ≡ o
+    → trade_for c s n v page o ≡ Ok (answers.Replaced a slot f, t) → pages_at f s ≡ 1
+victim_alone c s n page word v None a slot f t sound there full e h = cc
+victim_alone c s n page word v (Some q) a slot f t sound there full e h =
+    let fine = sound.each n v there in
+    let known = drawn_is_here v word q e in
+    let is = traded_frame c s n page (place_at v page) q (place_at v q) (freed_slot c s (place_at v page)) a slot f t h in
+    let P : Place → Type 0 = IsIn (all_places s) in
+    let some = some_in (all_places s) is.0 f is.1 (subst P is.2 (page_is_in s n q v there known.0)) in
+    let most = full.single f (here_below c v.epoch (place_at v q) is.0 f is.1 (old_place c v q fine known.0) is.2) in
+    let count = pages_at_is f s in
+    omega (arith, some, most, count)
+
+-- where a page makes room, each machine has its least
+pub replace_at_least : (c : Config) (s : Site) (n m page word : ℕ) (v : Vm) (r : Answer × Site) → IsSound c s → replace c s n page word ≡ Ok r → vm_at s m ≡ Some v → resident v ≡ v.spec.min
+unfolding replace
+replace_at_least c s n m page word v r sound h there =
+    let own = of_vm (vm_at s n) _ r h in
+    let pass = passed (gate_of c s page own.vm) _ r own.then in
+    let w = wanted c s page own.vm pass.0 in
+    (full_site c s sound w.none w.few).least m v there
+
+pub replaced_alone : (c : Config) (s : Site) (n page word q slot f : ℕ) (t : Site) → IsSound c s → replace c s n page word ≡ Ok (answers.Replaced q slot f, t) → pages_at f s ≡ 1
+unfolding replace
+replaced_alone c s n page word q slot f t sound h =
+    let m = of_vm (vm_at s n) _ (answers.Replaced q slot f, t) h in
+    let pass = passed (gate_of c s page m.vm) _ (answers.Replaced q slot f, t) m.then in
+    let w = wanted c s page m.vm pass.0 in
+    victim_alone c s n page word m.vm (victim m.vm word) q slot f t sound m.there (full_site c s sound w.none w.few) refl pass.1

@@ -3,6 +3,7 @@
 
 pub mod book;
 pub mod look;
+pub mod reserve_laws;
 pub mod scene;
 pub mod tables;
 
