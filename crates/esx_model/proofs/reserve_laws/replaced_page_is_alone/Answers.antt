@@ -1,4 +1,4 @@
-use Rattle.esx_model.proofs.Reserves.{replaced_alone, replace_at_least}
+use Rattle.esx_model.proofs.ReserveLaws.{replaced_alone, replace_at_least}
 use Rattle.esx_model.proofs.reserve_laws.replaced_page_is_alone.Goals as goal
 
 pub returns-clause-alone : goal.returns-clause-alone
