@@ -1,10 +1,11 @@
 -- What the reserves give to events: a page that has to go out finds a slot, and one that makes room is alone in its frame.
 use Rattle.std.proofs.Common.{◌≡◌, ℕ, ◌+◌, ◌-◌, ◌≤◌, ◌<◌, Bool, true, false, ◌||◌, nat_lt, List, [], ◌∷◌, ◌++◌, length, length-append, refl, ap, ◌∙◌, subst, arith, cond, Option, Some, None, Result, Ok}
-use Rattle.std.specs.List.{filter, list_any}
+use Rattle.std.specs.List.{filter, list_any, AllByRecursion}
 use Rattle.std.proofs.lemmas.Bool.Decides.{nat_tests}
 use Rattle.std.proofs.lemmas.List.{length-set}
 use Rattle.std.proofs.lemmas.List.Elements.{filter-append}
 use Rattle.esx_types.specs.declared.config.Config.{Config}
+use Rattle.esx_types.specs.Ranges.{IsConfig}
 use Rattle.esx_types.specs.declared.level.Level.{Level}
 use Rattle.esx_events.specs.declared.event.Answer.{Answer}
 use Rattle.esx_events.specs.declared.event.Answer.TheVariants as answers
@@ -13,6 +14,8 @@ use Rattle.esx_model.specs.declared.look.Look.{Look}
 use Rattle.esx_model.specs.declared.look.Look.TheVariants.{Already, SharedFrame, OtherPage, Changed, OtherBytes, Nothing}
 use Rattle.esx_model.specs.declared.scene.Place.{Place}
 use Rattle.esx_model.specs.declared.scene.Place.TheVariants.{Untouched, Here, Out, Lent}
+use Rattle.esx_events.specs.declared.event.Event.{Event}
+use Rattle.esx_model.specs.declared.scene.Scene.{Scene}
 use Rattle.esx_model.specs.declared.scene.Vm.{Vm}
 use Rattle.esx_model.specs.declared.scene.Site.{Site}
 use Rattle.esx_model.specs.Places.{is_here, is_here_at, is_out, contents}
@@ -24,12 +27,14 @@ use Rattle.esx_model.specs.event.Balloon.{popped}
 use Rattle.esx_model.specs.event.Sharing.{look, after_look}
 use Rattle.esx_model.specs.event.Paging.{victim, swap_out_gate, to_slot, leave_by, leave, swap_out, is_above_min, replace_gate, freed_slot, trade, trade_for, replace}
 use Rattle.esx_model.specs.sound.Machines.{IsVm, IsPlace}
-use Rattle.esx_model.specs.sound.Sound.{IsSound}
+use Rattle.esx_model.specs.sound.Sound.{IsSound, NamesVm}
 use Rattle.esx_model.proofs.Lists.{one, or_false, eqb_same}
 use Rattle.esx_model.proofs.Machines.{out_placed, here_placed, apart_counts, drawn_is_here, old_place}
 use Rattle.esx_model.proofs.Rooms.{IsIn, pages_at_is}
 use Rattle.esx_model.proofs.Kept.{page_is_in}
 use Rattle.esx_model.proofs.Counting.{IsFull, slot_is_there, full_site, drawn}
+use Rattle.esx_model.specs.Replay.{run}
+use Rattle.esx_model.proofs.EverySound.{every_run_sound}
 use Rattle.esx_model.proofs.Gates.{of_vm, passed, accepted}
 use Rattle.esx_model.proofs.event.Balloon.{below_max}
 
@@ -41,6 +46,9 @@ passing (t ∷ ts) o h = ap (λ b. or_else (cond b (Some t.1) (first ts)) o) h.0
 -- pages here and out are different pages
 pub here_and_out : (c : Config) (v : Vm) → IsVm c v → resident v + paged_out v ≤ v.spec.max
 here_and_out c v fine = let apart = apart_counts v.places in omega (arith, apart, fine.pages)
+
+pub out_on_path : (c : Config) (path : List Event) (t : Scene) (n : ℕ) (v : Vm) → IsConfig c → AllByRecursion NamesVm path → run c path ≡ Ok t → vm_at t.site n ≡ Some v → paged_out v ≤ v.spec.max - v.spec.min
+out_on_path c path t n v fine named h there = ((every_run_sound c path t fine named h).each n v there).out
 
 -- a machine above its least may page out
 pub slot_above_min : (c : Config) (s : Site) (n : ℕ) (v : Vm) → IsSound c s → vm_at s n ≡ Some v → v.spec.min < resident v → (i : ℕ) × (least_slot c.slots s ≡ Some i)

@@ -1,23 +1,30 @@
 //! Laws of the reserves (Waldspurger, "Admission Control"): what a site promises its machines is there. A function here does nothing:
 //! its contract is the law.
 
-ghost use Rattle.std.specs.Prelude.{◌≡◌, ℕ, ◌≤◌, false, Some, Ok};
-ghost use Rattle.std.specs.List.{list_any};
+ghost use Rattle.std.specs.Prelude.{◌≡◌, ℕ, ◌≤◌, false, List, Some, Ok};
+ghost use Rattle.std.specs.List.{list_any, AllByRecursion};
 ghost use Rattle.esx_types.specs.declared.config.Config.{Config};
+ghost use Rattle.esx_types.specs.Ranges.{IsConfig};
 ghost use Rattle.esx_types.specs.declared.level.Level.{Level};
 ghost use Rattle.esx_events.specs.declared.event.Answer.{Answer};
 ghost use Rattle.esx_events.specs.declared.event.Answer.TheVariants.{Replaced};
+ghost use Rattle.esx_events.specs.declared.event.Event.{Event};
+ghost use Rattle.esx_model.specs.declared.scene.Scene.{Scene};
 ghost use Rattle.esx_model.specs.declared.scene.Vm.{Vm};
 ghost use Rattle.esx_model.specs.declared.scene.Site.{Site};
 ghost use Rattle.esx_model.specs.Places.{is_here, is_out};
 ghost use Rattle.esx_model.specs.Site.{vm_at, place_at, resident, paged_out, pages_at, least_slot, free_count, swap_reserve};
 ghost use Rattle.esx_model.specs.event.Outcome.{Passes, standing};
 ghost use Rattle.esx_model.specs.event.Paging.{swap_out_gate, swap_out, is_above_min, replace_gate, replace};
-ghost use Rattle.esx_model.specs.sound.Sound.{IsSound};
+ghost use Rattle.esx_model.specs.Replay.{run};
+ghost use Rattle.esx_model.specs.sound.Sound.{IsSound, NamesVm};
 
-/// A machine has at most as many pages out as it has slots reserved.
+/// A machine has at most as many pages out as it has slots reserved, on each path.
 pub fn out_is_reserved()
-    ensures { (c : Config) (s : Site) (n : ℕ) (v : Vm) → IsSound c s → vm_at s n ≡ Some v
+    ensures site { (c : Config) (s : Site) (n : ℕ) (v : Vm) → IsSound c s → vm_at s n ≡ Some v
+        → paged_out v ≤ swap_reserve (Some v) }
+    ensures path { (c : Config) (path : List Event) (t : Scene) (n : ℕ) (v : Vm) → IsConfig c → AllByRecursion NamesVm path
+        → run c path ≡ Ok t → vm_at t.site n ≡ Some v
         → paged_out v ≤ swap_reserve (Some v) }
 {}
 
