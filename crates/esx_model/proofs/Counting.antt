@@ -15,6 +15,7 @@ use Rattle.esx_model.specs.Places.{is_here, is_here_at, is_out, is_out_at}
 use Rattle.esx_model.specs.Site.{vm_at, vm_names, is_named, vm_holds, is_held, vm_places, vm_overhead, pages_of, pages_at, resident, paged_out, least_slot, free_count, memory_reserve, swap_reserve, memory_reserved, swap_reserved, here_from}
 use Rattle.esx_model.specs.Show.{pages_in, is_listed}
 use Rattle.esx_model.specs.event.Paging.{is_above_min, victim}
+use Rattle.esx_model.specs.Laws.{IsFull}
 use Rattle.esx_model.specs.sound.Machines.{IsVm}
 use Rattle.esx_model.specs.sound.Sound.{IsSound}
 use Rattle.esx_model.proofs.Lists.{one, chosen, either, or_false}
@@ -179,9 +180,9 @@ none_found p a zero f none below from = absurd (omega arith)
 none_found p a (suc n) f none below from = elim (chosen (p a) (Some a) (find p (range_with_len (a + 1) n)) None none) [
   | inl w ↦ cc
   | inr w ↦ elim (cases_eq f a) [
-      | inl e ↦ ap p e ∙ w.0
-      | inr other ↦ none_found p (a + 1) n f w.1 (omega arith) (omega arith)
-    ]
+    | inl e ↦ ap p e ∙ w.0
+    | inr other ↦ none_found p (a + 1) n f w.1 (omega arith) (omega arith)
+  ]
 ]
 
 not_false : (b : Bool) → not b ≡ false → b ≡ true
@@ -252,10 +253,6 @@ pages_named f vms = sum_most (pages_of f) (namings f) vms (λ o. of o)
     of : (o : Option Vm) → pages_of f o ≤ namings f o
     of None = omega arith
     of (Some v) = omega arith
-
-pub record IsFull (c : Config) (s : Site) : Type 0 where
-  pub least : (n : ℕ) (v : Vm) → vm_at s n ≡ Some v → resident v ≡ v.spec.min
-  pub single : (f : ℕ) → f < c.frames → length (pages_in s f) ≤ 1
 
 not_less : (c : Config) (s : Site) (n : ℕ) (v : Vm) → IsSound c s → free_count c.frames s ≡ 0 → list_any is_above_min s.vms ≡ false → vm_at s n ≡ Some v → resident v < v.spec.min → ⊥
 not_less c s n v sound none few there less =
