@@ -14,6 +14,7 @@ use Rattle.esx_model.specs.Places.{is_here, is_here_at, is_out, is_out_at}
 use Rattle.esx_model.specs.Site.{vm_at, vm_names, is_named, vm_holds, is_held, vm_places, vm_overhead, pages_of, pages_at, resident, paged_out, least_slot, free_count, memory_reserve, swap_reserve, here_from}
 use Rattle.esx_model.specs.Show.{pages_in, is_listed}
 use Rattle.esx_model.specs.event.Paging.{is_above_min, victim}
+use Rattle.esx_model.specs.Laws.{IsFull}
 use Rattle.esx_model.specs.sound.Machines.{IsVm}
 use Rattle.esx_model.specs.sound.Sound.{IsSound}
 use Rattle.esx_model.proofs.Lists.{one, either, or_false}
@@ -125,10 +126,6 @@ pages_named f vms = sum_by-le-sum_by (pages_of f) (namings f) vms (λ o. of o)
     of : (o : Option Vm) → pages_of f o ≤ namings f o
     of None = omega arith
     of (Some v) = omega arith
-
-pub record IsFull (c : Config) (s : Site) : Type 0 where
-  pub least : (n : ℕ) (v : Vm) → vm_at s n ≡ Some v → resident v ≡ v.spec.min
-  pub single : (f : ℕ) → f < c.frames → length (pages_in s f) ≤ 1
 
 not_less : (c : Config) (s : Site) (n : ℕ) (v : Vm) → IsSound c s → free_count c.frames s ≡ 0 → list_any is_above_min s.vms ≡ false → vm_at s n ≡ Some v → resident v < v.spec.min → ⊥
 not_less c s n v sound none few there less =

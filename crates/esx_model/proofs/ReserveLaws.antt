@@ -26,13 +26,14 @@ use Rattle.esx_model.specs.event.Outcome.{Outcome, Gate, Passes, at_vm, unless, 
 use Rattle.esx_model.specs.event.Balloon.{popped}
 use Rattle.esx_model.specs.event.Sharing.{look, after_look}
 use Rattle.esx_model.specs.event.Paging.{victim, swap_out_gate, to_slot, leave_by, leave, swap_out, is_above_min, replace_gate, freed_slot, trade, trade_for, replace}
+use Rattle.esx_model.specs.Laws.{IsFull}
 use Rattle.esx_model.specs.sound.Machines.{IsVm, IsPlace}
 use Rattle.esx_model.specs.sound.Sound.{IsSound, NamesVm}
 use Rattle.esx_model.proofs.Lists.{one, or_false, eqb_same}
 use Rattle.esx_model.proofs.Machines.{out_placed, here_placed, apart_counts, drawn_is_here, old_place}
 use Rattle.esx_model.proofs.Rooms.{IsIn, pages_at_is}
 use Rattle.esx_model.proofs.Kept.{page_is_in}
-use Rattle.esx_model.proofs.Counting.{IsFull, slot_is_there, full_site, drawn}
+use Rattle.esx_model.proofs.Counting.{slot_is_there, full_site, drawn}
 use Rattle.esx_model.specs.Replay.{run}
 use Rattle.esx_model.proofs.EverySound.{every_run_sound}
 use Rattle.esx_model.proofs.Gates.{of_vm, passed, accepted}
@@ -219,15 +220,6 @@ victim_alone c s n page word v (Some q) a slot f t sound there full e h =
     let most = full.single f (here_below c v.epoch (place_at v q) is.0 f is.1 (old_place c v q fine known.0) is.2) in
     let count = pages_at_is f s in
     omega (arith, some, most, count)
-
--- where a page makes room, each machine has its least
-pub replace_at_least : (c : Config) (s : Site) (n m page word : ℕ) (v : Vm) (r : Answer × Site) → IsSound c s → replace c s n page word ≡ Ok r → vm_at s m ≡ Some v → resident v ≡ v.spec.min
-unfolding replace
-replace_at_least c s n m page word v r sound h there =
-    let own = of_vm (vm_at s n) _ r h in
-    let pass = passed (gate_of c s page own.vm) _ r own.then in
-    let w = wanted c s page own.vm pass.0 in
-    (full_site c s sound w.none w.few).least m v there
 
 pub replaced_alone : (c : Config) (s : Site) (n page word q slot f : ℕ) (t : Site) → IsSound c s → replace c s n page word ≡ Ok (answers.Replaced q slot f, t) → pages_at f s ≡ 1
 unfolding replace

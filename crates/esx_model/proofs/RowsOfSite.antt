@@ -11,13 +11,15 @@ use Rattle.esx_formulas.specs.declared.targets.Row.{Row}
 use Rattle.esx_formulas.specs.Average.{touched_share, slower, faster, slow_average, fast_average, is_touched, so_far, open_average, active_share}
 use Rattle.esx_formulas.specs.Estimates.{IsEstimate}
 use Rattle.esx_formulas.specs.Ratio.{IsRow, AreRows, row_at}
+use Rattle.esx_formulas.proofs.Revoking.{worked_out, only_worked_out}
 use Rattle.esx_model.specs.declared.scene.Vm.{Vm}
 use Rattle.esx_model.specs.declared.scene.Site.{Site}
 use Rattle.esx_model.specs.Places.{is_here}
 use Rattle.esx_model.specs.Site.{resident}
-use Rattle.esx_model.specs.event.Rebalancing.{active, row_of_vm, rows_from, rows_of}
+use Rattle.esx_model.specs.event.Rebalancing.{active, row_of_vm, rows_from, rows_of, min_of}
 use Rattle.esx_model.specs.sound.Machines.{IsVm, IsPeriodOrNone}
 use Rattle.esx_model.specs.sound.Sound.{IsSound}
+use Rattle.esx_model.specs.Laws.{HasOneListOfTargets}
 
 -- Averages are shares.
 
@@ -97,3 +99,11 @@ rows_of_sound c s floor sound least = record {
   each = rows_fine c floor 0 s.vms (λ k v h. (sound.each k v h, least v (sound.each k v h))) (omega (arith, sound.vms));
   ordered = rows_ordered floor 0 s.vms;
 }
+
+pub site_targets : (c : Config) (s : Site) (need : ℕ) → IsSound c s → HasOneListOfTargets s need
+site_targets c s need sound =
+    let rows = rows_of_sound c s min_of sound (λ v fine. omega (arith, fine.good.min_max, fine.good.most_max)) in
+    record {
+      rows = rows;
+      one = λ targets. (only_worked_out s.tau (rows_of min_of s) sound.tau rows need targets, λ e. rw e (worked_out s.tau (rows_of min_of s) sound.tau rows need));
+    }

@@ -13,7 +13,7 @@ ghost use Rattle.esx_model.specs.declared.scene.Scene.{Scene};
 ghost use Rattle.esx_model.specs.declared.scene.Vm.{Vm};
 ghost use Rattle.esx_model.specs.declared.scene.Site.{Site};
 ghost use Rattle.esx_model.specs.Places.{is_here, is_out};
-ghost use Rattle.esx_model.specs.Site.{vm_at, place_at, resident, paged_out, pages_at, least_slot, free_count, swap_reserve};
+ghost use Rattle.esx_model.specs.Site.{vm_at, place_at, paged_out, pages_at, least_slot, free_count, swap_reserve};
 ghost use Rattle.esx_model.specs.event.Outcome.{Passes, standing};
 ghost use Rattle.esx_model.specs.event.Paging.{swap_out_gate, swap_out, is_above_min, replace_gate, replace};
 ghost use Rattle.esx_model.specs.Replay.{run};
@@ -54,12 +54,9 @@ pub fn replace_goes()
         → (r : Answer × Site) × (replace c s n page word ≡ Ok r) }
 {}
 
-/// A page that makes room is alone in its frame, and each machine then has its least in frames.
+/// A page that makes room is alone in its frame.
 pub fn replaced_page_is_alone()
-    ensures alone { (c : Config) (s : Site) (n page word q slot f : ℕ) (t : Site) → IsSound c s
+    ensures { (c : Config) (s : Site) (n page word q slot f : ℕ) (t : Site) → IsSound c s
         → replace c s n page word ≡ Ok (Replaced q slot f, t)
         → pages_at f s ≡ 1 }
-    ensures least { (c : Config) (s : Site) (n m page word : ℕ) (v : Vm) (r : Answer × Site) → IsSound c s
-        → replace c s n page word ≡ Ok r → vm_at s m ≡ Some v
-        → resident v ≡ v.spec.min }
 {}
