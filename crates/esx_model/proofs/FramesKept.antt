@@ -53,18 +53,19 @@ frames_move n ps qs os f row fine moves clear fresh = record {
   ];
   keys = λ g h key a b. elim (cases_eq g f) [
     | inl e ↦ elim (cases_eq h f) [
-        | inl d ↦ e ∙ sym d
-        | inr other ↦ e ∙ sym (fresh h key (here g key e a) (there h key other b))
-      ]
+      | inl d ↦ e ∙ sym d
+      | inr other ↦ e ∙ sym (fresh h key (here g key e a) (there h key other b))
+    ]
     | inr mine ↦ elim (cases_eq h f) [
-        | inl d ↦ fresh g key (here h key d b) (there g key mine a) ∙ sym d
-        | inr other ↦ fine.keys g h key (there g key mine a) (there h key other b)
-      ]
+      | inl d ↦ fresh g key (here h key d b) (there g key mine a) ∙ sym d
+      | inr other ↦ fine.keys g h key (there g key mine a) (there h key other b)
+    ]
   ];
 }
   where
     here : (g key : ℕ) → g ≡ f → key_of_row (row_of (in_frame g qs)) ≡ Some key → key_of_row row ≡ Some key
     here g key e a = ap key_of_row (sym moves.inside.is) ∙ ap (λ k. key_of_row (row_of (in_frame k qs))) (sym e) ∙ a
+
     there : (g key : ℕ) → g ≢ f → key_of_row (row_of (in_frame g qs)) ≡ Some key → key_of_row (row_of (in_frame g ps)) ≡ Some key
     there g key other a = ap (λ ps. key_of_row (row_of ps)) (sym (moves.others g other)) ∙ a
 
@@ -329,6 +330,7 @@ frames_more n ps os ns f fine i below none clear = frames_listed n ps os ns fine
         let some : one (f == g) ≡ 1 = ap one e in
         let old = none_listed g os (subst P same clear) in
         omega (arith, more, some, old)
+
     apart : (g : ℕ) (t : Bool) → (f == g) ≡ t → is_listed g ns ≡ true → in_frame g ps ≡ []
     apart g true e h = (let same : f ≡ g = grind (arith, nat_tests) in let P : ℕ → Type 0 = λ k. in_frame k ps ≡ [] in subst P same none)
     apart g false e h = fine.apart g (or_nothing (is_listed g os) ∙ ap (λ b. is_listed g os || b) (sym e) ∙ sym (listed_more (λ h. h == g) f os ns i) ∙ h)

@@ -54,9 +54,13 @@ old_place c v page fine within = all_at (IsPlace c v.epoch) v.places page Untouc
 
 -- what a machine keeps in its state speaks of its overhead, its pages and its period
 pub fits_as : (v w : Vm) (state : VmState) → length w.overhead ≡ length v.overhead → w.spec.overhead ≡ v.spec.overhead → w.places ≡ v.places → w.epoch ≡ v.epoch → w.period ≡ v.period → FitsState v state → FitsState w state
-fits_as v w Starting held overhead places epoch period fits =
-    (omega (arith, fits.0), ap (λ ps. count_by is_here ps) places ∙ fits.1, ap (λ ps. count_by is_out ps) places ∙ fits.2,
-    ap (λ e. count_by (is_lent_in e) w.places) epoch ∙ ap (λ ps. count_by (is_lent_in v.epoch) ps) places ∙ fits.3, period ∙ fits.4)
+fits_as v w Starting held overhead places epoch period fits = (
+  omega (arith, fits.0),
+  ap (λ ps. count_by is_here ps) places ∙ fits.1,
+  ap (λ ps. count_by is_out ps) places ∙ fits.2,
+  ap (λ e. count_by (is_lent_in e) w.places) epoch ∙ ap (λ ps. count_by (is_lent_in v.epoch) ps) places ∙ fits.3,
+  period ∙ fits.4,
+)
 fits_as v w Running held overhead places epoch period fits = held ∙ fits ∙ sym overhead
 fits_as v w Stopping held overhead places epoch period fits = (omega (arith, fits.0), period ∙ fits.1)
 

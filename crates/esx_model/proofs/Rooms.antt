@@ -206,6 +206,7 @@ apart_frames n ps os b bytes g f fine own other = of (g == f) refl
     both frames.Overhead h k = h
     both (frames.Private kept) h k = false≢true (sym k.0)
     both (frames.Shared count kept) h k = false≢true h.0
+
     of : (t : Bool) → (g == f) ≡ t → (g == f) ≡ false
     of false e = e
     of true e =

@@ -16,3 +16,4 @@ pub mod Console
 pub mod Alone
 pub mod Tables
 pub mod Moved
+pub mod Laws

@@ -2,7 +2,9 @@
 #![tactic(auto)]
 
 pub mod book;
+pub mod laws;
 pub mod look;
+pub mod reserve_laws;
 pub mod scene;
 pub mod tables;
 

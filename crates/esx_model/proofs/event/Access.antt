@@ -42,7 +42,7 @@ access_kept c s n page v bytes f shared sound there running below frame whole ro
     let fine1 = sound1.each n v1 there1 in
     let within : page < length v1.places = omega (arith, fine1.pages) in
     let sound2 = placed_sound c s1 n page v1 q sound1 there1 below (past_start v1 running) (frame, whole) (not_out c v1 page q fine1 within refl) (not_lent c v1 page q fine1 within refl)
-        (room_same c s s1 (place_at v page) q (places_same s n v v1 s.hints there refl) (overhead_same s n v v1 s.hints there refl) room) in
+    (room_same c s s1 (place_at v page) q (places_same s n v v1 s.hints there refl) (overhead_same s n v v1 s.hints there refl) room) in
     let s2 = placed s1 n page q in
     let v2 = with_place page q v1 in
     let there2 = vm_placed_there s1 n page v1 q there1 in
@@ -99,6 +99,7 @@ written_whole old at new page h k = of (fits page (at + length new) k)
   where
     fits : (p e : ℕ) → nat_lt p e ≡ false → e ≤ p
     fits p e k = grind (arith, nat_tests)
+
     of : at + length new ≤ page → length (overwritten old at new) ≡ page
     of small = grind (arith, common_steps)
 

@@ -129,10 +129,10 @@ lend_sound c s n page r sound h =
     let fine = sound.each n v m.there in
     let within : page < length v.places = omega (arith, fine.pages) in
     due_sound c s n v _ r sound m.there running pass.1 (λ e.
-      let more = passed (lend_gate (is_lent v page) (standing v)) _ r e in
-      gives c (answers.Lent (lent v + 1) (goal (standing v))) (placed s n page (Lent v.epoch)) r more.1
-      (placed_sound c s n page v (Lent v.epoch) sound m.there below (past_start v running) (omega arith) (not_out c v page (Lent v.epoch) fine within refl)
-      (lends_one c v page fine within more.0.1.0) (room_lent c s (place_at v page) v.epoch)))
+    let more = passed (lend_gate (is_lent v page) (standing v)) _ r e in
+    gives c (answers.Lent (lent v + 1) (goal (standing v))) (placed s n page (Lent v.epoch)) r more.1
+    (placed_sound c s n page v (Lent v.epoch) sound m.there below (past_start v running) (omega arith) (not_out c v page (Lent v.epoch) fine within refl)
+    (lends_one c v page fine within more.0.1.0) (room_lent c s (place_at v page) v.epoch)))
 
 pub take_back_sound : (c : Config) (s : Site) (n page : ℕ) (r : Answer × Site) → IsSound c s → take_back s n page ≡ Ok r → IsSound c r.1
 unfolding take_back
@@ -145,7 +145,7 @@ take_back_sound c s n page r sound h =
     let fine = sound.each n v m.there in
     let within : page < length v.places = omega (arith, fine.pages) in
     due_sound c s n v _ r sound m.there running pass.1 (λ e.
-      let more = passed (take_back_gate (is_lent v page)) _ r e in
-      gives c (answers.TakenBack (lent v - 1)) (placed s n page Untouched) r more.1
-      (placed_sound c s n page v Untouched sound m.there below (past_start v running) tt (not_out c v page Untouched fine within refl)
-      (not_lent c v page Untouched fine within refl) (room_nowhere c s (place_at v page))))
+    let more = passed (take_back_gate (is_lent v page)) _ r e in
+    gives c (answers.TakenBack (lent v - 1)) (placed s n page Untouched) r more.1
+    (placed_sound c s n page v Untouched sound m.there below (past_start v running) tt (not_out c v page Untouched fine within refl)
+    (not_lent c v page Untouched fine within refl) (room_nowhere c s (place_at v page))))

@@ -30,7 +30,8 @@ use Rattle.esx_model.proofs.HintsKept.{no_hint}
 use Rattle.esx_model.proofs.Machines.{not_out, not_lent, old_place, out_placed, here_placed, apart_counts, drawn_is_here}
 use Rattle.esx_model.proofs.Kept.{row_only, placed_sound, placed_is, placed_changed, placed_overhead, placed_at, site_at, places_same, overhead_same, vm_there, vm_placed_there, with_change_is, page_is_in, vm_after}
 use Rattle.esx_model.proofs.Rooms.{IsIn, slot_unused, room_nowhere, room_empty, room_unused, row_here}
-use Rattle.esx_model.proofs.Counting.{IsFull, full_site}
+use Rattle.esx_model.specs.Laws.{IsFull}
+use Rattle.esx_model.proofs.Counting.{full_site}
 use Rattle.esx_model.proofs.Gates.{of_vm, passed, gives, not_not, runs}
 use Rattle.esx_model.proofs.event.Balloon.{popped_becomes, past_start, below_max}
 use Rattle.esx_model.proofs.event.Access.{whole_page}
@@ -123,20 +124,20 @@ by_steps c s n page q v bytes f shared i new t whole =
     let at_page : place_at vb page ≡ Untouched = get_or-set_other va.places q page o Untouched (λ e. apart (sym e)) ∙ get_or-set_same v.places page Untouched Untouched within in
     let within_b : page < length vb.places = (let len = length-set va.places q o in let more = length-set v.places page Untouched in omega (arith, len, more, within)) in
     let few : paged_out vb ≤ v.spec.max - v.spec.min = (
-      let counts = apart_counts vd.places in
-      let len = length-set vb.places page (Here new f false) in
-      let len_b = length-set va.places q o in
-      let len_a = length-set v.places page Untouched in
-      let h1 = here_placed v page Untouched within in
-      let h2 = here_placed va q o within_a in
-      let h3 = here_placed vb page (Here new f false) within_b in
-      let o3 = out_placed vb page (Here new f false) within_b in
-      let n1 : one (is_here p) ≡ 0 = ap one t.away in
-      let n2 : one (is_here (place_at va q)) ≡ 1 = ap (λ x. one (is_here x)) at_q in
-      let n3 : one (is_here (place_at vb page)) ≡ 0 = ap (λ x. one (is_here x)) at_page in
-      let n4 : one (is_out (place_at vb page)) ≡ 0 = ap (λ x. one (is_out x)) at_page in
-      let least = t.full.least n v t.there in
-      omega (arith, counts, len, len_b, len_a, h1, h2, h3, o3, n1, n2, n3, n4, least, fine.pages)) in
+    let counts = apart_counts vd.places in
+    let len = length-set vb.places page (Here new f false) in
+    let len_b = length-set va.places q o in
+    let len_a = length-set v.places page Untouched in
+    let h1 = here_placed v page Untouched within in
+    let h2 = here_placed va q o within_a in
+    let h3 = here_placed vb page (Here new f false) within_b in
+    let o3 = out_placed vb page (Here new f false) within_b in
+    let n1 : one (is_here p) ≡ 0 = ap one t.away in
+    let n2 : one (is_here (place_at va q)) ≡ 1 = ap (λ x. one (is_here x)) at_q in
+    let n3 : one (is_here (place_at vb page)) ≡ 0 = ap (λ x. one (is_here x)) at_page in
+    let n4 : one (is_out (place_at vb page)) ≡ 0 = ap (λ x. one (is_out x)) at_page in
+    let least = t.full.least n v t.there in
+    omega (arith, counts, len, len_b, len_a, h1, h2, h3, o3, n1, n2, n3, n4, least, fine.pages)) in
     let sound_b = placed_sound c a n q va o sound_a there_a (omega (arith, fine_a.pages, within_a)) past (t.slot, place.1) few (not_lent c va q o fine_a within_a refl) (room_empty c a (place_at va q) bytes i empty) in
     let there_b = vm_placed_there a n q va o there_a in
     let fine_b = sound_b.each n vb there_b in
@@ -215,18 +216,18 @@ trade_sound c s n page q v (Here bytes f shared) (Some i) r sound there running 
     ] in
     gives c (answers.Replaced q i f) (placed (placed (with_change s n (popped page)) n q (Out bytes i)) n page (Here new f false)) r h
     (let S : Site → Type 0 = λ t. IsSound c (placed (placed t n q (Out bytes i)) n page (Here new f false)) in
-      subst S (sym (with_change_is s n v (popped page) there)) (traded c s1 n page q v1 bytes f shared i new (record {
-        sound = sound1;
-        there = there1;
-        running = running;
-        below = below;
-        away = away;
-        within = within;
-        was = was;
-        full = record { least = least; single = λ g low. (let R : List Place → Type 0 = λ ps. length (in_frame g ps) ≤ 1 in subst R (sym same) (full.single g low)) };
-        slot = slot.0;
-        clear = subst P (sym same) slot.1;
-      }) (whole_page c v.epoch (place_at v page) (old_place c v page fine within_page))))
+    subst S (sym (with_change_is s n v (popped page) there)) (traded c s1 n page q v1 bytes f shared i new (record {
+      sound = sound1;
+      there = there1;
+      running = running;
+      below = below;
+      away = away;
+      within = within;
+      was = was;
+      full = record { least = least; single = λ g low. (let R : List Place → Type 0 = λ ps. length (in_frame g ps) ≤ 1 in subst R (sym same) (full.single g low)) };
+      slot = slot.0;
+      clear = subst P (sym same) slot.1;
+    }) (whole_page c v.epoch (place_at v page) (old_place c v page fine within_page))))
 
 for_sound : (c : Config) (s : Site) (n page word : ℕ) (v : Vm) (o : Option ℕ) (r : Answer × Site) → IsSound c s → vm_at s n ≡ Some v → v.state ≡ Running → page < v.spec.max → is_here (place_at v page) ≡ false
     → free_count c.frames s ≡ 0 → list_any is_above_min s.vms ≡ false → victim v word ≡ o → trade_for c s n v page o ≡ Ok r → IsSound c r.1

@@ -196,7 +196,7 @@ share_joined c s n page v bytes g f sound there below was i =
     let row = shared_row c.frames (all_places s) (all_overhead s) bytes f sound.frames i in
     let R : Place → Type 0 = λ p. Room c s p (Here bytes f true) in
     let room = room_shared c s (Here bytes g false) bytes f row.0 (apart_frames c.frames (all_places s) (all_overhead s) bytes bytes g f sound.frames own i)
-        (row_here c.frames (all_places s) (all_overhead s) bytes f true sound.frames i).1 row.1 in
+    (row_here c.frames (all_places s) (all_overhead s) bytes f true sound.frames i).1 row.1 in
     placed_sound c s n page v (Here bytes f true) sound there below (here_past c v page fine (ap is_here was)) (frame_below c s bytes f true sound i, place.1)
     (not_out c v page (Here bytes f true) fine within refl) (not_lent c v page (Here bytes f true) fine within refl) (subst R (sym was) room)
 
@@ -234,11 +234,11 @@ beside s m q w p n page v there own other = elim (cases_eq n m) [
         spec = ap (λ (x : Vm). x.spec) is;
       })
   | inr away ↦ record {
-      vm = v;
-      there = ap (λ t. vm_at t n) (placed_is s m q w p there) ∙ get_or-set_other s.vms m n (Some (with_place q p w)) None away ∙ own;
-      place = refl;
-      spec = refl;
-    }
+    vm = v;
+    there = ap (λ t. vm_at t n) (placed_is s m q w p there) ∙ get_or-set_other s.vms m n (Some (with_place q p w)) None away ∙ own;
+    place = refl;
+    spec = refl;
+  }
 ]
   where
     apart : page ≡ q → n ≡ m → ⊥
