@@ -1,8 +1,8 @@
 //! The program's words, and the sites of scenarios that readers give.
 
-use crate::{SITE, site_of_file};
 use crate::opening::site_of_reader;
 use crate::words::{WordsFault, file_of_words};
+use crate::{SITE, site_of_file};
 use esx_reading::TextFault;
 use esx_types::Config;
 use std::alloc::{AllocError, Global};

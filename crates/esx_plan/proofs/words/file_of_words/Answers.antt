@@ -1,4 +1,4 @@
-use Rattle.std.proofs.Common.{◌≡◌, List, Option, Some, None, Bool, true, false, ap, sym, ◌∙◌, refl, codes, map, option_map, string_bytes}
+use Rattle.std.proofs.Common.{◌≡◌, List, Option, Some, None, Bool, true, false, ap, ◌∙◌, refl, codes, map, option_map, string_bytes}
 use Rattle.std.specs.Option.{option_and_then}
 use Rattle.std.proofs.lemmas.Option.{same_Some}
 use Rattle.clap.specs.Words.{Row, Text, first_of, found_of, is_simple, subcommand_of, takes}

@@ -1,4 +1,4 @@
-use Rattle.std.proofs.Common.{◌++◌, ◌<◌, ◌^◌, arith, inl, inr, length, length-append, length-take, take, ◌∙◌}
+use Rattle.std.proofs.Common.{◌++◌, ◌<◌, ◌^◌, arith, inr, length, length-append, length-take, take}
 use Rattle.std.proofs.KnownBytes.{Consumes-trans}
 use Rattle.esx_reading.proofs.whole.read_through.Goals as goal
 
