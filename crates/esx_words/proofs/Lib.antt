@@ -7,3 +7,4 @@ pub mod OperandLemmas
 pub mod CommandLemmas
 pub mod SidesLemmas
 pub mod PrintingLemmas
+pub mod NumberLemmas

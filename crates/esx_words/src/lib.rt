@@ -9,5 +9,7 @@ pub mod laws;
 pub mod operands;
 pub mod printing;
 pub mod replies;
+#[cfg(test)]
+mod tests;
 pub mod verbs;
 pub mod writing;
