@@ -41,7 +41,7 @@ use Rattle.esx_model.specs.sound.Frames.{pages_for}
 
 -- Searches.
 
-find_same : {X : Type 0} (p q : X → Bool) (xs : List X) → ((x : X) → q x ≡ p x) → find q xs ≡ find p xs
+pub find_same : {X : Type 0} (p q : X → Bool) (xs : List X) → ((x : X) → q x ≡ p x) → find q xs ≡ find p xs
 find_same p q [] same = refl
 find_same p q (x ∷ xs) same = ap (λ b. cond b (Some x) (find q xs)) (same x) ∙ ap (cond (p x) (Some x)) (find_same p q xs same)
 
@@ -50,17 +50,17 @@ find_kept_one : {X : Type 0} (p q keep : X → Bool) (x : X) (xs : List X) → f
 find_kept_one p q keep x xs rest true e gone same = ap (λ t. cond t (Some x) (find q (filter keep xs))) (same e) ∙ ap (cond (p x) (Some x)) rest
 find_kept_one p q keep x xs rest false e gone same = rest ∙ sym (ap (λ t. cond t (Some x) (find p xs)) (gone e))
 
-find_kept : {X : Type 0} (p q keep : X → Bool) (xs : List X) → ((x : X) → keep x ≡ false → p x ≡ false) → ((x : X) → keep x ≡ true → q x ≡ p x) → find q (filter keep xs) ≡ find p xs
+pub find_kept : {X : Type 0} (p q keep : X → Bool) (xs : List X) → ((x : X) → keep x ≡ false → p x ≡ false) → ((x : X) → keep x ≡ true → q x ≡ p x) → find q (filter keep xs) ≡ find p xs
 find_kept p q keep [] gone same = refl
 find_kept p q keep (x ∷ xs) gone same = find_kept_one p q keep x xs (find_kept p q keep xs gone same) (keep x) refl (gone x) (same x)
 
-find_nothing : {X : Type 0} (p : X → Bool) (xs : List X) → AllByRecursion (λ x. p x ≡ false) xs → find p xs ≡ None
+pub find_nothing : {X : Type 0} (p : X → Bool) (xs : List X) → AllByRecursion (λ x. p x ≡ false) xs → find p xs ≡ None
 find_nothing p [] h = refl
 find_nothing p (x ∷ xs) h = ap (λ b. cond b (Some x) (find p xs)) h.0 ∙ find_nothing p xs h.1
 
 -- Rows.
 
-row_by : (s : Site) (f : ℕ) → frame_row s f ≡ cond (is_listed f (all_overhead s)) frames.Overhead (row_of (pages_in s f))
+pub row_by : (s : Site) (f : ℕ) → frame_row s f ≡ cond (is_listed f (all_overhead s)) frames.Overhead (row_of (pages_in s f))
 unfolding frame_row
 row_by s f = refl
 
@@ -68,28 +68,28 @@ out_row_by : (s : Site) (i : ℕ) → slot_row s i ≡ slot_of (pages_out s i)
 unfolding slot_row
 out_row_by s i = refl
 
-listing_is : (s : Site) (f : ℕ) → listing_row s f ≡ listing_by (frame_row s f) (find (is_hint_in s f) s.hints)
+pub listing_is : (s : Site) (f : ℕ) → listing_row s f ≡ listing_by (frame_row s f) (find (is_hint_in s f) s.hints)
 unfolding listing_row
 listing_is s f = refl
 
-row_same : (s t : Site) (f : ℕ) → all_overhead t ≡ all_overhead s → pages_in t f ≡ pages_in s f → frame_row t f ≡ frame_row s f
+pub row_same : (s t : Site) (f : ℕ) → all_overhead t ≡ all_overhead s → pages_in t f ≡ pages_in s f → frame_row t f ≡ frame_row s f
 row_same s t f overhead pages =
     row_by t f ∙ ap (λ os. cond (is_listed f os) frames.Overhead (row_of (pages_in t f))) overhead ∙ ap (λ ps. cond (is_listed f (all_overhead s)) frames.Overhead (row_of ps)) pages ∙ sym (row_by s f)
 
-row_clear : (s : Site) (f : ℕ) → is_listed f (all_overhead s) ≡ false → frame_row s f ≡ row_of (pages_in s f)
+pub row_clear : (s : Site) (f : ℕ) → is_listed f (all_overhead s) ≡ false → frame_row s f ≡ row_of (pages_in s f)
 row_clear s f clear = row_by s f ∙ ap (λ b. cond b frames.Overhead (row_of (pages_in s f))) clear
 
-out_row_same : (s t : Site) (i : ℕ) → pages_out t i ≡ pages_out s i → slot_row t i ≡ slot_row s i
+pub out_row_same : (s t : Site) (i : ℕ) → pages_out t i ≡ pages_out s i → slot_row t i ≡ slot_row s i
 out_row_same s t i pages = out_row_by t i ∙ ap slot_of pages ∙ sym (out_row_by s i)
 
-vm_rows_after : (s : Site) (n : ℕ) (w : Vm) → map (option_map vm_table) (set s.vms n (Some w)) ≡ set (map (option_map vm_table) s.vms) n (Some (vm_table w))
+pub vm_rows_after : (s : Site) (n : ℕ) (w : Vm) → map (option_map vm_table) (set s.vms n (Some w)) ≡ set (map (option_map vm_table) s.vms) n (Some (vm_table w))
 vm_rows_after s n w = map-set (option_map vm_table) s.vms n (Some w)
 
 -- the tables with other rows of frames and slots, other listings, and machine n in another row
-abbrev tables_with : Config → Site → ℕ → Vm → List FrameRow → List SlotRow → List Listing → Tables
+abbrev pub tables_with : Config → Site → ℕ → Vm → List FrameRow → List SlotRow → List Listing → Tables
 tables_with c s n w fs ss ls = put_vm (record (tables_of c s) { frames = fs; slots = ss; listings = ls }) n (Some (vm_table w))
 
-shown_by : (c : Config) (s : Site) (n : ℕ) (w : Vm) (hints : List Hint) (fs : List FrameRow) (ss : List SlotRow) (ls : List Listing)
+pub shown_by : (c : Config) (s : Site) (n : ℕ) (w : Vm) (hints : List Hint) (fs : List FrameRow) (ss : List SlotRow) (ls : List Listing)
     → frame_rows c.frames (site_with s n w hints) ≡ fs → slot_rows c.slots (site_with s n w hints) ≡ ss → listing_rows c.frames (site_with s n w hints) ≡ ls
     → tables_of c (site_with s n w hints) ≡ tables_with c s n w fs ss ls
 shown_by c s n w hints fs ss ls f i l =
@@ -114,11 +114,11 @@ row_only_shown c s n v w there places overhead =
     (rows_same (listing_row s) (listing_row t) 0 c.frames (λ f. listing_is t f ∙ ap (λ r. listing_by r (find (is_hint_in t f) s.hints)) (row f) ∙ ap (listing_by (frame_row s f)) (found f) ∙ sym (listing_is s f)))
 
 -- What is known where a page of a machine goes to another place.
-record Moves (c : Config) (s : Site) (n page : ℕ) (v : Vm) (p : Place) : Type 0 where
-  sound : IsSound c s
-  there : vm_at s n ≡ Some v
-  within : page < length v.places
-  was : place_at v page ≡ p
+pub record Moves (c : Config) (s : Site) (n page : ℕ) (v : Vm) (p : Place) : Type 0 where
+  pub sound : IsSound c s
+  pub there : vm_at s n ≡ Some v
+  pub within : page < length v.places
+  pub was : place_at v page ≡ p
 
 same_hint : (n page : ℕ) (h : Hint) → is_hint_of n page h ≡ true → (h.vm ≡ n) × (h.page ≡ page)
 same_hint n page h e = (grind (arith, nat_tests), grind (arith, nat_tests))
@@ -134,19 +134,19 @@ is_it : (b : Bool) → not b ≡ false → b ≡ true
 is_it true h = refl
 is_it false h = cc
 
-old_at : (c : Config) (s : Site) (n page : ℕ) (v : Vm) (p : Place) (g : Moves c s n page v p) → place_of s n page ≡ p
+pub old_at : (c : Config) (s : Site) (n page : ℕ) (v : Vm) (p : Place) (g : Moves c s n page v p) → place_of s n page ≡ p
 old_at c s n page v p g = ap (λ o. place_in o page) g.there ∙ g.was
 
-others_at : (c : Config) (s : Site) (n page : ℕ) (v : Vm) (p q : Place) (g : Moves c s n page v p) (h : Hint) → is_hint_of n page h ≡ false → place_of (placed s n page q) h.vm h.page ≡ place_of s h.vm h.page
+pub others_at : (c : Config) (s : Site) (n page : ℕ) (v : Vm) (p q : Place) (g : Moves c s n page v p) (h : Hint) → is_hint_of n page h ≡ false → place_of (placed s n page q) h.vm h.page ≡ place_of s h.vm h.page
 others_at c s n page v p q g h other =
     ap (λ t. place_of t h.vm h.page) (placed_is s n page v q g.there)
     ∙ place_changed s n h.vm h.page v (with_place page q v) (hints_at n page q s.hints) g.there (λ d. get_or-set_other v.places page h.page q Untouched (other_page n page h.vm h.page other d))
 
-new_at : (c : Config) (s : Site) (n page : ℕ) (v : Vm) (p q : Place) (g : Moves c s n page v p) → place_of (placed s n page q) n page ≡ q
+pub new_at : (c : Config) (s : Site) (n page : ℕ) (v : Vm) (p q : Place) (g : Moves c s n page v p) → place_of (placed s n page q) n page ≡ q
 new_at c s n page v p q g = ap (λ o. place_in o page) (vm_placed_there s n page v q g.there) ∙ get_or-set_same v.places page q Untouched g.within
 
 -- the hint of a page that is moved is in a frame where the page is
-own_hint : (s : Site) (f n page : ℕ) (h : Hint) → is_hint_of n page h ≡ true → is_hint_in s f h ≡ is_here_at f (place_of s n page)
+pub own_hint : (s : Site) (f n page : ℕ) (h : Hint) → is_hint_of n page h ≡ true → is_hint_in s f h ≡ is_here_at f (place_of s n page)
 own_hint s f n page h e = (let same = same_hint n page h e in ap (λ m. is_here_at f (place_of s m h.page)) same.0 ∙ ap (λ k. is_here_at f (place_of s n k)) same.1)
 
 -- which hint is in a frame that the page neither leaves nor comes to
@@ -166,14 +166,14 @@ found_without c s n page v p q g f away =
     (λ h e. own_hint s f n page h (is_it (is_hint_of n page h) e) ∙ ap (is_here_at f) (old_at c s n page v p g) ∙ away)
     (λ h e. ap (is_here_at f) (others_at c s n page v p q g h (not_it (is_hint_of n page h) e)))
 
-placed_hints : (s : Site) (n page : ℕ) (v : Vm) (q : Place) → vm_at s n ≡ Some v → (placed s n page q).hints ≡ hints_at n page q s.hints
+pub placed_hints : (s : Site) (n page : ℕ) (v : Vm) (q : Place) → vm_at s n ≡ Some v → (placed s n page q).hints ≡ hints_at n page q s.hints
 placed_hints s n page v q there = ap (λ (t : Site). t.hints) (placed_is s n page v q there)
 
 nowhere_hints : (n page : ℕ) (q : Place) (hints : List Hint) → is_private q ≡ false → hints_at n page q hints ≡ without_hint n page hints
 nowhere_hints n page q hints e = ap (λ b. cond b hints (without_hint n page hints)) e
 
 -- the tables of the site, row by row
-shown_placed : (c : Config) (s : Site) (n page : ℕ) (v : Vm) (q : Place) (fs : List FrameRow) (ss : List SlotRow) (ls : List Listing) → vm_at s n ≡ Some v
+pub shown_placed : (c : Config) (s : Site) (n page : ℕ) (v : Vm) (q : Place) (fs : List FrameRow) (ss : List SlotRow) (ls : List Listing) → vm_at s n ≡ Some v
     → frame_rows c.frames (placed s n page q) ≡ fs → slot_rows c.slots (placed s n page q) ≡ ss → listing_rows c.frames (placed s n page q) ≡ ls
     → tables_of c (placed s n page q) ≡ tables_with c s n (with_place page q v) fs ss ls
 shown_placed c s n page v q fs ss ls there f i l =
@@ -208,14 +208,14 @@ nothing_moves c s n page v p q g off away ss slot =
     (rows_same (frame_row s) (frame_row t) 0 c.frames row) slot
     (rows_same (listing_row s) (listing_row t) 0 c.frames (λ f. listing_stays c s n page v p q g (nowhere_private q away) f (off.here f) (row f)))
 
-slots_stay : (c : Config) (s : Site) (n page : ℕ) (v : Vm) (p q : Place) (g : Moves c s n page v p) → ((i : ℕ) → is_out_at i p ≡ false) → ((i : ℕ) → is_out_at i q ≡ false) → slot_rows c.slots (placed s n page q) ≡ slot_rows c.slots s
+pub slots_stay : (c : Config) (s : Site) (n page : ℕ) (v : Vm) (p q : Place) (g : Moves c s n page v p) → ((i : ℕ) → is_out_at i p ≡ false) → ((i : ℕ) → is_out_at i q ≡ false) → slot_rows c.slots (placed s n page q) ≡ slot_rows c.slots s
 slots_stay c s n page v p q g off away =
     let t = placed s n page q in
     let P : Place → Type 0 = λ x. Changed x q (all_places s) (all_places t) in
     let ch = subst P g.was (placed_changed s n page v q g.there g.within) in
     rows_same (slot_row s) (slot_row t) 0 c.slots (λ i. out_row_same s t i (filter_neither (is_out_at i) p q (all_places s) (all_places t) ch (off i) (away i)))
 
-other_frame : (f g : ℕ) → g ≢ f → (f == g) ≡ false
+pub other_frame : (f g : ℕ) → g ≢ f → (f == g) ≡ false
 other_frame f g h = grind (arith, nat_tests)
 
 after_less : (r : FrameRow) (x y : Option Hint) → listing_by (less r) x ≡ listing_after (less r) (listing_by r y)
@@ -272,7 +272,7 @@ slot_leaves c s n page v bytes i q g away =
     (rows_same (listing_row s) (listing_row t) 0 c.frames (λ f. listing_stays c s n page v p q g (nowhere_private q away) f refl (row f)))
 
 -- a page leaves its place
-leaves : (c : Config) (s : Site) (n page : ℕ) (v : Vm) (p q : Place) (g : Moves c s n page v p) → IsNowhere q → tables_of c (placed s n page q) ≡ put_vm (left p (tables_of c s)) n (Some (vm_table (with_place page q v)))
+pub leaves : (c : Config) (s : Site) (n page : ℕ) (v : Vm) (p q : Place) (g : Moves c s n page v p) → IsNowhere q → tables_of c (placed s n page q) ≡ put_vm (left p (tables_of c s)) n (Some (vm_table (with_place page q v)))
 leaves c s n page v Untouched q g away = nothing_moves c s n page v Untouched q g untouched_nowhere away (slot_rows c.slots s) (slots_stay c s n page v Untouched q g (λ i. refl) away.out)
 leaves c s n page v (Lent e) q g away = nothing_moves c s n page v (Lent e) q g (record { here = λ f. refl; out = λ i. refl }) away (slot_rows c.slots s) (slots_stay c s n page v (Lent e) q g (λ i. refl) away.out)
 leaves c s n page v (Here bytes f shared) q g away = frame_leaves c s n page v bytes f shared q g away
@@ -314,7 +314,7 @@ not_in_frame s m k f w (Here bytes g shared) there none was = of (g == f) refl
         let same : g ≡ f = grind (arith, nat_tests) in
         absurd (not_none (filter (is_here_at g) i.front) (filter (is_here_at g) i.back) (Here bytes g shared) (sym (frame_with (all_places s) bytes g shared i) ∙ ap (λ k. in_frame k (all_places s)) same ∙ none))
 
-place_in_frame : (s : Site) (m k f : ℕ) (o : Option Vm) → vm_at s m ≡ o → pages_in s f ≡ [] → is_here_at f (place_in o k) ≡ false
+pub place_in_frame : (s : Site) (m k f : ℕ) (o : Option Vm) → vm_at s m ≡ o → pages_in s f ≡ [] → is_here_at f (place_in o k) ≡ false
 place_in_frame s m k f None there none = refl
 place_in_frame s m k f (Some w) there none = not_in_frame s m k f w (place_at w k) there none refl
 
@@ -386,7 +386,7 @@ slot_joins c s n page v p bytes i g off below free =
     (rows_move (slot_row s) (slot_row t) i c.slots (slots.Held bytes) slots.Free (out_row_by t i ∙ moves.inside.is) (λ k other. out_row_same s t k (moves.others k other)) below)
     (rows_same (listing_row s) (listing_row t) 0 c.frames (λ f. listing_beside c s n page v p q g off f refl (row f)))
 
-joins : (c : Config) (s : Site) (n page : ℕ) (v : Vm) (p q : Place) (g : Moves c s n page v p) → IsNowhere p → IsPlace c v.epoch q → FitsIn (all_places s) (all_overhead s) q
+pub joins : (c : Config) (s : Site) (n page : ℕ) (v : Vm) (p q : Place) (g : Moves c s n page v p) → IsNowhere p → IsPlace c v.epoch q → FitsIn (all_places s) (all_overhead s) q
     → tables_of c (placed s n page q) ≡ put_vm (joined q (tables_of c s)) n (Some (vm_table (with_place page q v)))
 joins c s n page v p Untouched g off place fits = nothing_moves c s n page v p Untouched g off untouched_nowhere (slot_rows c.slots s) (slots_stay c s n page v p Untouched g off.out (λ i. refl))
 joins c s n page v p (Lent e) g off place fits = nothing_moves c s n page v p (Lent e) g off (record { here = λ f. refl; out = λ i. refl }) (slot_rows c.slots s) (slots_stay c s n page v p (Lent e) g off.out (λ i. refl))
