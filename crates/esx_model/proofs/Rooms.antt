@@ -162,7 +162,7 @@ is_in_changed p q ps qs ch = record { front = ch.front; back = ch.back; is = ch.
 pub is_in_after : (p q : Place) (ps qs : List Place) → Changed p q ps qs → IsIn qs q
 is_in_after p q ps qs ch = record { front = ch.front; back = ch.back; is = ch.after }
 
-frame_with : (ps : List Place) (bytes : List ℕ) (f : ℕ) (shared : Bool) (i : IsIn ps (Here bytes f shared))
+pub frame_with : (ps : List Place) (bytes : List ℕ) (f : ℕ) (shared : Bool) (i : IsIn ps (Here bytes f shared))
     → in_frame f ps ≡ filter (is_here_at f) i.front ++ Here bytes f shared ∷ filter (is_here_at f) i.back
 frame_with ps bytes f shared i =
     let p : Place = Here bytes f shared in
