@@ -5,3 +5,4 @@ pub mod Machines
 pub mod Fields
 pub mod Changes
 pub mod Sizes
+pub mod Kept

@@ -7,6 +7,8 @@ mod exchange;
 pub mod laws;
 mod record;
 mod tables;
+#[cfg(test)]
+mod tests;
 mod vm_table;
 
 pub use change::{Change, Facts, VmPart};

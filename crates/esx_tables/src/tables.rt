@@ -180,7 +180,7 @@ impl SiteTables {
         ensures value { MatchOption result (row_at self.now vm ≡ None) (λ v. row_at self.now vm ≡ Some v.now) }
         ensures named { vm < VM_NUMBERS }
     {
-        match self.vms.as_slice().get(usize::from(vm.number())) {
+        match self.vms().get(usize::from(vm.number())) {
             Some(Some(vm)) => Some(vm),
             _ => None,
         }
