@@ -15,3 +15,5 @@ pub mod WhatIf
 pub mod Console
 pub mod Alone
 pub mod Tables
+pub mod Moved
+pub mod Laws

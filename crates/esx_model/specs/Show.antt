@@ -34,20 +34,26 @@ row_of (Untouched ∷ ps) = frames.Free
 row_of (Out bytes slot ∷ ps) = frames.Free
 row_of (Lent epoch ∷ ps) = frames.Free
 
--- some machine lists the frame
-abbrev pub is_taken : Site → ℕ → Bool
-is_taken s f = list_any (λ g. g == f) (all_overhead s)
+-- the frame is among these
+abbrev pub is_listed : ℕ → List ℕ → Bool
+is_listed f frames = list_any (λ g. g == f) frames
 
--- the pages in one frame, and in one slot
+-- those of some pages that are in one frame, and in one slot
+abbrev pub in_frame : ℕ → List Place → List Place
+in_frame f places = filter (is_here_at f) places
+
+abbrev pub in_slot : ℕ → List Place → List Place
+in_slot i places = filter (is_out_at i) places
+
 abbrev pub pages_in : Site → ℕ → List Place
-pages_in s f = filter (is_here_at f) (all_places s)
+pages_in s f = in_frame f (all_places s)
 
 abbrev pub pages_out : Site → ℕ → List Place
-pages_out s i = filter (is_out_at i) (all_places s)
+pages_out s i = in_slot i (all_places s)
 
 -- overhead where a machine lists the frame, else what the pages in it make of it
 unfoldable pub frame_row : Site → ℕ → FrameRow
-frame_row s f = if is_taken s f then frames.Overhead else row_of (pages_in s f)
+frame_row s f = if is_listed f (all_overhead s) then frames.Overhead else row_of (pages_in s f)
 
 -- what the pages in one slot make of it
 abbrev pub slot_of : List Place → SlotRow

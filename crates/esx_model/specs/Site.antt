@@ -53,6 +53,10 @@ abbrev pub place_in : Option Vm → ℕ → Place
 place_in None page = Untouched
 place_in (Some v) page = place_at v page
 
+-- where a page of a machine by its number is
+abbrev pub place_of : Site → ℕ → ℕ → Place
+place_of s n page = place_in (vm_at s n) page
+
 -- how many pages of a machine are in frames, and in slots
 abbrev pub resident : Vm → ℕ
 resident v = count_by is_here v.places

@@ -24,7 +24,7 @@ use Rattle.esx_types.specs.Listings.{in_order, hints_of, shared_from}
 use Rattle.esx_types.specs.Pages.{resident_count, out_count, lent_count}
 use Rattle.esx_model.specs.declared.tables.Tables.{Tables}
 use Rattle.esx_model.specs.Places.{is_here_at}
-use Rattle.esx_model.specs.Site.{vm_at, place_in}
+use Rattle.esx_model.specs.Site.{place_of}
 use Rattle.esx_model.specs.Show.{frame_row, frame_rows, slot_rows, period_row}
 
 -- where a page is, without its bytes
@@ -55,7 +55,7 @@ standing_of v = record { spec = v.spec; state = v.state; target = v.target; resi
 
 -- the hint's page is in frame f
 abbrev pub is_hint_in : Site → ℕ → Hint → Bool
-is_hint_in s f h = is_here_at f (place_in (vm_at s h.vm) h.page)
+is_hint_in s f h = is_here_at f (place_of s h.vm h.page)
 
 abbrev pub hint_listing : Option Hint → Listing
 hint_listing None = listings.Unlisted

@@ -2,6 +2,7 @@
 #![tactic(auto)]
 
 pub mod book;
+pub mod laws;
 pub mod look;
 pub mod scene;
 pub mod tables;

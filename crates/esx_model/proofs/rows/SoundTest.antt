@@ -1,5 +1,5 @@
 -- The clauses of soundness and of advice as tests, along a list of events.
-use Rattle.std.specs.Prelude.{ℕ, ◌-◌, ◌^◌, Bool, true, false, ◌&&◌, ◌||◌, ◌==◌, nat_lt, nat_le, bytes_eq, List, [], ◌∷◌, length, filter, Option, Some, None, is_none, Result, Ok, Err}
+use Rattle.std.specs.Prelude.{ℕ, ◌-◌, ◌^◌, Bool, true, false, ◌&&◌, ◌||◌, ◌==◌, nat_lt, nat_le, bytes_eq, List, [], ◌∷◌, length, filter, Option, Some, None, is_none, Result, Ok, Err, count_by, not}
 use Rattle.std.specs.List.{list_all, range_with_len}
 use Rattle.esx_types.specs.declared.config.Config.{Config}
 use Rattle.esx_types.specs.Ranges.{is_good}
@@ -27,8 +27,7 @@ use Rattle.esx_model.specs.Show.{shown}
 use Rattle.esx_model.specs.Readings.{debt}
 use Rattle.esx_model.specs.Advice.{advice}
 use Rattle.esx_model.specs.Replay.{opening, next}
-use Rattle.esx_model.specs.sound.Frames.{overhead_at}
-use Rattle.esx_model.specs.Show.{pages_in, pages_out}
+use Rattle.esx_model.specs.Show.{pages_in, pages_out, is_listed}
 use Rattle.esx_model.proofs.rows.Replies.{replies_of}
 
 place_ok : Config → ℕ → Place → Bool
@@ -69,7 +68,7 @@ alike_ok (p ∷ ps) = length ps == 0
 
 frames_ok : Config → Site → Bool
 unfolding alike_ok
-frames_ok c s = list_all (λ f. alike_ok (pages_in s f) && nat_le (overhead_at s f) 1 && ((overhead_at s f == 0) || (length (pages_in s f) == 0))) (range_with_len 0 c.frames)
+frames_ok c s = list_all (λ f. alike_ok (pages_in s f) && nat_le (count_by (λ g. g == f) (all_overhead s)) 1 && (not (is_listed f (all_overhead s)) || (length (pages_in s f) == 0))) (range_with_len 0 c.frames)
     && list_all (λ i. nat_le (length (pages_out s i)) 1) (range_with_len 0 c.slots) && list_all (λ f. nat_lt f c.frames) (all_overhead s)
 
 keys_rise : List KeyRow → Bool

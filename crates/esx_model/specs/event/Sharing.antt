@@ -15,7 +15,7 @@ use Rattle.esx_types.specs.declared.table.Hint.{Hint}
 use Rattle.esx_model.specs.declared.scene.Site.{Site}
 use Rattle.esx_formulas.specs.Key.{content_key}
 use Rattle.esx_model.specs.Places.{is_here, contents}
-use Rattle.esx_model.specs.Site.{vm_at, place_at, place_in, pages_at, all_places}
+use Rattle.esx_model.specs.Site.{vm_at, place_at, place_of, pages_at, all_places}
 use Rattle.esx_model.specs.Hints.{hint_key, with_hint, other_hint, placed}
 use Rattle.esx_model.specs.event.Outcome.{Outcome, Gate, at_vm, unless, standing, is_running}
 
@@ -48,7 +48,7 @@ look_at_hinted bytes h (Lent epoch) = Changed
 
 abbrev pub look_at_hint : Site → List ℕ → Option Hint → Look
 look_at_hint s bytes None = Nothing
-look_at_hint s bytes (Some h) = look_at_hinted bytes h (place_in (vm_at s h.vm) h.page)
+look_at_hint s bytes (Some h) = look_at_hinted bytes h (place_of s h.vm h.page)
 
 -- a shared page comes before a hint
 abbrev pub look_private : Site → ℕ → ℕ → List ℕ → Option Place → Look

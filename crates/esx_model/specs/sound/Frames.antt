@@ -1,7 +1,6 @@
--- What the frames and slots of a site on a path keep.
+-- What the frames and slots of a site on a path keep, as a matter of its pages and its overhead frames.
 use Rattle.std.specs.Prelude.{◌≡◌, ℕ, ◌≤◌, ◌<◌, true, false, ◌==◌, List, [], ◌∷◌, Option, Some, None, replicate, count_by}
 use Rattle.std.specs.List.{AllByRecursion}
-use Rattle.esx_types.specs.declared.config.Config.{Config}
 use Rattle.esx_types.specs.declared.table.FrameRow.{FrameRow}
 use Rattle.esx_types.specs.declared.table.FrameRow.TheVariants as frames
 use Rattle.esx_types.specs.declared.table.SlotRow.{SlotRow}
@@ -9,9 +8,7 @@ use Rattle.esx_types.specs.declared.table.SlotRow.TheVariants as slots
 use Rattle.esx_formulas.specs.Key.{content_key}
 use Rattle.esx_model.specs.declared.scene.Place.{Place}
 use Rattle.esx_model.specs.declared.scene.Place.TheVariants.{Here, Out}
-use Rattle.esx_model.specs.declared.scene.Site.{Site}
-use Rattle.esx_model.specs.Site.{all_overhead}
-use Rattle.esx_model.specs.Show.{is_taken, pages_in, pages_out, row_of, slot_of}
+use Rattle.esx_model.specs.Show.{in_frame, in_slot, is_listed, row_of, slot_of}
 
 -- the pages that the row of frame f stands for
 abbrev pub pages_for : ℕ → FrameRow → List Place
@@ -25,10 +22,6 @@ abbrev pub pages_out_for : ℕ → SlotRow → List Place
 pages_out_for i slots.Free = []
 pages_out_for i (slots.Held bytes) = Out bytes i ∷ []
 
--- how often a frame is listed as overhead
-abbrev pub overhead_at : Site → ℕ → ℕ
-overhead_at s f = count_by (λ g. g == f) (all_overhead s)
-
 -- the key that a frame is shared under
 abbrev pub key_of_row : FrameRow → Option ℕ
 key_of_row frames.Free = None
@@ -36,14 +29,14 @@ key_of_row frames.Overhead = None
 key_of_row (frames.Private bytes) = None
 key_of_row (frames.Shared count bytes) = Some (content_key bytes)
 
-pub record AreFrames (c : Config) (s : Site) : Type 0 where
+pub record AreFrames (count : ℕ) (places : List Place) (overhead : List ℕ) : Type 0 where
   -- a frame has one private page, or as many pages as its count, shared and with equal bytes
-  pub alike : (f : ℕ) → pages_in s f ≡ pages_for f (row_of (pages_in s f))
+  pub alike : (f : ℕ) → in_frame f places ≡ pages_for f (row_of (in_frame f places))
   -- a slot has one page
-  pub single : (i : ℕ) → pages_out s i ≡ pages_out_for i (slot_of (pages_out s i))
-  pub overhead : AllByRecursion (λ f. f < c.frames) (all_overhead s)
+  pub single : (i : ℕ) → in_slot i places ≡ pages_out_for i (slot_of (in_slot i places))
+  pub below : AllByRecursion (λ f. f < count) overhead
   -- no frame is overhead twice, nor overhead and a page's
-  pub once : (f : ℕ) → overhead_at s f ≤ 1
-  pub apart : (f : ℕ) → is_taken s f ≡ true → pages_in s f ≡ []
+  pub once : (f : ℕ) → count_by (λ g. g == f) overhead ≤ 1
+  pub apart : (f : ℕ) → is_listed f overhead ≡ true → in_frame f places ≡ []
   -- one frame is shared under a key
-  pub keys : (f g key : ℕ) → key_of_row (row_of (pages_in s f)) ≡ Some key → key_of_row (row_of (pages_in s g)) ≡ Some key → f ≡ g
+  pub keys : (f g key : ℕ) → key_of_row (row_of (in_frame f places)) ≡ Some key → key_of_row (row_of (in_frame g places)) ≡ Some key → f ≡ g

@@ -6,7 +6,7 @@ use Rattle.esx_events.specs.declared.event.Event.{Event}
 use Rattle.esx_events.specs.declared.event.Event.TheVariants.{Admit, Start, Read, Write, Ask, Lend, TakeBack, Sample, Rebalance, Scan, SwapOut, Replace, SetShares, SetTax, Stop, DropPage, Gone}
 use Rattle.esx_model.specs.declared.scene.Vm.{Vm}
 use Rattle.esx_model.specs.declared.scene.Site.{Site}
-use Rattle.esx_model.specs.Site.{vm_at, memory_reserved, swap_reserved}
+use Rattle.esx_model.specs.Site.{vm_at, place_of, all_places, all_overhead, memory_reserved, swap_reserved}
 use Rattle.esx_model.specs.sound.Machines.{IsVm}
 use Rattle.esx_model.specs.sound.Frames.{AreFrames}
 use Rattle.esx_model.specs.sound.Hints.{AreHints}
@@ -17,8 +17,8 @@ pub record IsSound (c : Config) (s : Site) : Type 0 where
   pub memory : memory_reserved s ≤ c.frames
   pub swap : swap_reserved s ≤ c.slots
   pub tau : s.tau ≤ 99
-  pub frames : AreFrames c s
-  pub hints : AreHints s
+  pub frames : AreFrames c.frames (all_places s) (all_overhead s)
+  pub hints : AreHints (place_of s) s.hints
 
 -- each event names a machine by a number that there is
 abbrev pub NamesVm : Event → Type 0

@@ -1,0 +1,109 @@
+-- The rows that targets are made from, of a sound site, are rows in order.
+use Rattle.std.proofs.Common.{zero, suc, ◌≡◌, ℕ, ◌+◌, ◌*◌, ◌/◌, ◌≤◌, ◌<◌, max, List, [], ◌∷◌, length, get_or, refl, sym, ap, ◌∙◌, arith, Option, Some, None}
+use Rattle.std.specs.Option.{option_map}
+use Rattle.std.specs.List.{fold, AllByRecursion}
+use Rattle.std.proofs.lemmas.List.Sums.{count_by-le-length}
+use Rattle.esx_types.specs.declared.config.Config.{Config}
+use Rattle.esx_types.specs.declared.config.TheConstants.{VM_NUMBERS}
+use Rattle.esx_formulas.specs.declared.activity.Estimate.{Estimate}
+use Rattle.esx_formulas.specs.declared.activity.Period.{Period}
+use Rattle.esx_formulas.specs.declared.targets.Row.{Row}
+use Rattle.esx_formulas.specs.Average.{touched_share, slower, faster, slow_average, fast_average, is_touched, so_far, open_average, active_share}
+use Rattle.esx_formulas.specs.Estimates.{IsEstimate}
+use Rattle.esx_formulas.specs.Ratio.{IsRow, AreRows, row_at}
+use Rattle.esx_formulas.proofs.Revoking.{worked_out, only_worked_out}
+use Rattle.esx_model.specs.declared.scene.Vm.{Vm}
+use Rattle.esx_model.specs.declared.scene.Site.{Site}
+use Rattle.esx_model.specs.Places.{is_here}
+use Rattle.esx_model.specs.Site.{resident}
+use Rattle.esx_model.specs.event.Rebalancing.{active, row_of_vm, rows_from, rows_of, min_of}
+use Rattle.esx_model.specs.sound.Machines.{IsVm, IsPeriodOrNone}
+use Rattle.esx_model.specs.sound.Sound.{IsSound}
+use Rattle.esx_model.specs.Laws.{HasOneListOfTargets}
+
+-- Averages are shares.
+
+share_most : (e : Estimate) → IsEstimate e → touched_share e ≤ 65536
+share_most e h = grind (arith)
+
+slow_most : (closed : List Estimate) (slow : ℕ) → slow ≤ 65536 → AllByRecursion IsEstimate closed → fold (λ slow e. slower slow (touched_share e)) slow closed ≤ 65536
+slow_most [] slow low h = low
+slow_most (e ∷ closed) slow low h = (let x = share_most e h.0 in slow_most closed (slower slow (touched_share e)) (omega (arith, x, low)) h.1)
+
+fast_most : (closed : List Estimate) (fast : ℕ) → fast ≤ 65536 → AllByRecursion IsEstimate closed → fold (λ fast e. faster fast (touched_share e)) fast closed ≤ 65536
+fast_most [] fast low h = low
+fast_most (e ∷ closed) fast low h = (let x = share_most e h.0 in fast_most closed (faster fast (touched_share e)) (omega (arith, x, low)) h.1)
+
+pub slow_is_share : (closed : List Estimate) → AllByRecursion IsEstimate closed → slow_average closed ≤ 65536
+unfolding slow_average
+slow_is_share closed h = slow_most closed 65536 (omega arith) h
+
+pub fast_is_share : (closed : List Estimate) → AllByRecursion IsEstimate closed → fast_average closed ≤ 65536
+unfolding fast_average
+fast_is_share closed h = fast_most closed 65536 (omega arith) h
+
+open_most : (spec_max fast : ℕ) (o : Option Period) → fast ≤ 65536 → IsPeriodOrNone spec_max o → open_average fast (option_map so_far o) ≤ 65536
+open_most m fast None low period = low
+open_most m fast (Some p) low period =
+    let touched = count_by-le-length (is_touched p) p.pages in
+    let fine : IsEstimate (so_far p) = record { touched = touched; least_pages = period.least_pages; most_pages = period.most_pages } in
+    let x = share_most (so_far p) fine in
+    omega (arith, x, low)
+
+pub active_is_share : (c : Config) (v : Vm) → IsVm c v → active v ≤ 65536
+active_is_share c v fine =
+    let slow = slow_is_share v.closed fine.closed in
+    let fast = fast_is_share v.closed fine.closed in
+    let now = open_most v.spec.max (fast_average v.closed) v.period fast fine.period in
+    omega (arith, slow, fast, now)
+
+pub resident_most : (c : Config) (v : Vm) → IsVm c v → resident v ≤ v.spec.max
+resident_most c v fine = (let few = count_by-le-length is_here v.places in omega (arith, few, fine.pages))
+
+-- The rows.
+
+row_fine : (c : Config) (floor : Vm → ℕ) (n : ℕ) (v : Vm) → IsVm c v → n < VM_NUMBERS → floor v ≤ 65536 → IsRow (row_of_vm n (floor v) v)
+row_fine c floor n v fine low least = record {
+  vm = low;
+  least_shares = fine.good.least_shares;
+  most_shares = fine.good.most_shares;
+  most_pages = (let most = resident_most c v fine in omega (arith, most, fine.good.most_max));
+  most_floor = least;
+  most_active = active_is_share c v fine;
+}
+
+rows_fine : (c : Config) (floor : Vm → ℕ) (n : ℕ) (vms : List (Option Vm)) → ((k : ℕ) (v : Vm) → get_or vms k None ≡ Some v → IsVm c v × (floor v ≤ 65536)) → n + length vms ≤ VM_NUMBERS
+    → (i : ℕ) → i < length (rows_from floor n vms) → IsRow (row_at (rows_from floor n vms) i)
+rows_fine c floor n [] each low i below = absurd (omega arith)
+rows_fine c floor n (None ∷ os) each low i below = rows_fine c floor (n + 1) os (λ k v h. each (suc k) v h) (omega (arith, low)) i below
+rows_fine c floor n (Some v ∷ os) each low zero below = (let known = each zero v refl in row_fine c floor n v known.0 (omega (arith, low)) known.1)
+rows_fine c floor n (Some v ∷ os) each low (suc i) below = rows_fine c floor (n + 1) os (λ k v h. each (suc k) v h) (omega (arith, low)) i (omega (arith, below))
+
+rows_least : (floor : Vm → ℕ) (n : ℕ) (vms : List (Option Vm)) (i : ℕ) → i < length (rows_from floor n vms) → n ≤ (row_at (rows_from floor n vms) i).vm
+rows_least floor n [] i below = absurd (omega arith)
+rows_least floor n (None ∷ os) i below = (let rest = rows_least floor (n + 1) os i below in omega (arith, rest))
+rows_least floor n (Some v ∷ os) zero below = omega arith
+rows_least floor n (Some v ∷ os) (suc i) below = (let rest = rows_least floor (n + 1) os i (omega (arith, below)) in omega (arith, rest))
+
+rows_ordered : (floor : Vm → ℕ) (n : ℕ) (vms : List (Option Vm)) (i j : ℕ) → i < j → j < length (rows_from floor n vms) → (row_at (rows_from floor n vms) i).vm < (row_at (rows_from floor n vms) j).vm
+rows_ordered floor n [] i j less below = absurd (omega arith)
+rows_ordered floor n (None ∷ os) i j less below = rows_ordered floor (n + 1) os i j less below
+rows_ordered floor n (Some v ∷ os) i zero less below = absurd (omega arith)
+rows_ordered floor n (Some v ∷ os) zero (suc j) less below = (let rest = rows_least floor (n + 1) os j (omega (arith, below)) in omega (arith, rest))
+rows_ordered floor n (Some v ∷ os) (suc i) (suc j) less below = rows_ordered floor (n + 1) os i j (omega (arith, less)) (omega (arith, below))
+
+-- the rows of a sound site
+pub rows_of_sound : (c : Config) (s : Site) (floor : Vm → ℕ) → IsSound c s → ((v : Vm) → IsVm c v → floor v ≤ 65536) → AreRows (rows_of floor s)
+unfolding rows_of
+rows_of_sound c s floor sound least = record {
+  each = rows_fine c floor 0 s.vms (λ k v h. (sound.each k v h, least v (sound.each k v h))) (omega (arith, sound.vms));
+  ordered = rows_ordered floor 0 s.vms;
+}
+
+pub site_targets : (c : Config) (s : Site) (need : ℕ) → IsSound c s → HasOneListOfTargets s need
+site_targets c s need sound =
+    let rows = rows_of_sound c s min_of sound (λ v fine. omega (arith, fine.good.min_max, fine.good.most_max)) in
+    record {
+      rows = rows;
+      one = λ targets. (only_worked_out s.tau (rows_of min_of s) sound.tau rows need targets, λ e. rw e (worked_out s.tau (rows_of min_of s) sound.tau rows need));
+    }

@@ -1,0 +1,11 @@
+pub mod Balloon
+pub mod Sampling
+pub mod Rebalancing
+pub mod Leaving
+pub mod Gone
+pub mod Access
+pub mod Starting
+pub mod Admission
+pub mod Sharing
+pub mod Paging
+pub mod Replacing

@@ -1,0 +1,43 @@
+//! Laws of the model.
+
+ghost use Rattle.esx_model.specs.Laws.{IsOpeningSound, IsEachEventSound, IsEachPathSound, IsEachReserveKept, IsEachPressedSiteFull, IsReadHarmless, HaveSitesTargets, AreAllFramesCounted};
+
+/// A path begins at a sound site.
+pub fn opening_is_sound()
+    ensures { IsOpeningSound }
+{}
+
+/// Each accepted event leaves a sound site sound.
+pub fn each_event_is_sound()
+    ensures { IsEachEventSound }
+{}
+
+/// Each path leads to a sound site.
+pub fn each_path_is_sound()
+    ensures { IsEachPathSound }
+{}
+
+/// A page that is to go out finds a slot, and a page to draw is there.
+pub fn each_reserve_is_kept()
+    ensures { IsEachReserveKept }
+{}
+
+/// Where a page may be replaced, each machine has its least and no frame has two pages.
+pub fn each_pressed_site_is_full()
+    ensures { IsEachPressedSiteFull }
+{}
+
+/// A read changes no page's bytes.
+pub fn read_is_harmless()
+    ensures { IsReadHarmless }
+{}
+
+/// One list of targets fits the rows of a sound site.
+pub fn sites_have_targets()
+    ensures { HaveSitesTargets }
+{}
+
+/// The frames of all kinds add up, and counts are numbers of pages.
+pub fn frames_are_counted()
+    ensures { AreAllFramesCounted }
+{}

@@ -1,0 +1,4 @@
+pub mod FieldLemmas
+pub mod HexField
+pub mod VerbLemmas
+pub mod WritingLemmas
