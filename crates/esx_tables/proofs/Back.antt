@@ -66,7 +66,7 @@ pub slots_there : (f i : ℕ) (frames : List FrameRow) (rows : List SlotRow) →
 unfolding slots_traded
 slots_there f i frames rows h = rw (lt-ltb i (length rows) h) refl
 
-slots_past : (f i : ℕ) (frames : List FrameRow) (rows : List SlotRow) → length rows ≤ i → slots_traded f i frames rows ≡ (frames, rows)
+pub slots_past : (f i : ℕ) (frames : List FrameRow) (rows : List SlotRow) → length rows ≤ i → slots_traded f i frames rows ≡ (frames, rows)
 unfolding slots_traded
 slots_past f i frames rows h = rw (le-ltb i (length rows) h) refl
 

@@ -5,6 +5,7 @@ ghost use Rattle.esx_tables.specs.Machines.{vm_traded};
 ghost use Rattle.esx_tables.specs.Changes.{slots_traded, traded, exchanged};
 
 use crate::change::{Change, VmPart};
+use crate::record::Record;
 use crate::tables::SiteTables;
 use crate::vm_table::VmTable;
 use esx_frames::FrameTable;
@@ -42,9 +43,17 @@ impl SiteTables {
         }
     }
 
-    /// Makes changes in turn, and leaves the list that leads back. It takes no memory.
+    /// Makes the changes of a record in turn, and leaves what leads back. It takes no memory.
+    pub fn exchange(&mut self, back: &mut Record)
+        ensures tables { self.new ≡ (exchanged self.old back.old).0 }
+        ensures back { back.new ≡ (exchanged self.old back.old).1 }
+    {
+        self.make_all(&mut back.changes);
+    }
+
+    /// Makes changes in turn, and leaves the list that leads back.
     #[tactic(auto, unfolding(crate::specs::Changes::exchanged))]
-    pub fn exchange(&mut self, changes: &mut Vec<Change>)
+    fn make_all(&mut self, changes: &mut Vec<Change>)
         ensures tables { self.new ≡ (exchanged self.old changes.old.items).0 }
         ensures changes { changes.new.items ≡ (exchanged self.old changes.old.items).1 }
     {

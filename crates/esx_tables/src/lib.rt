@@ -2,13 +2,18 @@
 #![tactic(auto)]
 
 mod change;
+mod copy;
 mod exchange;
 pub mod laws;
+mod record;
 mod tables;
+#[cfg(test)]
+mod tests;
 mod vm_table;
 
 pub use change::{Change, Facts, VmPart};
 pub use esx_average::Averages;
 pub use esx_frames::{Counts, Mark};
+pub use record::{Record, RecordSize};
 pub use tables::SiteTables;
 pub use vm_table::VmTable;

@@ -1,15 +1,19 @@
 //! A virtual machine's row, with room for every overhead frame that it will take.
 
-ghost use Rattle.std.specs.Prelude.{◌≡◌, ◌≤◌, option_map, vec_len, vec_capacity};
+ghost use Rattle.std.specs.Prelude.{◌≡◌, ◌<◌, ◌≤◌, IfOk, length, option_map, slice_index, vec_len, vec_capacity};
+ghost use Rattle.esx_types.specs.Pages.{page_at, resident_count, resident_pages};
 ghost use Rattle.esx_lists.specs.Trades.{place_turned, top_traded};
-ghost use Rattle.esx_tables.specs.Machines.{part_traded, done_traded, touched_turned, mark_turned, no_mark};
+ghost use Rattle.esx_model.specs.event.Admission.{admitted};
+ghost use Rattle.esx_model.specs.Tables.{vm_table, standing_of};
+ghost use Rattle.esx_tables.specs.Machines.{facts_of, part_traded, done_traded, touched_turned, mark_turned, no_mark};
 ghost use Rattle.esx_tables.specs.Fields.{fields_with, facts_in};
 
 use crate::change::{Facts, VmPart};
 use esx_average::Averages;
-use esx_model::{Mark as SampleMark, PeriodRow};
+use esx_model::{Mark as SampleMark, PeriodRow, Standing};
 use esx_pmap::PageMap;
 use esx_types::{MapRow, Rows, VmSpec, VmState};
+use std::alloc::{AllocError, Global};
 use std::marker::Model;
 use std::mem;
 
@@ -47,6 +51,112 @@ impl Model for VmTable {
 }
 
 impl VmTable {
+    /// A machine as it is admitted: it has none of its frames, and counts as fully active.
+    #[tactic(auto, using(crate::proofs::Opening::untouched_shown))]
+    pub fn admitted(alloc: Global, spec: VmSpec) -> Result<VmTable, AllocError>
+        ensures { IfOk result (λ vm. vm ≡ vm_table (admitted spec)) }
+    {
+        let fields = Fields {
+            spec,
+            state: VmState::Starting,
+            epoch: 0,
+            due: false,
+            target: spec.max,
+            overhead: Vec::with_capacity(alloc, spec.overhead as usize)?,
+            pages: PageMap::new(alloc, spec.max)?,
+            averages: Averages::opened(),
+            period: None,
+        };
+        Ok(VmTable {
+            fields: Box::new(alloc, fields)?,
+        })
+    }
+
+    /// What gates read of the machine.
+    pub fn standing(&self) -> Standing
+        ensures { result ≡ standing_of self.now }
+    {
+        let fields = &self.fields;
+        Standing {
+            spec: fields.spec,
+            state: fields.state,
+            target: fields.target,
+            resident: fields.pages.resident(),
+            out: fields.pages.out(),
+            lent: fields.pages.lent(fields.epoch),
+        }
+    }
+
+    /// What the machine asked for, with its present shares.
+    pub fn spec(&self) -> VmSpec
+        ensures { result ≡ self.now.spec }
+    {
+        self.fields.spec
+    }
+
+    /// What the row tells in small numbers that events change.
+    pub fn facts(&self) -> Facts
+        ensures { result ≡ facts_of self.now }
+    {
+        let fields = &self.fields;
+        Facts {
+            shares: fields.spec.shares,
+            state: fields.state,
+            epoch: fields.epoch,
+            due: fields.due,
+            target: fields.target,
+        }
+    }
+
+    /// The overhead frames, in order of taking.
+    pub fn overhead(&self) -> &[u32]
+        ensures value { result.now ≡ self.now.overhead }
+        ensures room { length self.now.overhead ≤ self.now.spec.overhead }
+    {
+        self.fields.overhead.as_slice()
+    }
+
+    /// Where a page is. One past the end counts as never brought.
+    pub fn page(&self, page: u32) -> MapRow
+        ensures { result ≡ page_at self.now.pages page }
+    {
+        let fields = &self.fields;
+        if page < fields.pages.len() {
+            fields.pages.at(page)
+        } else {
+            MapRow::Untouched
+        }
+    }
+
+    /// The rows of all pages.
+    pub fn pages(&self) -> &[MapRow]
+        ensures { result.now ≡ self.now.pages }
+    {
+        self.fields.pages.rows()
+    }
+
+    /// The page that comes `k`-th, counted from 0, among those that are in a frame.
+    pub fn nth_resident(&self, k: u32) -> u32
+        requires { k < resident_count self.now.pages }
+        ensures { result ≡ slice_index (resident_pages self.now.pages) k }
+    {
+        self.fields.pages.nth_resident(k)
+    }
+
+    /// The averages of its activity.
+    pub fn averages(&self) -> Averages
+        ensures { result ≡ record { slow = self.now.slow; fast = self.now.fast } }
+    {
+        self.fields.averages
+    }
+
+    /// The open sample period, if there is one.
+    pub fn period(&self) -> &Option<PeriodRow>
+        ensures { result.now ≡ self.now.period }
+    {
+        &self.fields.period
+    }
+
     /// Trades a part of the row. Where there is no such part nothing changes.
     pub fn trade(&mut self, part: &mut VmPart)
         ensures vm { self.new ≡ (part_traded self.old part.old).0 }

@@ -1,7 +1,7 @@
 use Rattle.std.proofs.Common.{◌≡◌, ◌++◌, take, drop, length, reverse}
 use Rattle.esx_lists.specs.Trades.{in_turn}
 use Rattle.esx_tables.specs.Changes.{traded}
-use Rattle.esx_tables.proofs.tables.SiteTables.exchange.Given as goal
+use Rattle.esx_tables.proofs.tables.SiteTables.make_all.Given as goal
 
 -- what is left to trade, and what was traded before, are the whole
 abbrev pub invariant-loop-i : goal.invariant-loop-i
