@@ -1,10 +1,9 @@
 -- The machines of a scenario, one after another.
-use Rattle.std.proofs.Common.{◌≡◌, ◌≢◌, ◌+◌, ◌<◌, ◌≤◌, ℕ, List, [], ◌∷◌, ◌++◌, length, Bool, true, false, Option, Some, None, Result, Ok, Err, Bor, refl, sym, ap, ◌∙◌, codes, string_bytes, nat_le, le-leb, arith, if◌then◌else◌, get_or, drop}
-use Rattle.std.specs.Prelude.{IsErrAnd, ok_or, ◌&&◌, ◌||◌, ◌==◌, IsSome, IfSome, OnOk, is_err, option_copied}
+use Rattle.std.proofs.Common.{◌≡◌, ◌+◌, ◌<◌, ◌≤◌, ℕ, List, [], ◌∷◌, ◌++◌, length, Bool, true, false, Option, Some, None, Result, Ok, Err, Bor, refl, sym, ap, ◌∙◌, codes, nat_le, le-leb, arith, if◌then◌else◌, get_or, drop}
+use Rattle.std.specs.Prelude.{IsErrAnd, ◌&&◌, ◌||◌, ◌==◌, IsSome, IfSome, OnOk, is_err, option_copied}
 use Rattle.toml.proofs.Views.{items_view-drop}
 use Rattle.std.proofs.Math.ListN.{drop_of_length-le}
 use Rattle.std.proofs.lemmas.Bool.Decides.{Decides-eqb}
-use Rattle.std.specs.List.{All}
 use Rattle.std.proofs.lemmas.Option.{same_Some}
 use Rattle.toml.specs.Data.{Data, string, integer, float, boolean, datetime, array, table, Items, no_items, item, Members, as_str, as_table, as_array}
 use Rattle.toml.specs.View.{view, items_view}
@@ -19,7 +18,7 @@ use Rattle.esx_scenario.specs.Lines.{line_of}
 use Rattle.esx_scenario.specs.Guests.{count_items, lines_from, trace_in, guest_at, guests_from, guests_at, are_tables, new_number}
 use Rattle.esx_scenario.specs.Plans.{AreDistinct, has_number}
 use Rattle.esx_scenario.specs.Sites.{site_at, site_in, settings_at, settings_in}
-use Rattle.esx_scenario.proofs.KeyLemmas.{then_ok, then_err}
+use Rattle.esx_scenario.proofs.KeyLemmas.{then_err}
 use Rattle.esx_scenario.proofs.LineLemmas.{next_some, next_none}
 
 -- a fault that names the path of a bad key

@@ -1,9 +1,7 @@
 -- Keys that are tried one after another.
-use Rattle.std.proofs.Common.{◌≡◌, ◌≢◌, ◌%◌, ℕ, ◌<◌, ◌≤◌, List, Bool, true, false, Option, Some, None, Result, Ok, Err, Bor, option_map, refl, sym, ap, ◌∙◌, pos, arith, ℤ, le-leb, nat_le, ◌&&◌}
-use Rattle.std.specs.Prelude.{ok_or, option_and_then, IsErrAnd}
+use Rattle.std.proofs.Common.{◌≡◌, ◌≢◌, ◌%◌, ℕ, ◌≤◌, List, false, Option, Some, None, Result, Ok, Err, Bor, refl, sym, arith, ℤ, le-leb, nat_le, ◌&&◌}
+use Rattle.std.specs.Prelude.{ok_or, IsErrAnd}
 use Rattle.toml.specs.Data.{Data, Members, as_integer, get_member, as_table}
-use Rattle.toml.specs.View.{view, table_view}
-use Rattle.toml.specs.declared.value.Value.{Value}
 use Rattle.std.specs.Prelude.{codes}
 use Rattle.std.proofs.lemmas.Bool.Decides.{Decides-eqb}
 use Rattle.esx_scenario.specs.Sites.{whole_page}

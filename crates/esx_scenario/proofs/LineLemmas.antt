@@ -1,6 +1,6 @@
 -- Lines of a trace, field by field.
-use Rattle.std.proofs.Common.{◌≡◌, ◌≢◌, ◌+◌, ◌<◌, ◌≤◌, ◌^◌, ℕ, List, [], ◌∷◌, length, Bool, true, false, Option, Some, None, Result, Ok, Err, refl, sym, ap, ◌∙◌, codes, decimal, arith, nat_le, nat_lt, le-leb, inl, inr}
-use Rattle.std.specs.Prelude.{◌&&◌, IfSome}
+use Rattle.std.proofs.Common.{◌≡◌, ◌≢◌, ◌<◌, ◌^◌, ℕ, List, [], ◌∷◌, length, Bool, true, false, Option, Some, None, Result, Ok, Err, refl, codes, decimal, arith, nat_le, nat_lt, le-leb}
+use Rattle.std.specs.Prelude.{◌&&◌}
 use Rattle.std.specs.Str.{bytes_eq}
 use Rattle.std.proofs.lemmas.Bool.{and_parts, lt-ltb}
 use Rattle.std.specs.Str.Parse.{digits_value}
@@ -18,7 +18,7 @@ use Rattle.esx_reading.specs.Written.{IsWritten}
 use Rattle.esx_reading.proofs.HexField.{decodes}
 use Rattle.esx_scenario.specs.declared.plan.TraceLine.{TraceLine}
 use Rattle.esx_scenario.specs.declared.plan.TraceLine.TheVariants.{Read, Write, Ask, Lend, TakeBack}
-use Rattle.esx_scenario.specs.Lines.{◌>>=◌, number_in, lower_case, bytes_in, read_in, write_in, ask_in, lend_in, take_back_in, line_in, IsWithin, is_within, only_within, line_of}
+use Rattle.esx_scenario.specs.Lines.{◌>>=◌, number_in, lower_case, bytes_in, read_in, write_in, ask_in, lend_in, take_back_in, line_in, is_within, only_within, line_of}
 
 pub next_some : {A B : Type 0} (r : Option A) (f : A → Option B) (x : A) (s : Option B) → r ≡ Some x → f x ≡ s → (r >>= f) ≡ s
 unfolding ◌>>=◌

@@ -1,13 +1,12 @@
 -- The keys of a scenario, one after another.
-use Rattle.std.proofs.Common.{◌≡◌, ℕ, List, Option, Result, Ok, Err, refl, sym, ap, ◌∙◌, codes}
+use Rattle.std.proofs.Common.{◌≡◌, ℕ, List, Option, Ok, Err, refl, sym, ap, ◌∙◌, codes}
 use Rattle.toml.specs.Data.{Data, Members, get_member}
 use Rattle.esx_reading.specs.declared.fault.TextFault.{TextFault}
 use Rattle.esx_reading.specs.declared.fault.TextFault.TheVariants.{BadKey, OutOfMemory}
 use Rattle.esx_types.specs.declared.config.Config.{Config}
 use Rattle.esx_scenario.specs.declared.plan.Guest.{Guest}
 use Rattle.esx_scenario.specs.declared.plan.Settings.{Settings}
-use Rattle.esx_scenario.specs.Keys.{Tried, Gives, required, table_at}
-use Rattle.esx_scenario.specs.Plans.{Plan}
+use Rattle.esx_scenario.specs.Keys.{Gives, required, table_at}
 use Rattle.esx_scenario.specs.Sites.{site_at, settings_at}
 use Rattle.esx_scenario.specs.Guests.{guests_at}
 use Rattle.esx_scenario.specs.Strange.{strange, least, none_strange}

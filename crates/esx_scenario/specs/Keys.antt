@@ -1,5 +1,5 @@
 -- Keys of a table, tried one after another.
-use Rattle.std.specs.Prelude.{ℕ, ◌++◌, ◌∷◌, ◌≡◌, List, nat_le, ◌&&◌, ℤ, pos, negsuc, codes, Option, Some, None, Result, Ok, Err, if◌then◌else◌, String, string_bytes}
+use Rattle.std.specs.Prelude.{ℕ, ◌++◌, ◌≡◌, List, nat_le, ◌&&◌, ℤ, pos, negsuc, Option, Some, None, Result, Ok, Err, if◌then◌else◌, string_bytes}
 use Rattle.std.specs.Borrow.{Bor}
 use Rattle.std.specs.Option.{option_and_then, unwrap_or}
 use Rattle.toml.specs.Data.{Data, integer, as_integer, Members, get_member, as_table}

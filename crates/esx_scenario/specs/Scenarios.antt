@@ -1,5 +1,5 @@
 -- The scenario of a text.
-use Rattle.std.specs.Prelude.{ℕ, List, ◌≡◌, codes, Option, Some, None, Result, Ok, Err, string_bytes}
+use Rattle.std.specs.Prelude.{ℕ, List, ◌≡◌, codes, Some, None, Ok, Err, string_bytes}
 use Rattle.toml.specs.Data.{Members, get_member}
 use Rattle.toml.specs.Parse.{parse_document}
 use Rattle.esx_reading.specs.declared.fault.TextFault.{TextFault}

@@ -5,7 +5,7 @@ use Rattle.std.specs.Cmp.Lexicographic.{slice_cmp}
 use Rattle.std.specs.List.{list_any}
 use Rattle.std.specs.Option.{option_and_then}
 use Rattle.std.specs.Str.{bytes_eq}
-use Rattle.toml.specs.Data.{Data, table, Items, no_items, item, Members, no_members, member, get_member, as_array}
+use Rattle.toml.specs.Data.{table, Items, no_items, item, Members, no_members, member, get_member, as_array}
 use Rattle.esx_scenario.specs.Keys.{Tried, table_at}
 use Rattle.esx_scenario.specs.Guests.{vm_path}
 use Rattle.esx_scenario.specs.declared.strange.Place.{Place}

@@ -1,4 +1,4 @@
-use Rattle.std.proofs.Common.{sym, ◌∙◌}
+use Rattle.std.proofs.Common.{◌∙◌}
 use Rattle.esx_scenario.proofs.KeyLemmas.{table_at_none, table_at_some}
 use Rattle.esx_scenario.proofs.keys.table_of.Goals as goal
 

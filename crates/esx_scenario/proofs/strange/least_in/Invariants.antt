@@ -1,6 +1,5 @@
-use Rattle.std.proofs.Common.{◌≡◌, ◌++◌, List, option_map, string_bytes, fold}
+use Rattle.std.proofs.Common.{◌≡◌, option_map, string_bytes, fold}
 use Rattle.toml.specs.View.{members_view}
-use Rattle.toml.proofs.Views.{Entry}
 use Rattle.esx_scenario.specs.Strange.{lesser, strange_in}
 use Rattle.esx_scenario.proofs.strange.least_in.Given as goal
 

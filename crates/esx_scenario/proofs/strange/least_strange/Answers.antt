@@ -1,9 +1,8 @@
-use Rattle.std.proofs.Common.{None, ap, sym, ◌∙◌, option_map, string_bytes}
+use Rattle.std.proofs.Common.{ap, ◌∙◌, option_map, string_bytes}
 use Rattle.std.specs.Prelude.{option_and_then}
 use Rattle.std.proofs.lemmas.Result.{IfOk-weaker}
 use Rattle.toml.specs.Data.{as_array}
 use Rattle.toml.specs.View.{items_view, table_view}
-use Rattle.esx_scenario.specs.Strange.{lesser, strange_from}
 use Rattle.esx_scenario.proofs.StrangeLemmas.{strange_least, no_vms, some_vms}
 use Rattle.esx_scenario.proofs.strange.least_strange.Goals as goal
 
