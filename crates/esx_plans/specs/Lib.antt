@@ -1,3 +1,0 @@
-pub use Rattle.esx_tables.specs.Changes
-pub use Rattle.esx_tables.specs.Readings
-pub mod plan

@@ -1,4 +1,0 @@
-pub mod Planned
-pub mod Leaving
-pub mod Rebalancing
-pub mod Starting
