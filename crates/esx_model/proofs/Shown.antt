@@ -41,7 +41,7 @@ use Rattle.esx_model.specs.sound.Frames.{pages_for}
 
 -- Searches.
 
-find_same : {X : Type 0} (p q : X → Bool) (xs : List X) → ((x : X) → q x ≡ p x) → find q xs ≡ find p xs
+pub find_same : {X : Type 0} (p q : X → Bool) (xs : List X) → ((x : X) → q x ≡ p x) → find q xs ≡ find p xs
 find_same p q [] same = refl
 find_same p q (x ∷ xs) same = ap (λ b. cond b (Some x) (find q xs)) (same x) ∙ ap (cond (p x) (Some x)) (find_same p q xs same)
 
@@ -60,36 +60,36 @@ find_nothing p (x ∷ xs) h = ap (λ b. cond b (Some x) (find p xs)) h.0 ∙ fin
 
 -- Rows.
 
-row_by : (s : Site) (f : ℕ) → frame_row s f ≡ cond (is_listed f (all_overhead s)) frames.Overhead (row_of (pages_in s f))
+pub row_by : (s : Site) (f : ℕ) → frame_row s f ≡ cond (is_listed f (all_overhead s)) frames.Overhead (row_of (pages_in s f))
 unfolding frame_row
 row_by s f = refl
 
-out_row_by : (s : Site) (i : ℕ) → slot_row s i ≡ slot_of (pages_out s i)
+pub out_row_by : (s : Site) (i : ℕ) → slot_row s i ≡ slot_of (pages_out s i)
 unfolding slot_row
 out_row_by s i = refl
 
-listing_is : (s : Site) (f : ℕ) → listing_row s f ≡ listing_by (frame_row s f) (find (is_hint_in s f) s.hints)
+pub listing_is : (s : Site) (f : ℕ) → listing_row s f ≡ listing_by (frame_row s f) (find (is_hint_in s f) s.hints)
 unfolding listing_row
 listing_is s f = refl
 
-row_same : (s t : Site) (f : ℕ) → all_overhead t ≡ all_overhead s → pages_in t f ≡ pages_in s f → frame_row t f ≡ frame_row s f
+pub row_same : (s t : Site) (f : ℕ) → all_overhead t ≡ all_overhead s → pages_in t f ≡ pages_in s f → frame_row t f ≡ frame_row s f
 row_same s t f overhead pages =
     row_by t f ∙ ap (λ os. cond (is_listed f os) frames.Overhead (row_of (pages_in t f))) overhead ∙ ap (λ ps. cond (is_listed f (all_overhead s)) frames.Overhead (row_of ps)) pages ∙ sym (row_by s f)
 
-row_clear : (s : Site) (f : ℕ) → is_listed f (all_overhead s) ≡ false → frame_row s f ≡ row_of (pages_in s f)
+pub row_clear : (s : Site) (f : ℕ) → is_listed f (all_overhead s) ≡ false → frame_row s f ≡ row_of (pages_in s f)
 row_clear s f clear = row_by s f ∙ ap (λ b. cond b frames.Overhead (row_of (pages_in s f))) clear
 
-out_row_same : (s t : Site) (i : ℕ) → pages_out t i ≡ pages_out s i → slot_row t i ≡ slot_row s i
+pub out_row_same : (s t : Site) (i : ℕ) → pages_out t i ≡ pages_out s i → slot_row t i ≡ slot_row s i
 out_row_same s t i pages = out_row_by t i ∙ ap slot_of pages ∙ sym (out_row_by s i)
 
 vm_rows_after : (s : Site) (n : ℕ) (w : Vm) → map (option_map vm_table) (set s.vms n (Some w)) ≡ set (map (option_map vm_table) s.vms) n (Some (vm_table w))
 vm_rows_after s n w = map-set (option_map vm_table) s.vms n (Some w)
 
 -- the tables with other rows of frames and slots, other listings, and machine n in another row
-abbrev tables_with : Config → Site → ℕ → Vm → List FrameRow → List SlotRow → List Listing → Tables
+abbrev pub tables_with : Config → Site → ℕ → Vm → List FrameRow → List SlotRow → List Listing → Tables
 tables_with c s n w fs ss ls = put_vm (record (tables_of c s) { frames = fs; slots = ss; listings = ls }) n (Some (vm_table w))
 
-shown_by : (c : Config) (s : Site) (n : ℕ) (w : Vm) (hints : List Hint) (fs : List FrameRow) (ss : List SlotRow) (ls : List Listing)
+pub shown_by : (c : Config) (s : Site) (n : ℕ) (w : Vm) (hints : List Hint) (fs : List FrameRow) (ss : List SlotRow) (ls : List Listing)
     → frame_rows c.frames (site_with s n w hints) ≡ fs → slot_rows c.slots (site_with s n w hints) ≡ ss → listing_rows c.frames (site_with s n w hints) ≡ ls
     → tables_of c (site_with s n w hints) ≡ tables_with c s n w fs ss ls
 shown_by c s n w hints fs ss ls f i l =
