@@ -13,7 +13,7 @@ ghost use Rattle.esx_model.specs.sound.Sound.{IsSound};
 ghost use Rattle.esx_plans.specs.plan.Planned.{Refines};
 ghost use Rattle.esx_plans.specs.plan.Leaving.{stop_plan};
 ghost use Rattle.esx_plans.specs.plan.Rebalancing.{tax_plan, shares_plan};
-ghost use Rattle.esx_plans.specs.plan.Starting.{HaveRoom, start_plan};
+ghost use Rattle.esx_plans.specs.plan.Starting.{start_plan};
 
 /// What gates read of a machine's row is what they read of the machine.
 #[tactic(auto, using(crate::proofs::Refining::standing_shown))]
@@ -30,6 +30,5 @@ pub fn settings_refine()
 
 /// The plan of a start does to the tables of a sound site what the event does to the site.
 pub fn start_refines()
-    ensures start { (c : Config) (s : Site) (n : ℕ) → IsSound c s → Refines c s (start_plan (tables_of c s) n) (start c s n) }
-    ensures room { (c : Config) (s : Site) → IsSound c s → HaveRoom (tables_of c s) }
+    ensures { (c : Config) (s : Site) (n : ℕ) → IsSound c s → Refines c s (start_plan (tables_of c s) n) (start c s n) }
 {}

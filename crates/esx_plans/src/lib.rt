@@ -5,3 +5,6 @@ pub mod laws;
 pub mod plan;
 
 pub use plan::Plan;
+
+#[cfg(test)]
+mod tests;

@@ -1,7 +1,6 @@
 -- The start.
 use Rattle.std.proofs.Common.{◌≡◌, ◌≢◌, ℕ, ◌+◌, ◌<◌, Bool, true, false, ◌||◌, nat_lt, [], ◌∷◌, List, length, set, refl, sym, ap, ◌∙◌, arith, cond, Option, Some, None, inl, inr, ◌==◌, subst}
 use Rattle.std.specs.List.{find}
-use Rattle.std.specs.Option.{option_map}
 use Rattle.std.proofs.lemmas.Bool.{cases_eq, lt-ltb}
 use Rattle.std.proofs.lemmas.Bool.Decides.{nat_tests}
 use Rattle.esx_types.specs.declared.config.Config.{Config}
@@ -37,8 +36,8 @@ use Rattle.esx_tables.specs.declared.change.Facts.{Facts as VmFacts}
 use Rattle.esx_tables.specs.Machines.{facts_of, with_facts}
 use Rattle.esx_tables.specs.Changes.{traded, exchanged}
 use Rattle.esx_plans.specs.plan.Planned.{Refines}
-use Rattle.esx_plans.specs.plan.Starting.{HaveRoom, started, start_changes, start_from, start_plan}
-use Rattle.esx_plans.proofs.Refining.{row_there, row_is, needs_vm, passes_same, found_same, standing_shown, makes_shown}
+use Rattle.esx_plans.specs.plan.Starting.{started, start_changes, start_from, start_plan}
+use Rattle.esx_plans.proofs.Refining.{row_is, needs_vm, passes_same, found_same, standing_shown, makes_shown}
 use Rattle.esx_plans.proofs.Made.{exchanged_then, parts_made}
 use Rattle.esx_plans.proofs.Found.{frame_found}
 
@@ -125,15 +124,3 @@ unfolding start start_plan
 start_refines c s n sound = needs_vm c s n _ _ (λ v there. passes_same c s _ _ _ _ (ap start_gate (standing_shown v)) (λ pass.
     found_same c s (least_frame (tables_of c s).frames) (least_free c.frames s) (start_from n (vm_table v)) (take_overhead s n v) (frame_found c s) (λ o found.
     start_made c s n v o sound there (starts v.state pass.0 pass.1.0) found)))
-
--- each row that starts has room
-pub rooms_shown : (c : Config) (s : Site) → IsSound c s → HaveRoom (tables_of c s)
-rooms_shown c s sound n r there starting = of (vm_at s n) refl (sym (row_there c s n) ∙ there)
-  where
-    of : (o : Option Vm) → vm_at s n ≡ o → option_map vm_table o ≡ Some r → length r.overhead < r.spec.overhead
-    of None e h = cc
-    of (Some v) e h =
-        let same : vm_table v ≡ r = cc in
-        let Q : VmRow → Type 0 = λ x. x.state ≡ Starting → length x.overhead < x.spec.overhead in
-        let P : VmState → Type 0 = FitsState v in
-        subst Q same (λ st. (subst P st (sound.each n v e).state).0) starting
