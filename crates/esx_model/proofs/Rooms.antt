@@ -187,6 +187,16 @@ private_alone n ps os bytes f fine i = of (row_of (in_frame f ps)) (row_here n p
     of (frames.Private kept) h e = (let d : length (in_frame f ps) ≡ 1 = ap length e in omega arith)
     of (frames.Shared count kept) h e = absurd (false≢true h.0)
 
+-- the row of a private page's frame
+pub private_row : (n : ℕ) (ps : List Place) (os : List ℕ) (bytes : List ℕ) (f : ℕ) → AreFrames n ps os → IsIn ps (Here bytes f false) → row_of (in_frame f ps) ≡ frames.Private bytes
+private_row n ps os bytes f fine i = of (row_of (in_frame f ps)) (row_here n ps os bytes f false fine i).0 refl
+  where
+    of : (row : FrameRow) → IsRowOf bytes false row → row_of (in_frame f ps) ≡ row → row_of (in_frame f ps) ≡ frames.Private bytes
+    of frames.Free h e = absurd h
+    of frames.Overhead h e = absurd h
+    of (frames.Private kept) h e = e ∙ ap frames.Private h.1
+    of (frames.Shared count kept) h e = absurd (false≢true h.0)
+
 -- the row of a shared page's frame
 pub shared_row : (n : ℕ) (ps : List Place) (os : List ℕ) (bytes : List ℕ) (f : ℕ) → AreFrames n ps os → IsIn ps (Here bytes f true) → (count : ℕ) × (row_of (in_frame f ps) ≡ frames.Shared count bytes)
 shared_row n ps os bytes f fine i = of (row_of (in_frame f ps)) (row_here n ps os bytes f true fine i).0 refl

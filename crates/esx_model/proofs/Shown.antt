@@ -295,7 +295,7 @@ listing_beside c s n page v p q g off f other row =
     ∙ ap (listing_by (frame_row s f)) (found_same c s n page v p q g f (off.here f) other) ∙ sym (listing_is s f)
 
 -- no hint is in a frame that no page is in
-within_places : (ps : List Place) (k : ℕ) (bytes : List ℕ) (g : ℕ) (shared : Bool) → get_or ps k Untouched ≡ Here bytes g shared → k < length ps
+pub within_places : (ps : List Place) (k : ℕ) (bytes : List ℕ) (g : ℕ) (shared : Bool) → get_or ps k Untouched ≡ Here bytes g shared → k < length ps
 within_places [] k bytes g shared h = cc
 within_places (p ∷ ps) zero bytes g shared h = omega arith
 within_places (p ∷ ps) (suc k) bytes g shared h = (let rest = within_places ps k bytes g shared h in omega (arith, rest))

@@ -1,5 +1,5 @@
 -- What is left of the tables where a page leaves its place, and what they are after it came to one; the machine's own row aside.
-use Rattle.std.specs.Prelude.{◌≡◌, ℕ, ◌+◌, ◌-◌, Bool, true, false, nat_lt, List, Option, slice_index_or, slice_set, if◌then◌else◌}
+use Rattle.std.specs.Prelude.{◌==◌, ◌≡◌, ℕ, ◌+◌, ◌-◌, Bool, true, false, nat_lt, List, Option, slice_index_or, slice_set, if◌then◌else◌}
 use Rattle.esx_types.specs.declared.table.FrameRow.{FrameRow}
 use Rattle.esx_types.specs.declared.table.FrameRow.TheVariants as frames
 use Rattle.esx_types.specs.declared.table.SlotRow.{SlotRow}
@@ -47,6 +47,12 @@ listing_after (frames.Shared count bytes) old = old
 abbrev pub listing_for : List ℕ → Bool → Listing
 listing_for bytes false = listings.Nothing
 listing_for bytes true = listings.Shared (content_key bytes)
+
+-- a listing gives way to a hint that comes under its key
+abbrev pub listing_without : ℕ → Listing → Listing
+listing_without key listings.Nothing = listings.Nothing
+listing_without key (listings.Shared k) = listings.Shared k
+listing_without key (listings.Hinted k n page) = if k == key then listings.Nothing else listings.Hinted k n page
 
 abbrev pub listing_at : List Listing → ℕ → Listing
 listing_at rows f = slice_index_or rows f listings.Nothing

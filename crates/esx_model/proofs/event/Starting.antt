@@ -59,7 +59,7 @@ overhead_becomes c v f fine starting =
       swap = refl;
     }
 
-overhead_inserted : (s : Site) (n f : ℕ) (v : Vm) → vm_at s n ≡ Some v → Inserted f (all_overhead s) (all_overhead (with_vm s n (with_overhead v f)))
+pub overhead_inserted : (s : Site) (n f : ℕ) (v : Vm) → vm_at s n ≡ Some v → Inserted f (all_overhead s) (all_overhead (with_vm s n (with_overhead v f)))
 unfolding all_overhead
 overhead_inserted s n f v there =
     inserted_inside vm_overhead (Some v) (Some (with_overhead v f)) s.vms (set s.vms n (Some (with_overhead v f))) f (vm_changed s n (Some v) (with_overhead v f) (some_below s.vms n v there) there) refl
