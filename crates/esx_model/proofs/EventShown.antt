@@ -24,10 +24,14 @@ use Rattle.esx_model.specs.sound.Sound.{IsSound}
 use Rattle.esx_model.proofs.Lists.{set_again}
 use Rattle.esx_model.proofs.Machines.{not_out, not_lent, old_place}
 use Rattle.esx_model.proofs.Kept.{row_only, placed_sound, places_same, overhead_same, vm_there, vm_placed_there, with_change_is}
-use Rattle.esx_model.proofs.Rooms.{Room, room_same}
+use Rattle.esx_model.proofs.Rooms.{Room, room_same, room_nowhere}
 use Rattle.esx_model.proofs.Shown.{row_only_shown}
 use Rattle.esx_model.proofs.Placed.{placed_shown, written_shown}
+use Rattle.std.proofs.lemmas.List.{set_comm}
+use Rattle.std.proofs.lemmas.Bool.{false≢true}
+use Rattle.esx_model.proofs.HintsKept.{no_hint}
 use Rattle.esx_model.proofs.event.Balloon.{popped_becomes, past_start}
+use Rattle.esx_model.proofs.event.Replacing.{Trades, other_pages, by_steps, steps_same, private_is_here}
 use Rattle.esx_model.proofs.event.Sampling.{counted_kept}
 
 -- A machine's row is beside what a page leaves and where it comes.
@@ -116,3 +120,45 @@ access_in_place_shown c s n page v old f new sound there running below was whole
     ∙ put_twice (record (tables_of c s1) { frames = set (tables_of c s1).frames f (frames.Private new) }) n (Some (vm_table v2)) row
     ∙ ap (λ (t : Tables). put_vm (record t { frames = set t.frames f (frames.Private new) }) n row) (row_only_shown c s n v v1 there refl refl)
     ∙ put_twice (record (tables_of c s) { frames = set (tables_of c s).frames f (frames.Private new) }) n (Some (vm_table v1)) row
+
+-- A page goes out, and another of its machine comes into the frame that it left.
+pub traded_shown : (c : Config) (s : Site) (n page q : ℕ) (v : Vm) (bytes : List ℕ) (f : ℕ) (shared : Bool) (i : ℕ) (new : List ℕ) → Trades c s n page q v bytes f shared i → length new ≡ c.page
+    → tables_of c (placed (placed s n q (Out bytes i)) n page (Here new f false))
+        ≡ put_vm (joined (Here new f false) (joined (Out bytes i) (left (Here bytes f shared) (left (place_at v page) (tables_of c s))))) n (Some (vm_table (with_place page (Here new f false) (with_place q (Out bytes i) v))))
+traded_shown c s n page q v bytes f shared i new t whole =
+    let steps = by_steps c s n page q v bytes f shared i new t whole in
+    let past = past_start v t.running in
+    let p = place_at v page in
+    let o : Place = Out bytes i in
+    let h : Place = Here new f false in
+    let a = placed s n page Untouched in
+    let b = placed a n q o in
+    let va = with_place page Untouched v in
+    let vb = with_place q o va in
+    let vd = with_place page h vb in
+    let fine = t.sound.each n v t.there in
+    let apart = other_pages c s n page q v bytes f shared i t in
+    let gone : is_private (place_of s n page) ≡ false = ap (λ o. is_private (place_in o page)) t.there ∙ private_is_here p t.away in
+    let same = steps_same s n page q v o h t.there (λ e. apart (sym e)) refl (no_hint (place_of s) n page s.hints t.sound.hints gone) in
+    let at_q : place_at va q ≡ Here bytes f shared = get_or-set_other v.places page q Untouched Untouched apart ∙ t.was in
+    let first : tables_of c a ≡ put_vm (left p (tables_of c s)) n (Some (vm_table va)) = placed_shown c s n page v Untouched t.sound t.there t.below past tt (room_nowhere c s p) (λ e. absurd (false≢true e)) in
+    let second : tables_of c b ≡ put_vm (joined o (left (place_at va q) (tables_of c a))) n (Some (vm_table vb)) =
+    placed_shown c a n q va o steps.left_sound steps.left_there (let w = t.within in omega (arith, fine.pages, w)) past steps.out_place steps.out_room (λ e. absurd (false≢true e)) in
+    let third : tables_of c (placed b n page h) ≡ put_vm (joined h (left (place_at vb page) (tables_of c b))) n (Some (vm_table vd)) =
+    placed_shown c b n page vb h steps.out_sound steps.out_there t.below past steps.in_place steps.in_room (λ e. ap is_private steps.nowhere) in
+    let row : Option VmTable = Some (vm_table vd) in
+    let rest = left (Here bytes f shared) (left p (tables_of c s)) in
+    let places : vd.places ≡ set (set v.places q o) page h =
+    ap (λ (xs : List Place). set xs page h) (set_comm v.places page q Untouched o (λ e. apart (sym e))) ∙ set_again (set v.places q o) page Untouched h in
+    ap (tables_of c) (sym same) ∙ third
+    ∙ ap (λ x. put_vm (joined h (left x (tables_of c b))) n row) steps.nowhere
+    ∙ ap (λ (x : Tables). put_vm (joined h x) n row) second
+    ∙ ap (λ x. put_vm (joined h (put_vm (joined o (left x (tables_of c a))) n (Some (vm_table vb)))) n row) at_q
+    ∙ ap (λ (x : Tables). put_vm (joined h (put_vm (joined o (left (Here bytes f shared) x)) n (Some (vm_table vb)))) n row) first
+    ∙ ap (λ (x : Tables). put_vm x n row) (joined_put h (joined o (left (Here bytes f shared) (put_vm (left p (tables_of c s)) n (Some (vm_table va))))) n (Some (vm_table vb)))
+    ∙ put_twice (joined h (joined o (left (Here bytes f shared) (put_vm (left p (tables_of c s)) n (Some (vm_table va)))))) n (Some (vm_table vb)) row
+    ∙ ap (λ (x : Tables). put_vm (joined h (joined o x)) n row) (left_put (Here bytes f shared) (left p (tables_of c s)) n (Some (vm_table va)))
+    ∙ ap (λ (x : Tables). put_vm (joined h x) n row) (joined_put o rest n (Some (vm_table va)))
+    ∙ ap (λ (x : Tables). put_vm x n row) (joined_put h (joined o rest) n (Some (vm_table va)))
+    ∙ put_twice (joined h (joined o rest)) n (Some (vm_table va)) row
+    ∙ ap (λ (xs : List Place). put_vm (joined h (joined o rest)) n (Some (vm_table (record v { places = xs })))) places

@@ -67,7 +67,7 @@ whole_page c e (Lent d) h = length-replicate c.page 0
 some_is : (f g : ℕ) → Some f ≡ Some g → f ≡ g
 some_is f g h = cc
 
-read_room : (c : Config) (s : Site) (n page : ℕ) (v : Vm) (p : Place) (f : ℕ) → IsSound c s → vm_at s n ≡ Some v → page < length v.places → place_at v page ≡ p → read_frame c s p ≡ Some f
+pub read_room : (c : Config) (s : Site) (n page : ℕ) (v : Vm) (p : Place) (f : ℕ) → IsSound c s → vm_at s n ≡ Some v → page < length v.places → place_at v page ≡ p → read_frame c s p ≡ Some f
     → (f < c.frames) × Room c s p (Here (contents c p) f (is_shared p))
 read_room c s n page v Untouched f sound there within was found = ((least_unused c.frames s f found).below, room_free c s Untouched (zeros c) f found)
 read_room c s n page v (Out bytes i) f sound there within was found = ((least_unused c.frames s f found).below, room_free c s (Out bytes i) bytes f found)
@@ -111,7 +111,7 @@ alone_or_few : (c : Config) (s : Site) (bytes : List ℕ) (g : ℕ) (shared : Bo
 alone_or_few c s bytes g false sound i h = private_alone c.frames (all_places s) (all_overhead s) bytes g sound.frames i
 alone_or_few c s bytes g true sound i h = (let few = one_at_most (pages_at g s) h in let same = pages_at_is g s in omega arith)
 
-write_room : (c : Config) (s : Site) (n page : ℕ) (v : Vm) (p : Place) (new : List ℕ) (f : ℕ) → IsSound c s → vm_at s n ≡ Some v → page < length v.places → place_at v page ≡ p → write_frame c s p ≡ Some f
+pub write_room : (c : Config) (s : Site) (n page : ℕ) (v : Vm) (p : Place) (new : List ℕ) (f : ℕ) → IsSound c s → vm_at s n ≡ Some v → page < length v.places → place_at v page ≡ p → write_frame c s p ≡ Some f
     → (f < c.frames) × Room c s p (Here new f false)
 write_room c s n page v Untouched new f sound there within was found = ((least_unused c.frames s f found).below, room_free c s Untouched new f found)
 write_room c s n page v (Out bytes i) new f sound there within was found = ((least_unused c.frames s f found).below, room_free c s (Out bytes i) new f found)
