@@ -1,8 +1,7 @@
 -- The tables of a site after an access, and after one page took the place of another.
-use Rattle.std.proofs.Common.{zero, suc, ◌≡◌, ◌≢◌, ℕ, ◌+◌, ◌-◌, ◌<◌, ◌≤◌, Bool, true, false, not, List, [], ◌∷◌, ◌++◌, length, get_or, set, map, refl, sym, ap, ◌∙◌, subst, arith, cond, Option, Some, None, ◌==◌}
-use Rattle.std.proofs.lemmas.List.{get_or-set_same, get_or-set_other, length-set}
+use Rattle.std.proofs.Common.{◌≡◌, ℕ, ◌<◌, Bool, true, false, not, List, length, set, refl, sym, ap, ◌∙◌, subst, arith, Option, Some}
+use Rattle.std.proofs.lemmas.List.{get_or-set_other}
 use Rattle.esx_types.specs.declared.config.Config.{Config}
-use Rattle.esx_types.specs.declared.table.FrameRow.{FrameRow}
 use Rattle.esx_types.specs.declared.table.FrameRow.TheVariants as frames
 use Rattle.esx_types.specs.declared.vm.VmState.TheVariants.{Running}
 use Rattle.esx_model.specs.declared.scene.Place.{Place}
@@ -11,8 +10,8 @@ use Rattle.esx_model.specs.declared.scene.Vm.{Vm}
 use Rattle.esx_model.specs.declared.scene.Site.{Site}
 use Rattle.esx_model.specs.declared.tables.VmTable.{VmTable}
 use Rattle.esx_model.specs.declared.tables.Tables.{Tables}
-use Rattle.esx_model.specs.Places.{is_here, is_private}
-use Rattle.esx_model.specs.Site.{vm_at, with_vm, place_at, place_in, place_of, all_places, all_overhead}
+use Rattle.esx_model.specs.Places.{is_private}
+use Rattle.esx_model.specs.Site.{vm_at, with_vm, place_at, place_in, place_of}
 use Rattle.esx_model.specs.Hints.{with_place, with_change, placed}
 use Rattle.esx_model.specs.Tables.{vm_table, tables_of}
 use Rattle.esx_model.specs.Moved.{put_vm, left, joined}
@@ -60,7 +59,7 @@ moved_put p q b n o row =
 pub access_shown : (c : Config) (s : Site) (n page : ℕ) (v : Vm) (bytes : List ℕ) (f : ℕ) (shared : Bool) → IsSound c s → vm_at s n ≡ Some v → v.state ≡ Running → page < v.spec.max
     → f < c.frames → length bytes ≡ c.page → Room c s (place_at v page) (Here bytes f shared) → (shared ≡ false → is_private (place_at v page) ≡ false)
     → tables_of c (after_access s n page (Here bytes f shared))
-        ≡ put_vm (joined (Here bytes f shared) (left (place_at v page) (tables_of c s))) n (Some (vm_table (counted page (with_place page (Here bytes f shared) (popped page v)))))
+    ≡ put_vm (joined (Here bytes f shared) (left (place_at v page) (tables_of c s))) n (Some (vm_table (counted page (with_place page (Here bytes f shared) (popped page v)))))
 access_shown c s n page v bytes f shared sound there running below frame whole room fresh =
     let q : Place = Here bytes f shared in
     let p = place_at v page in
@@ -93,7 +92,7 @@ access_shown c s n page v bytes f shared sound there running below frame whole r
 pub access_in_place_shown : (c : Config) (s : Site) (n page : ℕ) (v : Vm) (old : List ℕ) (f : ℕ) (new : List ℕ) → IsSound c s → vm_at s n ≡ Some v → v.state ≡ Running → page < v.spec.max
     → place_at v page ≡ Here old f false → length new ≡ c.page → Room c s (Here old f false) (Here new f false)
     → tables_of c (after_access s n page (Here new f false))
-        ≡ put_vm (record (tables_of c s) { frames = set (tables_of c s).frames f (frames.Private new) }) n (Some (vm_table (counted page (with_place page (Here new f false) (popped page v)))))
+    ≡ put_vm (record (tables_of c s) { frames = set (tables_of c s).frames f (frames.Private new) }) n (Some (vm_table (counted page (with_place page (Here new f false) (popped page v)))))
 access_in_place_shown c s n page v old f new sound there running below was whole room =
     let q : Place = Here new f false in
     let v1 = popped page v in
@@ -124,7 +123,7 @@ access_in_place_shown c s n page v old f new sound there running below was whole
 -- A page goes out, and another of its machine comes into the frame that it left.
 pub traded_shown : (c : Config) (s : Site) (n page q : ℕ) (v : Vm) (bytes : List ℕ) (f : ℕ) (shared : Bool) (i : ℕ) (new : List ℕ) → Trades c s n page q v bytes f shared i → length new ≡ c.page
     → tables_of c (placed (placed s n q (Out bytes i)) n page (Here new f false))
-        ≡ put_vm (joined (Here new f false) (joined (Out bytes i) (left (Here bytes f shared) (left (place_at v page) (tables_of c s))))) n (Some (vm_table (with_place page (Here new f false) (with_place q (Out bytes i) v))))
+    ≡ put_vm (joined (Here new f false) (joined (Out bytes i) (left (Here bytes f shared) (left (place_at v page) (tables_of c s))))) n (Some (vm_table (with_place page (Here new f false) (with_place q (Out bytes i) v))))
 traded_shown c s n page q v bytes f shared i new t whole =
     let steps = by_steps c s n page q v bytes f shared i new t whole in
     let past = past_start v t.running in

@@ -1,5 +1,5 @@
 -- A private frame has one page, and one hint at most.
-use Rattle.std.proofs.Common.{inl, inr, zero, suc, ◌≡◌, ◌≢◌, ℕ, ◌+◌, ◌<◌, ◌≤◌, Bool, true, false, not, List, [], ◌∷◌, ◌++◌, length, refl, sym, ap, ◌∙◌, subst, arith, cond, Option, Some, None, ◌==◌}
+use Rattle.std.proofs.Common.{inl, inr, ◌≡◌, ℕ, ◌≤◌, Bool, true, false, List, [], ◌∷◌, length, refl, sym, ap, ◌∙◌, subst, arith, cond, Option, Some, None}
 use Rattle.std.specs.List.{filter, find, AllByRecursion}
 use Rattle.std.proofs.lemmas.Bool.{false≢true}
 use Rattle.std.proofs.lemmas.Bool.Decides.{nat_tests}
@@ -11,7 +11,7 @@ use Rattle.esx_model.specs.declared.scene.Vm.{Vm}
 use Rattle.esx_model.specs.declared.scene.Site.{Site}
 use Rattle.esx_model.specs.Places.{is_here_at, is_private}
 use Rattle.esx_model.specs.Site.{vm_at, place_at, place_in, place_of, all_places, all_overhead}
-use Rattle.esx_model.specs.Hints.{is_hint_of, with_place, placed}
+use Rattle.esx_model.specs.Hints.{is_hint_of, placed}
 use Rattle.esx_model.specs.Show.{in_frame, pages_in}
 use Rattle.esx_model.specs.Tables.{is_hint_in}
 use Rattle.esx_model.specs.sound.Sound.{IsSound}

@@ -1,16 +1,14 @@
 -- The tables of a site after an overhead frame came or went, after a machine came or went, and after targets, the tax and hints changed.
-use Rattle.std.proofs.Common.{zero, suc, ◌≡◌, ◌≢◌, ℕ, ◌+◌, ◌-◌, ◌<◌, ◌≤◌, Bool, true, false, ◌||◌, not, List, [], ◌∷◌, ◌++◌, length, get_or, set, map, count_by, nat_le, refl, sym, ap, ◌∙◌, subst, arith, cond, Option, Some, None, inl, inr, ◌==◌}
+use Rattle.std.proofs.Common.{◌≡◌, ◌≢◌, ℕ, ◌+◌, ◌-◌, ◌<◌, ◌≤◌, Bool, true, false, ◌||◌, not, List, [], ◌∷◌, length, get_or, set, map, count_by, nat_le, refl, sym, ap, ◌∙◌, subst, arith, cond, Option, Some, None, inl, inr, ◌==◌}
 use Rattle.std.specs.Option.{option_map}
 use Rattle.std.specs.List.{filter, find, list_any, range_with_len, AllByRecursion}
 use Rattle.std.proofs.lemmas.List.{map-set}
 use Rattle.std.proofs.lemmas.List.Sums.{sum_by-cons}
-use Rattle.std.proofs.lemmas.Bool.Decides.{nat_tests}
 use Rattle.std.proofs.lemmas.Bool.{false≢true}
 use Rattle.esx_types.specs.declared.config.Config.{Config}
 use Rattle.esx_types.specs.declared.vm.VmSpec.{VmSpec}
 use Rattle.esx_types.specs.declared.table.FrameRow.{FrameRow}
 use Rattle.esx_types.specs.declared.table.FrameRow.TheVariants as frames
-use Rattle.esx_types.specs.declared.table.SlotRow.{SlotRow}
 use Rattle.esx_model.specs.declared.scene.Hint.{Hint}
 use Rattle.esx_model.specs.declared.scene.Place.{Place}
 use Rattle.esx_model.specs.declared.scene.Place.TheVariants.{Here}
@@ -18,11 +16,9 @@ use Rattle.esx_model.specs.declared.scene.Vm.{Vm}
 use Rattle.esx_model.specs.declared.scene.Site.{Site}
 use Rattle.esx_model.specs.declared.tables.Listing.{Listing}
 use Rattle.esx_model.specs.declared.tables.Listing.TheVariants as listings
-use Rattle.esx_model.specs.declared.tables.VmTable.{VmTable}
-use Rattle.esx_model.specs.declared.tables.Tables.{Tables}
 use Rattle.esx_model.specs.Places.{is_here, is_here_at, is_out, is_out_at, is_private}
 use Rattle.esx_model.specs.Site.{vm_at, with_vm, place_at, place_in, place_of, all_places, all_overhead, least_free, resident, paged_out}
-use Rattle.esx_model.specs.Show.{in_frame, in_slot, pages_in, pages_out, is_listed, row_of, frame_row, slot_row, frame_rows, slot_rows}
+use Rattle.esx_model.specs.Show.{in_frame, in_slot, pages_in, is_listed, row_of, frame_row, slot_row, frame_rows, slot_rows}
 use Rattle.esx_model.specs.Tables.{vm_table, is_hint_in, hint_listing, listing_by, listing_row, listing_rows, tables_of}
 use Rattle.esx_model.specs.Moved.{listing_without, put_vm, put_frame}
 use Rattle.esx_model.specs.sound.Machines.{IsPlace}
@@ -296,10 +292,10 @@ hinted_shown c s n page v bytes old f sound there within was =
     (found_kept (is_hint_in s f) keep s.hints (one_hint c s f sound) ∙ its_own key n page (find (is_hint_in s f) s.hints) own)) in
     let others : (g : ℕ) → g ≢ f → listing_row t g ≡ listing_without key (listing_row s g) =
     λ g apart. (let away : is_hint_in s g new ≡ false = ap (is_here_at g) at ∙ eqb_other f g apart in
-      listing_is t g ∙ ap (λ r. listing_by r (find (is_hint_in s g) (with_hint new s.hints))) (rows.0 g)
-      ∙ ap (listing_by (frame_row s g)) (found_in_order (is_hint_in s g) new (filter keep s.hints) away ∙ found_kept (is_hint_in s g) keep s.hints (one_hint c s g sound))
-      ∙ without_key key n page (frame_row s g) (find (is_hint_in s g) s.hints) (λ h found. not_own s n page g h away (find_passes (is_hint_in s g) s.hints h found) (is_hint_of n page h) refl)
-      ∙ ap (listing_without key) (sym (listing_is s g))) in
+    listing_is t g ∙ ap (λ r. listing_by r (find (is_hint_in s g) (with_hint new s.hints))) (rows.0 g)
+    ∙ ap (listing_by (frame_row s g)) (found_in_order (is_hint_in s g) new (filter keep s.hints) away ∙ found_kept (is_hint_in s g) keep s.hints (one_hint c s g sound))
+    ∙ without_key key n page (frame_row s g) (find (is_hint_in s g) s.hints) (λ h found. not_own s n page g h away (find_passes (is_hint_in s g) s.hints h found) (is_hint_of n page h) refl)
+    ∙ ap (listing_without key) (sym (listing_is s g))) in
     let listing : listing_rows c.frames t ≡ set (map (listing_without key) (listing_rows c.frames s)) f (listings.Hinted key n page) =
     rows_move (λ g. listing_without key (listing_row s g)) (listing_row t) f c.frames (listings.Hinted key n page) listings.Nothing here others below
     ∙ ap (λ (xs : List Listing). set xs f (listings.Hinted key n page)) (map_twice (listing_row s) (listing_without key) (range_with_len 0 c.frames)) in

@@ -1,5 +1,5 @@
 -- The tables that a machine keeps of a site, and the book that is read from them.
-use Rattle.std.specs.Prelude.{ℕ, ◌+◌, ◌-◌, ◌==◌, Bool, List, [], ◌∷◌, ◌++◌, length, map, take, replicate, Option, option_map, Some, None, find, slice_index_or, if◌then◌else◌}
+use Rattle.std.specs.Prelude.{ℕ, ◌+◌, ◌-◌, ◌==◌, Bool, List, [], ◌∷◌, ◌++◌, length, map, take, replicate, Option, option_map, Some, None, find, if◌then◌else◌}
 use Rattle.std.specs.List.{range_with_len}
 use Rattle.esx_types.specs.declared.config.Config.{Config}
 use Rattle.esx_types.specs.declared.level.Level.{Level}

@@ -1,5 +1,5 @@
 -- Reads and writes keep a site sound.
-use Rattle.std.proofs.Common.{◌≡◌, ◌≢◌, ℕ, ◌+◌, ◌-◌, ◌≤◌, ◌<◌, Bool, true, false, not, ◌&&◌, ◌||◌, nat_le, nat_lt, List, [], ◌∷◌, ◌++◌, length, take, drop, refl, sym, ap, ◌∙◌, subst, arith, cond, Option, Some, None, Ok, ◌⊎◌, inl, inr, ◌==◌}
+use Rattle.std.proofs.Common.{◌≡◌, ℕ, ◌+◌, ◌≤◌, ◌<◌, Bool, true, false, ◌&&◌, nat_le, nat_lt, List, length, take, drop, refl, sym, subst, arith, Option, Some, None, Ok, inl, inr, ◌==◌}
 use Rattle.std.proofs.lemmas.List.{length-replicate}
 use Rattle.std.proofs.lemmas.Bool.Decides.{nat_tests}
 use Rattle.std.proofs.lemmas.Grind.{common_steps}
@@ -12,7 +12,7 @@ use Rattle.esx_model.specs.declared.scene.Place.{Place}
 use Rattle.esx_model.specs.declared.scene.Place.TheVariants.{Untouched, Here, Out, Lent}
 use Rattle.esx_model.specs.declared.scene.Vm.{Vm}
 use Rattle.esx_model.specs.declared.scene.Site.{Site}
-use Rattle.esx_model.specs.Places.{is_shared, is_out, is_lent_in, contents, zeros}
+use Rattle.esx_model.specs.Places.{is_shared, contents, zeros}
 use Rattle.esx_model.specs.Site.{vm_at, with_vm, place_at, pages_at, least_free, all_places, all_overhead}
 use Rattle.esx_model.specs.Show.{pages_in}
 use Rattle.esx_model.specs.Hints.{with_place, with_change, placed}
@@ -20,7 +20,7 @@ use Rattle.esx_model.specs.event.Outcome.{standing}
 use Rattle.esx_model.specs.event.Balloon.{popped}
 use Rattle.esx_model.specs.event.Sampling.{counted}
 use Rattle.esx_model.specs.event.Access.{access_gate, overwritten, read_frame, write_frame, after_access, settle, read, write}
-use Rattle.esx_model.specs.sound.Machines.{IsVm, IsPlace}
+use Rattle.esx_model.specs.sound.Machines.{IsPlace}
 use Rattle.esx_model.specs.sound.Sound.{IsSound}
 use Rattle.esx_model.proofs.Lists.{chosen, or_false}
 use Rattle.esx_model.proofs.Machines.{not_out, not_lent, old_place}

@@ -1,5 +1,5 @@
 -- A machine that comes keeps a site sound.
-use Rattle.std.proofs.Common.{◌≡◌, ◌≢◌, ℕ, zero, suc, ◌+◌, ◌-◌, ◌≤◌, ◌<◌, Bool, true, false, not, nat_lt, List, [], ◌∷◌, length, get_or, set, replicate, count_by, sum_by, refl, sym, ap, ◌∙◌, subst, arith, Option, Some, None, Ok, inl, inr}
+use Rattle.std.proofs.Common.{◌≡◌, ℕ, zero, suc, ◌+◌, ◌≤◌, ◌<◌, Bool, true, false, nat_lt, List, [], length, get_or, set, replicate, count_by, sum_by, refl, sym, ap, ◌∙◌, subst, arith, Option, Some, None, Ok, inl, inr}
 use Rattle.std.specs.Prelude.{is_some}
 use Rattle.std.specs.List.{filter, AllByRecursion}
 use Rattle.std.proofs.lemmas.List.{length-replicate, length-set, get_or-set_same, get_or-set_other}
@@ -19,7 +19,6 @@ use Rattle.esx_model.specs.declared.scene.Vm.{Vm}
 use Rattle.esx_model.specs.declared.scene.Site.{Site}
 use Rattle.esx_model.specs.Places.{is_here_at, is_out_at, is_here, is_out, is_lent_in}
 use Rattle.esx_model.specs.Site.{vm_at, with_vm, place_in, place_of, vm_places, vm_overhead, all_places, all_overhead, memory_reserve, swap_reserve}
-use Rattle.esx_model.specs.Show.{in_frame, in_slot}
 use Rattle.esx_model.specs.event.Admission.{admit_gate, memory_with, swap_with, admitted, admit}
 use Rattle.esx_model.specs.sound.Machines.{IsVm, IsPlace}
 use Rattle.esx_model.specs.sound.Frames.{AreFrames}

@@ -1,5 +1,5 @@
 -- A machine that gives back its overhead frames and goes keeps a site sound.
-use Rattle.std.proofs.Common.{◌≡◌, ◌≢◌, ℕ, zero, suc, ◌+◌, ◌-◌, ◌≤◌, ◌<◌, Bool, true, false, not, nat_lt, List, [], ◌∷◌, ◌++◌, length, get_or, set, take, count_by, sum_by, refl, sym, ap, ◌∙◌, subst, arith, cond, Option, Some, None, Ok, inl, inr}
+use Rattle.std.proofs.Common.{◌≡◌, ℕ, zero, suc, ◌+◌, ◌-◌, ◌≤◌, ◌<◌, Bool, true, false, nat_lt, List, [], ◌∷◌, ◌++◌, length, get_or, set, take, count_by, sum_by, refl, sym, ap, ◌∙◌, subst, arith, cond, Option, Some, None, Ok, inl, inr}
 use Rattle.std.specs.List.{filter}
 use Rattle.std.proofs.lemmas.List.{length-set, get_or-set_same, get_or-set_other}
 use Rattle.std.proofs.lemmas.List.Sums.{sum_by-set, sum_by-cons}
@@ -16,9 +16,9 @@ use Rattle.esx_model.specs.declared.scene.Place.TheVariants.{Untouched, Here, Ou
 use Rattle.esx_model.specs.declared.scene.Vm.{Vm}
 use Rattle.esx_model.specs.declared.scene.Site.{Site}
 use Rattle.esx_model.specs.Places.{is_here_at, is_out_at, is_here, is_out, is_private}
-use Rattle.esx_model.specs.Site.{vm_at, with_vm, place_at, place_in, place_of, vm_places, vm_overhead, all_places, all_overhead, memory_reserve, swap_reserve, resident, paged_out}
+use Rattle.esx_model.specs.Site.{vm_at, with_vm, place_in, place_of, vm_places, vm_overhead, all_places, all_overhead, memory_reserve, swap_reserve, resident, paged_out}
 use Rattle.esx_model.specs.event.Outcome.{standing}
-use Rattle.esx_model.specs.event.Leaving.{gone_gate, without_last, give_back, gone}
+use Rattle.esx_model.specs.event.Leaving.{gone_gate, without_last, gone}
 use Rattle.esx_model.specs.sound.Machines.{IsVm, FitsState}
 use Rattle.esx_model.specs.sound.Frames.{AreFrames}
 use Rattle.esx_model.specs.sound.Sound.{IsSound}

@@ -1,12 +1,12 @@
 -- A page that takes the place of another of its machine keeps a site sound.
-use Rattle.std.proofs.Common.{◌≡◌, ◌≢◌, ℕ, zero, suc, ◌+◌, ◌-◌, ◌≤◌, ◌<◌, Bool, true, false, not, ◌||◌, nat_le, nat_lt, List, [], ◌∷◌, ◌++◌, length, get_or, set, count_by, refl, sym, ap, ◌∙◌, subst, arith, cond, Option, Some, None, Ok, inl, inr, ◌==◌}
+use Rattle.std.proofs.Common.{◌≡◌, ◌≢◌, ℕ, ◌-◌, ◌≤◌, ◌<◌, Bool, true, false, nat_lt, List, [], ◌∷◌, ◌++◌, length, set, refl, sym, ap, ◌∙◌, subst, arith, cond, Option, Some, None, Ok, inl, inr, ◌==◌}
 use Rattle.std.specs.List.{filter, list_any}
 use Rattle.std.proofs.lemmas.List.{get_or-set_same, get_or-set_other, length-set, set_comm}
 use Rattle.std.proofs.lemmas.Bool.Decides.{nat_tests}
 use Rattle.esx_types.specs.declared.config.Config.{Config}
 use Rattle.esx_types.specs.declared.table.SlotRow.{SlotRow}
 use Rattle.esx_types.specs.declared.table.SlotRow.TheVariants as slots
-use Rattle.esx_types.specs.declared.vm.VmState.TheVariants.{Starting, Running, Stopping}
+use Rattle.esx_types.specs.declared.vm.VmState.TheVariants.{Running}
 use Rattle.esx_events.specs.declared.event.Answer.{Answer}
 use Rattle.esx_events.specs.declared.event.Answer.TheVariants as answers
 use Rattle.esx_model.specs.declared.scene.Hint.{Hint}
@@ -15,20 +15,20 @@ use Rattle.esx_model.specs.declared.scene.Place.TheVariants.{Untouched, Here, Ou
 use Rattle.esx_model.specs.declared.scene.Vm.{Vm}
 use Rattle.esx_model.specs.declared.scene.Site.{Site}
 use Rattle.esx_model.specs.Places.{is_here, is_here_at, is_out, is_out_at, is_private, contents}
-use Rattle.esx_model.specs.Site.{vm_at, with_vm, place_at, place_in, place_of, all_places, all_overhead, resident, paged_out, least_slot, free_count}
+use Rattle.esx_model.specs.Site.{vm_at, with_vm, place_at, place_in, place_of, all_places, all_overhead, resident, paged_out, free_count}
 use Rattle.esx_model.specs.Show.{pages_in, pages_out, in_frame, in_slot, slot_of, is_listed}
 use Rattle.esx_model.specs.Hints.{with_place, with_change, without_hint, hints_at, placed}
 use Rattle.esx_model.specs.event.Outcome.{standing}
 use Rattle.esx_model.specs.event.Balloon.{popped}
 use Rattle.esx_model.specs.event.Paging.{victim, is_above_min, replace_gate, freed_slot, trade, trade_for, replace}
-use Rattle.esx_model.specs.sound.Machines.{IsVm, IsPlace}
+use Rattle.esx_model.specs.sound.Machines.{IsPlace}
 use Rattle.esx_model.specs.sound.Frames.{AreFrames, pages_out_for}
 use Rattle.esx_model.specs.sound.Sound.{IsSound}
 use Rattle.esx_model.proofs.Lists.{Changed, filter_before, filter_after, filter_neither, eqb_same, one, or_false, set_again, some_below}
 use Rattle.esx_model.proofs.FramesKept.{one_left}
 use Rattle.esx_model.proofs.HintsKept.{no_hint}
 use Rattle.esx_model.proofs.Machines.{not_out, not_lent, old_place, out_placed, here_placed, apart_counts, drawn_is_here}
-use Rattle.esx_model.proofs.Kept.{row_only, placed_sound, placed_is, placed_changed, placed_overhead, placed_at, site_at, places_same, overhead_same, vm_there, vm_placed_there, with_change_is, page_is_in, vm_after}
+use Rattle.esx_model.proofs.Kept.{row_only, placed_sound, placed_is, placed_changed, placed_overhead, placed_at, site_at, places_same, vm_there, vm_placed_there, with_change_is, page_is_in, vm_after}
 use Rattle.esx_model.proofs.Rooms.{Room, IsIn, slot_unused, room_nowhere, room_empty, room_unused, row_here}
 use Rattle.esx_model.specs.Laws.{IsFull}
 use Rattle.esx_model.proofs.Counting.{full_site}
