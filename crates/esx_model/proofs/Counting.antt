@@ -1,18 +1,17 @@
 -- What the reserves give: a slot for each page that has to go out, and a site without a free frame in which each machine has its least.
-use Rattle.std.proofs.Common.{zero, suc, ◌≡◌, ◌≢◌, ℕ, ◌+◌, ◌-◌, ◌<◌, ◌≤◌, Bool, false, true, ◌||◌, not, List, [], ◌∷◌, length, get_or, count_by, sum_by, refl, sym, ap, ◌∙◌, arith, cond, Option, Some, None, inl, inr, ◌==◌, ◌%◌, slice_get}
+use Rattle.std.proofs.Common.{zero, suc, ◌≡◌, ℕ, ◌+◌, ◌-◌, ◌<◌, ◌≤◌, Bool, false, true, not, List, [], ◌∷◌, length, get_or, count_by, sum_by, refl, sym, ap, ◌∙◌, arith, cond, Option, Some, None, inl, inr, ◌==◌, ◌%◌}
 use Rattle.std.specs.List.{list_any, find, range_with_len}
 use Rattle.std.proofs.lemmas.List.Sums.{sum_by-cons}
 use Rattle.std.proofs.lemmas.Bool.Decides.{nat_tests}
 use Rattle.std.proofs.lemmas.Option.{slice_get-get_or}
 use Rattle.std.proofs.lemmas.Bool.{cases_eq, cases_lt}
 use Rattle.esx_types.specs.declared.config.Config.{Config}
-use Rattle.esx_types.specs.declared.vm.VmState.{VmState}
 use Rattle.esx_model.specs.declared.scene.Place.{Place}
 use Rattle.esx_model.specs.declared.scene.Place.TheVariants.{Untouched, Here, Out, Lent}
 use Rattle.esx_model.specs.declared.scene.Vm.{Vm}
 use Rattle.esx_model.specs.declared.scene.Site.{Site}
 use Rattle.esx_model.specs.Places.{is_here, is_here_at, is_out, is_out_at}
-use Rattle.esx_model.specs.Site.{vm_at, vm_names, is_named, vm_holds, is_held, vm_places, vm_overhead, pages_of, pages_at, resident, paged_out, least_slot, free_count, memory_reserve, swap_reserve, memory_reserved, swap_reserved, here_from}
+use Rattle.esx_model.specs.Site.{vm_at, vm_names, is_named, vm_holds, is_held, vm_places, vm_overhead, pages_of, pages_at, resident, paged_out, least_slot, free_count, memory_reserve, swap_reserve, here_from}
 use Rattle.esx_model.specs.Show.{pages_in, is_listed}
 use Rattle.esx_model.specs.event.Paging.{is_above_min, victim}
 use Rattle.esx_model.specs.Laws.{IsFull}

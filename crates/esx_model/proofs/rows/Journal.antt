@@ -89,3 +89,15 @@ pub what_if_when_full : AreAnswered (site 20 16 8 75 6 4 2 1 2) (
     (calls.WhatIf ((events.Read 0 0 0 1) ∷ []), reply 0 (said.Sides (sides 1 (sum 1 0 0 19 levels.High) ((Ok (answers.Bytes (0 ∷ []))) ∷ []) (sum 1 1 0 18 levels.High)))) ∷ [])
 unfolding replies_of
 what_if_when_full = refl
+
+-- A node is dropped with all below it.
+pub pruned : AreAnswered (site 20 16 8 75 6 4 2 1 16777216) (
+    (calls.Do (events.SetTax 1), reply 0 (said.Done answers.Done)) ∷
+    (calls.Do (events.SetTax 2), reply 0 (said.Done answers.Done)) ∷
+    (calls.Do (events.SetTax 3), reply 0 (said.Done answers.Done)) ∷
+    (calls.Prune 2, reply 0 (said.Refused refusals.OnPath)) ∷
+    (calls.Goto 1, reply 1 (said.Stand (stand 1 1))) ∷
+    (calls.Prune 2, reply 1 (said.Pruned 2)) ∷
+    (calls.Goto 3, reply 1 (said.Refused refusals.NoSuchNode)) ∷ [])
+unfolding replies_of
+pruned = refl

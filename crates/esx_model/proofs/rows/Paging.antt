@@ -2,6 +2,7 @@
 use Rattle.std.specs.Prelude.{[], ◌∷◌, true}
 use Rattle.std.proofs.Common.{refl}
 use Rattle.esx_types.specs.declared.level.Level.TheVariants as levels
+use Rattle.esx_types.specs.declared.vm.VmState.TheVariants as vm_states
 use Rattle.esx_events.specs.declared.event.Event.TheVariants as events
 use Rattle.esx_events.specs.declared.event.Answer.TheVariants as answers
 use Rattle.esx_events.specs.declared.event.Refusal.TheVariants as refusals
@@ -9,7 +10,7 @@ use Rattle.esx_events.specs.declared.call.Call.TheVariants as calls
 use Rattle.esx_events.specs.declared.call.Said.TheVariants as said
 use Rattle.esx_events.specs.declared.call.PageState.TheVariants as states
 use Rattle.esx_events.specs.declared.call.Help.TheVariants as helps
-use Rattle.esx_model.proofs.rows.Replies.{site, spec, sum, reply, replies_of, AreAnswered}
+use Rattle.esx_model.proofs.rows.Replies.{site, spec, sum, table_row, reply, replies_of, AreAnswered}
 
 -- No paging while the balloon may lend.
 pub balloon_first : AreAnswered (site 8 16 8 75 6 4 2 1 16777216) (
@@ -25,7 +26,7 @@ pub balloon_first : AreAnswered (site 8 16 8 75 6 4 2 1 16777216) (
 unfolding replies_of
 balloon_first = refl
 
--- Paging up to the target.
+-- Paging up to the target, and a machine that may not go while pages are out.
 pub without_balloon : AreAnswered (site 8 16 8 75 6 4 2 1 16777216) (
     (calls.Do (events.Admit 0 (spec 2 8 1 1000 0)), reply 0 (said.Done (answers.Admitted 3 8 6 8))) ∷
     (calls.Do (events.Start 0), reply 0 (said.Done (answers.Started 0 1 1 true))) ∷
@@ -39,7 +40,13 @@ pub without_balloon : AreAnswered (site 8 16 8 75 6 4 2 1 16777216) (
     (calls.Do (events.SwapOut 0 7), reply 0 (said.Done (answers.PagedOut 2 0))) ∷
     (calls.Do (events.SwapOut 0 7), reply 0 (said.Done (answers.PagedOut 4 1))) ∷
     (calls.Do (events.SwapOut 0 7), reply 0 (said.Done (answers.PagedOut 1 2))) ∷
-    (calls.Do (events.SwapOut 0 7), reply 0 (said.Refused (refusals.NotNow levels.High))) ∷ [])
+    (calls.Do (events.SwapOut 0 7), reply 0 (said.Refused (refusals.NotNow levels.High))) ∷
+    (calls.Do events.Rebalance, reply 0 (said.Done (answers.Rebalanced 0 0))) ∷
+    (calls.Table, reply 0 (said.Table (table_row 0 vm_states.Running 2 8 8 2 0 3 1000 65536 ∷ []) (sum 1 2 0 5 levels.High))) ∷
+    (calls.Do (events.Stop 0), reply 0 (said.Done answers.Done)) ∷
+    (calls.Do (events.DropPage 0 0), reply 0 (said.Done answers.Done)) ∷
+    (calls.Do (events.DropPage 0 3), reply 0 (said.Done answers.Done)) ∷
+    (calls.Do (events.Gone 0), reply 0 (said.Refused refusals.PagesLeft)) ∷ [])
 unfolding replies_of
 without_balloon = refl
 

@@ -11,7 +11,7 @@ use Rattle.esx_events.specs.declared.call.Said.TheVariants as said
 use Rattle.esx_events.specs.declared.call.PageState.TheVariants as states
 use Rattle.esx_model.proofs.rows.Replies.{site, spec, sum, stand, reply, replies_of, AreAnswered}
 
--- Two pages are shared, and one of them is written.
+-- Two pages are shared, and each of them is written; a third is shared in between.
 pub copy_on_write : AreAnswered (site 20 16 8 75 6 4 2 1 16777216) (
     (calls.Do (events.Admit 0 (spec 2 6 1 1000 0)), reply 0 (said.Done (answers.Admitted 3 20 4 8))) ∷
     (calls.Do (events.Start 0), reply 0 (said.Done (answers.Started 0 1 1 true))) ∷
@@ -28,7 +28,13 @@ pub copy_on_write : AreAnswered (site 20 16 8 75 6 4 2 1 16777216) (
     (calls.Do (events.Write 1 0 0 (43 ∷ [])), reply 0 (said.Done answers.Done)) ∷
     (calls.OfPage 1 0, reply 0 (said.Page (states.Private 4))) ∷
     (calls.OfPage 0 1, reply 0 (said.Page (states.Shared 3 1))) ∷
-    (calls.Do (events.Read 0 1 0 1), reply 0 (said.Done (answers.Bytes (42 ∷ [])))) ∷ [])
+    (calls.Do (events.Read 0 1 0 1), reply 0 (said.Done (answers.Bytes (42 ∷ [])))) ∷
+    (calls.Do (events.Write 1 1 0 (42 ∷ [])), reply 0 (said.Done answers.Done)) ∷
+    (calls.Do (events.Scan 1 1), reply 0 (said.Done (answers.Looked (scanned.Shared 3 2)))) ∷
+    (calls.Do (events.Write 1 1 0 (44 ∷ [])), reply 0 (said.Done answers.Done)) ∷
+    (calls.OfPage 1 1, reply 0 (said.Page (states.Private 5))) ∷
+    (calls.Do (events.Write 0 1 0 (45 ∷ [])), reply 0 (said.Done answers.Done)) ∷
+    (calls.OfPage 0 1, reply 0 (said.Page (states.Private 3))) ∷ [])
 unfolding replies_of
 copy_on_write = refl
 
