@@ -54,6 +54,7 @@ impl LegalConsole {
     }
 
     /// Makes a call. Where memory runs out there is no line.
+    #[tactic(auto, using(crate::proofs::Calls::called_site, crate::proofs::Calls::called_line))]
     pub fn call(&mut self, caller: u16, call: Call) -> Result<Reply, AllocError>
         ensures reply { IfOk result (λ reply. reply ≡ next_reply self.old.console call) }
         ensures ok { IfOk result (λ reply. self.new.console.log ≡ self.old.console.log ++ line caller call reply ∷ []) }

@@ -4,6 +4,7 @@
 pub mod book;
 pub mod laws;
 pub mod look;
+pub mod reserve_laws;
 pub mod scene;
 pub mod tables;
 

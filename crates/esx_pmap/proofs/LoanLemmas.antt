@@ -10,10 +10,7 @@ use Rattle.std.proofs.lemmas.List.Sums.{sum_by-cons, sum_by-set, sum_by-remove}
 use Rattle.esx_lists.specs.Counts.{one}
 use Rattle.esx_lists.proofs.Counts.{sum_of_none, sum_of_one}
 use Rattle.esx_pmap.specs.declared.loans.Loan.{Loan}
-use Rattle.esx_pmap.specs.Loans.{loan_at, AreLoans, IsPlace, lent_of, lent_in, all_lent}
-
-abbrev no_loan : Loan
-no_loan = record { epoch = 0; count = 0 }
+use Rattle.esx_pmap.specs.Loans.{no_loan, loan_at, AreLoans, IsPlace, lent_of, lent_in, all_lent}
 
 -- what a loan adds to an epoch's pages
 own : (e : ℕ) (l : Loan) → l.epoch ≡ e → lent_of e l ≡ l.count

@@ -8,7 +8,7 @@ ghost use Rattle.esx_pmap.specs.Blocks.{block_count};
 
 use crate::blocks::{nth_block, nth_here};
 use crate::loans::{Loan, enter, leave, lent_in};
-use esx_lists::moved;
+use esx_lists::recount;
 use esx_types::MapRow;
 use std::alloc::{AllocError, Global};
 use std::marker::Model;
@@ -81,10 +81,9 @@ impl PageMap {
         let at = page as usize;
         let old = self.rows[at];
         let (was, is) = (old.is_here(), row.is_here());
-        self.resident = moved(self.resident, was, is);
-        let count = moved(self.blocks[at / BLOCK], was, is);
-        self.blocks[at / BLOCK] = count;
-        self.out = moved(self.out, old.is_out(), row.is_out());
+        recount(&mut self.resident, was, is);
+        recount(&mut self.blocks[at / BLOCK], was, is);
+        recount(&mut self.out, old.is_out(), row.is_out());
         leave(&mut self.loans, &old);
         enter(&mut self.loans, row);
         std::mem::swap(&mut self.rows[at], row);

@@ -6,7 +6,7 @@ ghost use Rattle.esx_types.specs.declared.table.SlotRow.TheVariants.{Free};
 ghost use Rattle.esx_types.specs.Slots.{is_empty, slot_at, least_slot};
 
 use esx_index::FreeIndex;
-use esx_lists::moved;
+use esx_lists::recount;
 use esx_types::SlotRow;
 use std::alloc::{AllocError, Global};
 use std::marker::Model;
@@ -92,7 +92,7 @@ impl Slots {
         let at = slot as usize;
         let was = self.rows[at].is_empty();
         let is = row.is_empty();
-        self.count = moved(self.count, was, is);
+        recount(&mut self.count, was, is);
         if is != was {
             self.free.set(at, is);
         }

@@ -13,7 +13,7 @@ pub mod rows;
 pub mod table;
 pub mod vm;
 
-pub use call::{Call, Line, PageState, Reply, Said, Stand, Sum};
+pub use call::{Call, Line, NameRow, PageState, Reply, Said, Sides, Stand, Sum};
 pub use config::{CALLERS, Config, MAX_FRAMES, MAX_NODES, MAX_SLOTS, VM_NUMBERS};
 pub use counts::Counts;
 pub use ends::{
