@@ -7,7 +7,7 @@ use Rattle.esx_model.specs.declared.scene.Site.{Site}
 use Rattle.esx_model.specs.Site.{is_named, least_free}
 use Rattle.esx_model.specs.Show.{frame_row}
 use Rattle.esx_model.specs.Tables.{tables_of}
-use Rattle.esx_model.proofs.Counts.{free_row}
+use Rattle.esx_model.proofs.Callers.{free_row}
 
 found_from : {X : Type 0} (p : X → Bool) (q : ℕ → Bool) (h : ℕ → X) → ((f : ℕ) → p (h f) ≡ q f) → (a n : ℕ) → position_from p a (map h (range_with_len a n)) ≡ find q (range_with_len a n)
 found_from p q h same a zero = refl

@@ -7,7 +7,7 @@ use Rattle.esx_lists.proofs.Turns.{turn-append}
 use Rattle.esx_model.specs.declared.book.VmRow.{VmRow}
 use Rattle.esx_model.specs.declared.tables.Tables.{Tables}
 use Rattle.esx_model.specs.Moved.{put_vm}
-use Rattle.esx_model.proofs.Lists.{some_below}
+use Rattle.esx_model.proofs.Callers.{some_below}
 use Rattle.esx_tables.specs.declared.change.VmPart.{VmPart}
 use Rattle.esx_tables.specs.declared.change.Change.{Change}
 use Rattle.esx_tables.specs.declared.change.Change.TheVariants.{OfVm}

@@ -17,7 +17,7 @@ use Rattle.esx_model.specs.Places.{is_here, is_out, is_lent_in}
 use Rattle.esx_model.specs.Site.{vm_at, place_at}
 use Rattle.esx_model.specs.Tables.{raw_place, vm_table, standing_of, tables_of}
 use Rattle.esx_model.specs.event.Outcome.{Outcome, Gate, at_vm, unless, first, or_else, Passes, standing}
-use Rattle.esx_model.proofs.Counts.{counts_same}
+use Rattle.esx_model.proofs.Callers.{counts_same}
 use Rattle.esx_tables.specs.declared.change.Change.{Change}
 use Rattle.esx_tables.specs.Changes.{exchanged}
 use Rattle.esx_tables.specs.Readings.{row_at}

@@ -8,7 +8,7 @@ use Rattle.esx_model.specs.declared.scene.Site.{Site}
 use Rattle.esx_model.specs.Site.{with_vm}
 use Rattle.esx_model.specs.Tables.{vm_table, tables_of}
 use Rattle.esx_model.specs.event.Leaving.{stop_gate, stop}
-use Rattle.esx_model.proofs.Shown.{row_only_shown}
+use Rattle.esx_model.proofs.Callers.{row_only_shown}
 use Rattle.esx_tables.specs.declared.change.VmPart.TheVariants.{Facts, Period}
 use Rattle.esx_tables.specs.Machines.{facts_of}
 use Rattle.esx_plans.specs.plan.Planned.{Refines}

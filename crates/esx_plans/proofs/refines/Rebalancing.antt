@@ -4,11 +4,10 @@ use Rattle.esx_types.specs.declared.config.Config.{Config}
 use Rattle.esx_events.specs.declared.event.Answer.TheVariants.{Done}
 use Rattle.esx_model.specs.declared.scene.Vm.{Vm}
 use Rattle.esx_model.specs.declared.scene.Site.{Site}
-use Rattle.esx_model.specs.Site.{with_vm, all_places, all_overhead}
-use Rattle.esx_model.specs.Show.{frame_row, slot_row}
-use Rattle.esx_model.specs.Tables.{vm_table, tables_of, listing_row}
+use Rattle.esx_model.specs.Site.{with_vm}
+use Rattle.esx_model.specs.Tables.{vm_table, tables_of}
 use Rattle.esx_model.specs.event.Rebalancing.{tax_gate, shares_gate, set_tax, set_shares}
-use Rattle.esx_model.proofs.Shown.{row_only_shown}
+use Rattle.esx_model.proofs.Callers.{row_only_shown, taxed_shown}
 use Rattle.esx_tables.specs.declared.change.Change.TheVariants.{TaxIs}
 use Rattle.esx_tables.specs.declared.change.VmPart.TheVariants.{Facts}
 use Rattle.esx_tables.specs.Machines.{facts_of}
@@ -18,13 +17,9 @@ use Rattle.esx_plans.specs.plan.Rebalancing.{tax_plan, shares_plan}
 use Rattle.esx_plans.proofs.Refining.{row_is, needs_vm, passes_gate, makes_shown}
 use Rattle.esx_plans.proofs.Made.{parts_made}
 
-tax_shown : (c : Config) (s : Site) (tau : ℕ) → tables_of c (record s { tau = tau }) ≡ record (tables_of c s) { tau = tau }
-unfolding all_places all_overhead frame_row slot_row listing_row
-tax_shown c s tau = refl
-
 pub tax_refines : (c : Config) (s : Site) (tau : ℕ) → Refines c s (tax_plan tau) (set_tax s tau)
 unfolding set_tax tax_plan exchanged traded
-tax_refines c s tau = passes_gate c s (tax_gate tau) _ _ (λ pass. makes_shown c s Done (TaxIs tau ∷ []) (record s { tau = tau }) (record (tables_of c s) { tau = tau }) refl (tax_shown c s tau))
+tax_refines c s tau = passes_gate c s (tax_gate tau) _ _ (λ pass. makes_shown c s Done (TaxIs tau ∷ []) (record s { tau = tau }) (record (tables_of c s) { tau = tau }) refl (taxed_shown c s tau))
 
 pub shares_refines : (c : Config) (s : Site) (n shares : ℕ) → Refines c s (shares_plan (tables_of c s) n shares) (set_shares s n shares)
 unfolding set_shares shares_plan

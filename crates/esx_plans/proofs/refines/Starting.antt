@@ -1,100 +1,57 @@
 -- The start.
-use Rattle.std.proofs.Common.{◌≡◌, ◌≢◌, ℕ, ◌+◌, ◌<◌, Bool, true, false, ◌||◌, nat_lt, [], ◌∷◌, List, length, set, refl, sym, ap, ◌∙◌, arith, cond, Option, Some, None, inl, inr, ◌==◌, subst}
+use Rattle.std.proofs.Common.{◌≡◌, ℕ, ◌+◌, ◌<◌, true, nat_lt, [], ◌∷◌, List, length, set, refl, ap, sym, ◌∙◌, cond, Option, Some, None, subst}
 use Rattle.std.specs.List.{find}
-use Rattle.std.proofs.lemmas.Bool.{cases_eq, lt-ltb}
-use Rattle.std.proofs.lemmas.Bool.Decides.{nat_tests}
+use Rattle.std.proofs.lemmas.Bool.{lt-ltb}
+use Rattle.std.proofs.lemmas.List.{set-get_or}
+use Rattle.esx_lists.proofs.Tops.{onto_traded}
 use Rattle.esx_types.specs.declared.config.Config.{Config}
 use Rattle.esx_types.specs.declared.table.FrameRow.{FrameRow}
 use Rattle.esx_types.specs.declared.table.FrameRow.TheVariants as frames
-use Rattle.esx_types.specs.declared.table.Hint.{Hint}
+use Rattle.esx_types.specs.declared.table.Listing.{Listing}
+use Rattle.esx_types.specs.declared.table.Listing.TheVariants as listings
 use Rattle.esx_types.specs.declared.vm.VmState.{VmState}
 use Rattle.esx_types.specs.declared.vm.VmState.TheVariants.{Starting, Running}
-use Rattle.esx_events.specs.declared.event.Refusal.TheVariants.{Short}
+use Rattle.esx_types.specs.Frames.{least_frame}
+use Rattle.esx_types.specs.Listings.{listing_at}
 use Rattle.esx_model.specs.declared.scene.Vm.{Vm}
 use Rattle.esx_model.specs.declared.scene.Site.{Site}
 use Rattle.esx_model.specs.declared.book.VmRow.{VmRow}
 use Rattle.esx_model.specs.declared.tables.Tables.{Tables}
-use Rattle.esx_model.specs.Places.{is_here_at}
-use Rattle.esx_model.specs.Site.{vm_at, with_vm, all_places, all_overhead, least_free}
-use Rattle.esx_model.specs.Show.{in_frame, in_slot, pages_in, is_listed, row_of, frame_row, frame_rows, slot_row, slot_rows}
+use Rattle.esx_model.specs.Site.{vm_at, with_vm, least_free}
+use Rattle.esx_model.specs.Show.{row_of, frame_row, frame_rows}
 use Rattle.esx_model.specs.Tables.{vm_table, tables_of, is_hint_in, listing_by, listing_row, listing_rows}
 use Rattle.esx_model.specs.Moved.{put_vm}
-use Rattle.esx_model.specs.event.Outcome.{standing, is_running, is_stopping}
 use Rattle.esx_model.specs.event.Starting.{start_gate, with_overhead, take_overhead, start}
 use Rattle.esx_model.specs.sound.Machines.{FitsState}
 use Rattle.esx_model.specs.sound.Sound.{IsSound}
-use Rattle.esx_model.proofs.Lists.{rows_same, rows_move, listed_more, or_false, eqb_same, eqb_other}
-use Rattle.esx_model.proofs.Kept.{site_with, places_same, place_changed}
-use Rattle.esx_model.proofs.Rooms.{IsUnused, least_unused}
-use Rattle.esx_model.proofs.Shown.{row_by, listing_is, row_same, out_row_same, find_same, shown_by}
-use Rattle.esx_model.proofs.event.Starting.{overhead_inserted, starts}
-use Rattle.esx_tables.specs.declared.change.VmPart.TheVariants.{Facts, OverheadTop}
-use Rattle.esx_tables.specs.declared.change.Change.TheVariants.{FrameAt, OfVm}
-use Rattle.esx_lists.proofs.Tops.{onto_traded}
-use Rattle.esx_types.specs.Frames.{least_frame}
+use Rattle.esx_model.proofs.Callers.{least_unused, row_clear, listing_is, start_shown, row_in_rows, starts}
 use Rattle.esx_tables.specs.declared.change.Facts.{Facts as VmFacts}
+use Rattle.esx_tables.specs.declared.change.VmPart.TheVariants.{Facts, OverheadTop}
 use Rattle.esx_tables.specs.Machines.{facts_of, with_facts}
 use Rattle.esx_tables.specs.Changes.{traded, exchanged}
 use Rattle.esx_plans.specs.plan.Planned.{Refines}
 use Rattle.esx_plans.specs.plan.Starting.{started, start_changes, start_from, start_plan}
 use Rattle.esx_plans.proofs.Refining.{row_is, needs_vm, passes_same, found_same, standing_shown, makes_shown}
-use Rattle.esx_plans.proofs.Made.{exchanged_then, parts_made}
+use Rattle.esx_plans.proofs.Made.{parts_made}
 use Rattle.esx_plans.proofs.Found.{frame_found}
 
--- The tables after a frame was taken for overhead.
+-- The tables after a frame was taken for overhead: it stood under nothing before.
 
-module _ (c : Config) (s : Site) (n f : ℕ) (v : Vm) (there : vm_at s n ≡ Some v) (unused : IsUnused c.frames s f) where
-  abbrev w : Vm
-  w = with_overhead v f
+stays_unlisted : (c : Config) (s : Site) (f : ℕ) → least_free c.frames s ≡ Some f → set (listing_rows c.frames s) f listings.Unlisted ≡ listing_rows c.frames s
+stays_unlisted c s f found =
+    let unused = least_unused c.frames s f found in
+    let rows : List Listing = listing_rows c.frames s in
+    let free : frame_row s f ≡ frames.Free = row_clear s f unused.clear ∙ ap row_of unused.pages in
+    let there : listing_at rows f ≡ listings.Unlisted =
+    row_in_rows (listing_row s) c.frames f listings.Unlisted unused.below ∙ listing_is s f ∙ ap (λ (r : FrameRow). listing_by r (find (is_hint_in s f) s.hints)) free in
+    ap (λ (l : Listing). set rows f l) (sym there) ∙ set-get_or rows f listings.Unlisted
 
-  abbrev t : Site
-  t = with_vm s n w
-
-  listed : (g : ℕ) → is_listed g (all_overhead t) ≡ (is_listed g (all_overhead s) || (f == g))
-  listed g = listed_more (λ h. h == g) f (all_overhead s) (all_overhead t) (overhead_inserted s n f v there)
-
-  pages : (g : ℕ) → pages_in t g ≡ pages_in s g
-  pages g = ap (in_frame g) (places_same s n v w s.hints there refl)
-
-  taken : frame_row t f ≡ frames.Overhead
-  taken =
-      row_by t f
-      ∙ ap (λ (b : Bool). cond b frames.Overhead (row_of (pages_in t f))) (listed f ∙ ap (λ (b : Bool). b || (f == f)) unused.clear ∙ eqb_same f)
-
-  was_free : frame_row s f ≡ frames.Free
-  was_free =
-      row_by s f
-      ∙ ap (λ (b : Bool). cond b frames.Overhead (row_of (pages_in s f))) unused.clear
-      ∙ ap row_of unused.pages
-
-  or_no : (b : Bool) → (b || false) ≡ b
-  or_no true = refl
-  or_no false = refl
-
-  others : (g : ℕ) → g ≢ f → frame_row t g ≡ frame_row s g
-  others g other =
-      row_by t g
-      ∙ ap (λ (b : Bool). cond b frames.Overhead (row_of (pages_in t g))) (listed g ∙ ap (λ (b : Bool). is_listed g (all_overhead s) || b) (eqb_other f g other) ∙ or_no (is_listed g (all_overhead s)))
-      ∙ ap (λ ps. cond (is_listed g (all_overhead s)) frames.Overhead (row_of ps)) (pages g)
-      ∙ sym (row_by s g)
-
-  hints : (g : ℕ) → find (is_hint_in t g) s.hints ≡ find (is_hint_in s g) s.hints
-  hints g = find_same (is_hint_in s g) (is_hint_in t g) s.hints (λ h. ap (is_here_at g) (place_changed s n h.vm h.page v w s.hints there (λ e. refl)))
-
-  listings : (g : ℕ) → listing_row t g ≡ listing_row s g
-  listings g =
-      elim (cases_eq g f) [
-        | inl e ↦ ap (listing_row t) e ∙ listing_is t f ∙ ap (λ r. listing_by r (find (is_hint_in t f) s.hints)) taken
-            ∙ sym (ap (λ r. listing_by r (find (is_hint_in s f) s.hints)) was_free) ∙ sym (listing_is s f) ∙ sym (ap (listing_row s) e)
-        | inr other ↦ listing_is t g ∙ ap (λ r. listing_by r (find (is_hint_in t g) s.hints)) (others g other) ∙ ap (listing_by (frame_row s g)) (hints g) ∙ sym (listing_is s g)
-      ]
-
-  pub taken_shown : tables_of c t ≡ put_vm (record (tables_of c s) { frames = set (frame_rows c.frames s) f frames.Overhead }) n (Some (vm_table w))
-  taken_shown =
-      shown_by c s n w s.hints (set (frame_rows c.frames s) f frames.Overhead) (slot_rows c.slots s) (listing_rows c.frames s)
-      (rows_move (frame_row s) (frame_row t) f c.frames frames.Overhead frames.Free taken others unused.below)
-      (rows_same (slot_row s) (slot_row t) 0 c.slots (λ i. out_row_same s t i (ap (in_slot i) (places_same s n v w s.hints there refl))))
-      (rows_same (listing_row s) (listing_row t) 0 c.frames listings)
+taken_shown : (c : Config) (s : Site) (n f : ℕ) (v : Vm) → vm_at s n ≡ Some v → least_free c.frames s ≡ Some f
+    → tables_of c (with_vm s n (with_overhead v f)) ≡ put_vm (record (tables_of c s) { frames = set (frame_rows c.frames s) f frames.Overhead }) n (Some (vm_table (with_overhead v f)))
+taken_shown c s n f v there found =
+    let after : List FrameRow = set (frame_rows c.frames s) f frames.Overhead in
+    start_shown c s n f v there found
+    ∙ ap (λ (ls : List Listing). put_vm (record (tables_of c s) { frames = after; listings = ls }) n (Some (vm_table (with_overhead v f)))) (stays_unlisted c s f found)
 
 -- The plan.
 
@@ -117,7 +74,7 @@ start_made c s n v (Some f) sound there starting found =
     makes_shown c s (started r f) (start_changes n r f) (with_vm s n (with_overhead v f)) (put_vm first n (Some (vm_table (with_overhead v f))))
     (parts_made first n r (OverheadTop (Some f) ∷ Facts facts ∷ []) (row_is c s n v there)
     ∙ ap (λ (x : List ℕ × Option ℕ). put_vm first n (Some (with_facts (record r { overhead = x.0 }) facts))) (onto_traded v.spec.overhead 0 v.overhead f top))
-    (taken_shown c s n f v there (least_unused c.frames s f found))
+    (taken_shown c s n f v there found)
 
 pub start_refines : (c : Config) (s : Site) (n : ℕ) → IsSound c s → Refines c s (start_plan (tables_of c s) n) (start c s n)
 unfolding start start_plan
