@@ -1,11 +1,12 @@
-//! Times the table of keys beside std's hash map, and `key` beside a plain digest.
+//! Times the table of keys and the listings of frames beside std's hash map, and `key` beside a plain digest.
 //!
-//! Words: what is timed (`table`, `map`, `pages` or `all`), the table's room, how many hints are put into
-//! it, how many operations of each kind are made on it, and how many pages are hashed. Sums go to
-//! standard output, operations per second to standard error.
+//! Words: what is timed (`table`, `listings`, `map`, `pages` or `all`), the table's room, how many hints
+//! are put into it, how many operations of each kind are made on it, and how many pages are hashed. Sums
+//! go to standard output, operations per second to standard error.
 #![tactic(auto)]
 
 mod digests;
+mod listed;
 mod maps;
 mod numbers;
 mod tables;
@@ -43,6 +44,22 @@ fn time_table<R: Print + Eprint + Clock>(rt: &R, alloc: Global, work: &Work) -> 
     println!(rt; "table {found} {traded}")
 }
 
+fn time_listings<R: Print + Eprint + Clock>(rt: &R, alloc: Global, work: &Work) -> io::Result<()> {
+    let start = Instant::now(rt)?;
+    let mut listings = listed::made(alloc, work)?;
+    report(rt, "listings trade in", work.hints, start)?;
+    let start = Instant::now(rt)?;
+    let found = listed::look_up(&listings, work);
+    report(rt, "listings hinted_under", work.operations, start)?;
+    let start = Instant::now(rt)?;
+    let traded = listed::trade(&mut listings, work);
+    report(rt, "listings trade out and in", work.operations, start)?;
+    let start = Instant::now(rt)?;
+    let hints = listings.hints(alloc)?.len();
+    report(rt, "listings hints in order", work.hints, start)?;
+    println!(rt; "listings {found} {traded} {hints}")
+}
+
 fn time_map<R: Print + Eprint + Clock>(rt: &R, alloc: Global, work: &Work) -> io::Result<()> {
     let start = Instant::now(rt)?;
     let mut map = HashMap::new(alloc);
@@ -78,6 +95,9 @@ fn main(rt: HostRuntime) -> io::Result<()> {
     let all = part.as_str() == "all";
     if all || part.as_str() == "table" {
         time_table(&rt, rt.alloc(), &work)?;
+    }
+    if all || part.as_str() == "listings" {
+        time_listings(&rt, rt.alloc(), &work)?;
     }
     if all || part.as_str() == "map" {
         time_map(&rt, rt.alloc(), &work)?;

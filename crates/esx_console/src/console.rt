@@ -4,13 +4,13 @@ ghost use Rattle.std.specs.Prelude.{◌≡◌, ◌≢◌, ◌+◌, ◌<◌, ◌�
 ghost use Rattle.esx_types.specs.Ranges.{IsConfig};
 ghost use Rattle.esx_plain.specs.Replay.{replay_of};
 ghost use Rattle.esx_plain.specs.History.{here, book_at};
-ghost use Rattle.esx_plain.specs.Console.{history, next_reply, lined, IsLegal};
+ghost use Rattle.esx_plain.specs.Console.{history, next_reply, lined, gauge_of, IsLegal};
 
 use crate::hearing::hear;
 use esx_journal::Journal;
 use esx_machine::Machine;
 use esx_plain::Book;
-use esx_types::{Call, Config, Line, Refusal, Reply};
+use esx_types::{Call, Config, Level, Line, Refusal, Reply};
 use std::alloc::{AllocError, Global};
 use std::marker::Model;
 
@@ -57,6 +57,7 @@ impl Console {
     pub fn call(&mut self, caller: u16, call: Call) -> Result<Reply, AllocError>
         ensures ok { IfOk result (λ reply. (reply ≡ next_reply self.old call) × (self.new ≡ lined self.old caller call)) }
         ensures err { OnErr result (self.new ≡ self.old) }
+        ensures legal { IsLegal self.new }
     {
         self.log.reserve(1)?;
         let heard = hear(&mut self.journal, &call)?;
@@ -100,6 +101,14 @@ impl Console {
         ensures replay { replay_of self.now.site (here (history self.now)) ≡ Ok result.now.book }
     {
         self.journal.machine()
+    }
+
+    /// How scarce frames are: how many are free, and the level.
+    pub fn gauge(&self) -> (u32, Level)
+        ensures { result ≡ gauge_of self.now }
+    {
+        let machine = self.machine();
+        (machine.free(), machine.level())
     }
 
     /// A copy of every table.

@@ -5,7 +5,6 @@ ghost use Rattle.esx_events.specs.Names.{IsName, is_name_byte, is_lower, starts_
 ghost use Rattle.std.specs.List.{list_all};
 
 use crate::boxed::Boxed;
-use esx_types::Bytes;
 use std::alloc::{AllocError, Global};
 use std::marker::Model;
 
@@ -50,47 +49,47 @@ pub fn is_name(bytes: &[u8]) -> bool
 /// the list of its bytes.
 #[derive(Debug, Drop)]
 pub struct Name {
-    bytes: Boxed<Bytes>,
+    text: Boxed<String>,
 }
 
 impl Model for Name {
-    ghost use Rattle.std.specs.Prelude.{List, ℕ};
+    ghost use Rattle.std.specs.Prelude.{List, ℕ, string_bytes};
     ghost use Rattle.esx_events.specs.Names.{IsName};
 
     ghost Value = { List ℕ };
 
-    ghost view = { λ a. a.bytes };
+    ghost view = { λ a. string_bytes a.text };
 
-    ghost invariant = { λ a. IsName a.bytes };
+    ghost invariant = { λ a. IsName (string_bytes a.text) };
 }
 
 impl Name {
-    /// The name of these bytes, where they may be one.
-    pub fn new(alloc: Global, bytes: &[u8]) -> Result<Option<Name>, AllocError>
-        ensures some { IfOk result (λ found. IsSome found ↔ IsName bytes.now) }
-        ensures value { IfOk result (λ found. IfSome found (λ name. name ≡ bytes.now)) }
+    /// The name that is this text, where it may be one.
+    pub fn new(alloc: Global, text: &str) -> Result<Option<Name>, AllocError>
+        ensures some { IfOk result (λ found. IsSome found ↔ IsName text.now) }
+        ensures value { IfOk result (λ found. IfSome found (λ name. name ≡ text.now)) }
     {
-        if is_name(bytes) {
-            let bytes = Boxed::new(alloc, Bytes::copy_of(alloc, bytes)?)?;
-            Ok(Some(Name { bytes }))
+        if is_name(text.as_bytes()) {
+            let text = Boxed::new(alloc, String::from_str(alloc, text)?)?;
+            Ok(Some(Name { text }))
         } else {
             Ok(None)
         }
     }
 
-    pub fn as_slice(&self) -> &[u8]
+    pub fn as_str(&self) -> &str
         ensures value { result.now ≡ self.now }
         ensures range { IsName result.now }
     {
-        self.bytes.get().as_slice()
+        self.text.get().as_str()
     }
 
     pub fn copy(&self) -> Result<Name, AllocError>
         ensures { IfOk result (λ name. name ≡ self.now) }
     {
-        let bytes = self.bytes.get().copy()?;
+        let text = self.text.get().clone()?;
         Ok(Name {
-            bytes: Boxed::new(self.bytes.allocator(), bytes)?,
+            text: Boxed::new(self.text.allocator(), text)?,
         })
     }
 }

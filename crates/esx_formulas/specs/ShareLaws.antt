@@ -38,6 +38,6 @@ IsFirstClaimLeast = (tau : ℕ) (rows : List Row) → tau ≤ 99 → AreRows row
     MatchOption (first_claim tau rows) (AreAtFloor rows) (λ a. HasLeastRatio tau rows a.vm)
 
 -- the list worked out page by page are targets, and no other list is
-abbrev pub AreTargetsOfPages : Type 0
-AreTargetsOfPages = (tau : ℕ) (rows : List Row) (need : ℕ) (targets : List ℕ) → tau ≤ 99 → AreRows rows →
+abbrev pub AreTargetsPageByPage : Type 0
+AreTargetsPageByPage = (tau : ℕ) (rows : List Row) (need : ℕ) (targets : List ℕ) → tau ≤ 99 → AreRows rows →
     AreTargets tau rows need targets ↔ targets ≡ targets_of tau rows need

@@ -1,5 +1,5 @@
 -- What callers cite: each trade with a table leads back.
-use Rattle.std.proofs.Common.{◌≡◌, ℕ, ◌<◌, ◌≤◌, Bool, true, false, List, length, ltb, refl, sym, ap, ◌∙◌, inl, inr}
+use Rattle.std.proofs.Common.{◌≡◌, ℕ, ◌<◌, ◌≤◌, List, length, refl, ap, ◌∙◌, inl, inr}
 use Rattle.std.proofs.lemmas.Bool.{cases_lt, lt-ltb, le-ltb}
 use Rattle.std.proofs.lemmas.List.{length-set}
 use Rattle.esx_types.specs.declared.table.FrameRow.{FrameRow}
@@ -9,7 +9,6 @@ use Rattle.esx_types.specs.declared.table.SlotRow.TheVariants as slots
 use Rattle.esx_lists.specs.Trades.{LeadsBack, place_traded}
 use Rattle.esx_lists.proofs.Trades.{place_back, place_back_inside, part_back}
 use Rattle.esx_frames.specs.Marks.{bytes_traded, mark_traded, slot_traded, bytes_traded_at, mark_traded_at, slot_traded_at}
-use Rattle.esx_frames.specs.declared.marks.Mark.{Mark}
 use Rattle.esx_frames.specs.declared.marks.Mark.TheVariants as marks
 
 pub bytes_back : (offset : ℕ) → LeadsBack (bytes_traded offset)

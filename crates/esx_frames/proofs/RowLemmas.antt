@@ -1,5 +1,5 @@
 -- What a change of one row does to the counts and to the index of free rows.
-use Rattle.std.proofs.Common.{◌≡◌, ℕ, ◌+◌, ◌-◌, ◌^◌, ◌<◌, ◌≤◌, Bool, true, cond, List, length, set, map, replicate, count_by, refl, sym, ap, ◌∙◌, arith, mul-one, mul-zero}
+use Rattle.std.proofs.Common.{◌≡◌, ℕ, ◌+◌, ◌^◌, ◌<◌, ◌≤◌, Bool, true, cond, List, length, set, map, replicate, refl, sym, ap, ◌∙◌, arith, mul-one}
 use Rattle.std.proofs.lemmas.List.{length-set, length-replicate}
 use Rattle.std.proofs.lemmas.List.Sums.{count_by-le-length}
 use Rattle.std.proofs.lemmas.List.Folds.{sum_by-replicate}
@@ -9,7 +9,6 @@ use Rattle.esx_types.specs.declared.table.FrameRow.{FrameRow}
 use Rattle.esx_types.specs.declared.table.FrameRow.TheVariants.{Free, Overhead, Private, Shared}
 use Rattle.esx_types.specs.Frames.{is_free, is_overhead, is_private, is_shared, frame_at}
 use Rattle.esx_frames.specs.Counts.{counts_of, count_like, with_row, without_row}
-use Rattle.esx_lists.specs.Counts.{one}
 use Rattle.esx_frames.specs.Table.{IsTable}
 use Rattle.esx_frames.specs.Marks.{bytes_traded, mark_traded}
 use Rattle.esx_frames.specs.declared.counts.Counts.{Counts}

@@ -1,5 +1,5 @@
 -- How many rows there are of each kind.
-use Rattle.std.specs.Prelude.{ℕ, ◌+◌, ◌-◌, Bool, if◌then◌else◌, List, count_by}
+use Rattle.std.specs.Prelude.{ℕ, ◌+◌, ◌-◌, List, count_by}
 use Rattle.esx_types.specs.declared.table.FrameRow.{FrameRow}
 use Rattle.esx_types.specs.declared.table.FrameRow.TheVariants.{Free, Overhead, Private, Shared}
 use Rattle.esx_types.specs.Frames.{is_free, is_overhead, is_private, is_shared}

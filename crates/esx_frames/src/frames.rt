@@ -1,6 +1,6 @@
 //! The table: its rows, an index of the free ones, and the counts.
 
-ghost use Rattle.std.specs.Prelude.{◌≡◌, ◌≢◌, ◌+◌, ◌^◌, ◌<◌, ◌≤◌, IfOk, IfErr, OnErr, IsTrue, Some, None, length, replicate, slice_index_or, slice_set};
+ghost use Rattle.std.specs.Prelude.{◌≡◌, ◌≢◌, ◌+◌, ◌^◌, ◌<◌, ◌≤◌, IfOk, IfErr, OnErr, IsTrue, Some, None, length, option_copied, replicate, slice_get, slice_index_or, slice_set};
 ghost use Rattle.esx_types.specs.declared.table.FrameRow.{FrameRow};
 ghost use Rattle.esx_types.specs.declared.table.FrameRow.TheVariants.{Free};
 ghost use Rattle.esx_types.specs.Frames.{frame_at, least_frame, bytes_of, holds_bytes, ref_count, with_count};
@@ -67,12 +67,11 @@ impl FrameTable {
         self.rows.as_slice()
     }
 
-    /// The row of a frame.
-    pub fn row(&self, mpn: u32) -> &FrameRow
-        requires { mpn < length self.now }
-        ensures { result.now ≡ frame_at self.now mpn }
+    /// The row of a frame; none past the end.
+    pub fn get(&self, mpn: u32) -> Option<&FrameRow>
+        ensures { option_copied result ≡ slice_get self.now mpn }
     {
-        &self.rows[mpn as usize]
+        self.rows.get(mpn as usize)
     }
 
     /// The bytes of the page in a frame.
@@ -180,10 +179,10 @@ impl FrameTable {
         ensures slot { slot.new ≡ (slot_traded_at mpn self.old slot.old).1 }
     {
         if mpn < self.len() {
-            let mut row = FrameRow::Free;
-            self.swap_row(mpn, &mut row);
-            trade_slot(&mut row, slot);
-            self.swap_row(mpn, &mut row);
+            let mut held = FrameRow::Free;
+            self.swap_row(mpn, &mut held);
+            trade_slot(&mut held, slot);
+            self.swap_row(mpn, &mut held);
         }
     }
 
@@ -265,6 +264,30 @@ mod tests {
         table.add_ref(0);
         assert_eq!(rt; table.bytes(0), [7; 16].as_slice());
         assert_eq!(rt; table.drop_ref(0), 16777215);
+        Ok(())
+    }
+
+    #[test]
+    fn trades_inside_a_frame(rt: HostRuntime) -> Result<(), Fail> {
+        let mut table = FrameTable::new(rt.alloc(), 2, 16)?;
+        let bytes = Bytes::from_vec(vec![in rt.alloc(); 7; 16]?);
+        let mut slot = SlotRow::Held { bytes };
+        table.trade_slot(1, &mut slot);
+        assert!(rt; slot.is_empty());
+        assert_eq!(rt; table.counts().private, 1);
+        let mut mark = Mark::Shared { count: 2 };
+        table.trade_mark(1, &mut mark);
+        assert_eq!(rt; mark, Mark::Private);
+        assert_eq!(rt; table.counts().shared, 1);
+        let mut bytes = Bytes::from_vec(vec![in rt.alloc(); 9; 2]?);
+        table.trade_bytes(1, 14, &mut bytes);
+        assert_eq!(rt; bytes.as_slice(), [7; 2].as_slice());
+        let mut row = FrameRow::Free;
+        table.trade(1, &mut row);
+        assert!(rt; row.is_shared());
+        assert_eq!(rt; table.counts().free, 2);
+        assert_eq!(rt; table.rows().len(), 2);
+        assert!(rt; table.get(2).is_none());
         Ok(())
     }
 }

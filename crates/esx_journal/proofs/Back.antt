@@ -5,8 +5,10 @@ use Rattle.std.proofs.lemmas.Grind.{common_steps}
 use Rattle.std.proofs.lemmas.Bool.Decides.{eqb_tells}
 use Rattle.std.proofs.lemmas.Bool.{eq-eqb, eqb-true}
 use Rattle.esx_types.specs.declared.event.Event.{Event}
-use Rattle.esx_plain.specs.History.{Node, Move, Up, Down, History, parent, path, on_way, at, last_descent, IsTree, IsWalk, cursor, here, up_once, if_alive, undone, undo, jumped}
+use Rattle.esx_plain.specs.Tree.{Node, Move, Up, Down, parent, path, on_way, at, last_descent, IsTree, IsWalk}
+use Rattle.esx_plain.specs.History.{History, cursor, here, up_once, if_alive, undone, undo, jumped}
 use Rattle.esx_journal.specs.Turns.{above}
+use Rattle.esx_journal.specs.Ways.{ups}
 use Rattle.esx_journal.proofs.Paths.{newest, is_other, way_new, way_old, parent_below, parent_fits, parent_zero, path_child, path_zero, way_child, way_self, way_below, way_zero, walk_ends}
 use Rattle.esx_journal.proofs.Moves.{Looked, looks_further, undo_some}
 
@@ -14,11 +16,6 @@ pub above_parent : (nodes : List Node) (k c : ℕ) → above nodes k (parent nod
 unfolding above
 above_parent nodes zero c = refl
 above_parent nodes (suc k) c = above_parent nodes k (parent nodes c)
-
--- so many moves up
-pub ups : ℕ → List Move → List Move
-ups zero walk = walk
-ups (suc k) walk = Up ∷ ups k walk
 
 pub undone_is : (k : ℕ) (m : History) → undone k m ≡ record m { walk = ups k m.walk }
 unfolding undone up_once ups

@@ -1,10 +1,11 @@
 -- Several steps down.
 use Rattle.std.proofs.Common.{◌≡◌, ℕ, zero, suc, ◌+◌, List, [], ◌∷◌, ◌++◌, length, length-append, refl, sym, ap, ◌∙◌, arith, Option, Some, None, option_map, append_assoc, append-nil}
 use Rattle.esx_types.specs.declared.event.Event.{Event}
-use Rattle.esx_plain.specs.History.{Move, Down, History, path, at, last_descent, IsTree, IsWalk, cursor, here, child, down_to, redone, redo, jumped}
+use Rattle.esx_plain.specs.Tree.{Move, Down, path, at, last_descent, IsTree, IsWalk}
+use Rattle.esx_plain.specs.History.{History, cursor, here, child, down_to, redone, redo, jumped}
 use Rattle.esx_journal.specs.Turns.{above}
 use Rattle.esx_journal.proofs.Paths.{path_child}
-use Rattle.esx_journal.proofs.Steps.{is_child, child_by, same_descents}
+use Rattle.esx_journal.proofs.Steps.{descents_of, is_child, child_by, same_descents}
 use Rattle.esx_journal.proofs.Moves.{redone_back}
 
 -- where k steps down lead
@@ -27,7 +28,7 @@ goes_below (suc k) m w tree walk e =
     let last = redone_back m w k (ap (λ x. redone x m) i ∙ e) in
     let before = goes_below k m last.before tree walk last.gives in
     let b : History = record m { walk = before.walk } in
-    let n = is_child b before.walk last.node before.walks (child_by b last.node (ap child (sym before.is) ∙ last.is)) in
+    let n = is_child b before.walk last.node (descents_of m.nodes before.walk before.walks) (child_by b last.node (ap child (sym before.is) ∙ last.is)) in
     let long = path_child m.nodes last.node tree n.some n.fits in
     record {
       walk = Down last.node ∷ before.walk;

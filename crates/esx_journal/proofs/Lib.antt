@@ -1,5 +1,11 @@
 pub mod Lists
+pub mod Names
 pub mod Paths
+pub mod Trying
+pub mod Ways
+pub mod Sinking
+pub mod Pruning
+pub mod Dropping
 pub mod Runs
 pub mod Steps
 pub mod Moves
@@ -8,3 +14,4 @@ pub mod Back
 pub mod Down
 pub mod Turning
 pub mod Reaching
+pub mod Visiting

@@ -1,12 +1,13 @@
 -- Several moves.
 use Rattle.std.proofs.Common.{◌≡◌, ◌≢◌, ℕ, zero, suc, ◌+◌, ◌<◌, ◌≤◌, ◌==◌, true, false, cond, List, [], ◌∷◌, length, length-append, is_some, refl, sym, ap, ◌∙◌, arith, Option, Some, None, option_map, ◌⊎◌, inl, inr, add-one}
 use Rattle.std.proofs.lemmas.Bool.Decides.{eqb_tells, nat_tests}
-use Rattle.esx_plain.specs.History.{Move, Down, History, parent, path, at, last_descent, IsTree, IsWalk, cursor, here, up_once, down_once, down_to, child, if_alive, undone, redone, undo, redo, then_go, jumped}
+use Rattle.esx_plain.specs.Tree.{Move, Down, parent, path, at, last_descent, IsTree, IsWalk}
+use Rattle.esx_plain.specs.History.{History, cursor, here, up_once, down_once, down_to, child, if_alive, undone, redone, undo, redo, then_go, jumped}
 use Rattle.esx_journal.specs.declared.row.Row.{Row}
 use Rattle.esx_journal.specs.Row.{LastsFit, kept_child, child_at}
 use Rattle.esx_journal.specs.Journal.{Kept, Holds, Aims}
 use Rattle.esx_journal.proofs.Paths.{walk_ends, path_short, path_child}
-use Rattle.esx_journal.proofs.Steps.{cursor_fits, cursor_of_child, same_descents, chosen, IsChild}
+use Rattle.esx_journal.proofs.Steps.{cursor_fits, descents_of, cursor_of_child, same_descents, chosen, IsChild}
 
 pub undone_more : (k : ℕ) (m : History) → undone (k + 1) m ≡ up_once (undone k m)
 unfolding undone
@@ -35,12 +36,14 @@ holds_jumped j m h = record {
   place = h.place;
   deep = h.deep;
   shows = h.shows;
+  names = h.names;
+  whole = h.whole;
   way = h.way;
   each = λ n d fits. (let row = h.each n d fits in record { up = row.up; last = row.last; live = row.live; accepted = row.accepted; back = row.back });
 }
 
-pub depth_small : (j : Kept) (m : History) → Holds j m → j.depth ≤ length m.nodes
-depth_small j m h = (let s = path_short m.nodes (cursor m) h.tree (cursor_fits j m m.walk h) in let f = cursor_fits j m m.walk h in let d = h.deep in omega arith)
+pub depth_small : (j : Kept) (m : History) (aim : List Move) → Aims j m aim → j.depth ≤ length m.nodes
+depth_small j m aim h = (let s = path_short m.nodes (cursor m) h.tree (cursor_fits j m aim h) in let f = cursor_fits j m aim h in let d = h.deep in omega arith)
 
 -- a child is one deeper than the cursor
 pub depth_below : (j : Kept) (m : History) (aim : List Move) (n : ℕ) → Aims j m aim → IsChild m aim n → j.depth + 1 ≤ length m.nodes
@@ -69,6 +72,15 @@ child_kept j m aim x d h fits = ap (kept_child j.rows d) (h.each x d fits).last 
     of : (o : Option ℕ) → ((c : ℕ) → o ≡ Some c → c ≤ length m.nodes) → kept_child j.rows d o ≡ if_alive m.nodes o
     of None f = refl
     of (Some c) f = ap (λ b. cond b (Some c) None) (h.each c d (f c refl)).live
+
+-- a child that the rows name has a row
+pub child_within : (j : Kept) (m : History) (aim : List Move) (x n : ℕ) (d : Row) → Aims j m aim → x < length j.rows → child_at j.rows x d ≡ Some n → n < length j.rows
+child_within j m aim x n d h fits e =
+    let s = h.size in
+    let o = chosen m.nodes (last_descent m.nodes aim x) n (sym (child_kept j m aim x d h (omega arith)) ∙ e) in
+    let k = cursor_of_child m.nodes aim x n h.lasts o.0 in
+    let f = k.2 in
+    omega arith
 
 -- k nodes down there is the node x
 pub record Looked (m : History) (k x : ℕ) : Type 0 where
@@ -100,7 +112,7 @@ looks_further m k x n l e =
     let w : History = record m { walk = l.walk } in
     let c : child w ≡ Some n = child_there m k x l ∙ e in
     let o = chosen m.nodes (last_descent m.nodes l.walk (at m.nodes l.walk)) n c in
-    let f = cursor_of_child m.nodes l.walk (at m.nodes l.walk) n l.walks o.0 in
+    let f = cursor_of_child m.nodes l.walk (at m.nodes l.walk) n (descents_of m.nodes l.walk l.walks) o.0 in
     record {
       walk = Down n ∷ l.walk;
       gives = next_there m k x l ∙ ap (option_map (down_to w)) c;
@@ -148,9 +160,9 @@ redone_back m after k e = of (redone k m) refl (sym (redone_more k m) ∙ e)
 abbrev pub no_row : Row
 no_row = record { parent = 0; back = None; last = None }
 
-pub child_is : (j : Kept) (m : History) (d : Row) → Holds j m → child_at j.rows j.cursor d ≡ child m
-unfolding child
-child_is j m d h = ap (λ x. child_at j.rows x d) h.place ∙ child_kept j m m.walk (cursor m) d h (cursor_fits j m m.walk h)
+-- what the rows say of the cursor's child
+pub child_aimed : (j : Kept) (m : History) (aim : List Move) (d : Row) → Aims j m aim → child_at j.rows j.cursor d ≡ if_alive m.nodes (last_descent m.nodes aim (cursor m))
+child_aimed j m aim d h = ap (λ x. child_at j.rows x d) h.place ∙ child_kept j m aim (cursor m) d h (cursor_fits j m aim h)
 
 pub none_by : (o : Option History) → is_some o ≡ false → o ≡ None
 none_by None e = refl

@@ -3,7 +3,7 @@ use Rattle.std.proofs.Common.{◌≡◌, ◌≢◌, ℕ, zero, suc, ◌+◌, ◌
 use Rattle.std.proofs.lemmas.Bool.Decides.{eqb_tells}
 use Rattle.std.proofs.lemmas.Bool.{eq-eqb, eqb-true}
 use Rattle.esx_types.specs.declared.event.Event.{Event}
-use Rattle.esx_plain.specs.History.{Node, Move, Up, Down, parent, alive, path, on_way, at, IsTree, IsWalk}
+use Rattle.esx_plain.specs.Tree.{Node, Move, Up, Down, parent, alive, path, on_way, at, IsTree, IsWalk}
 
 pub newest : (n k : ℕ) → n ≤ k + 1 → (n ≡ k + 1) ⊎ (n ≤ k)
 newest n k h = elim (eqb_tells n (k + 1)) as (λ _. (n ≡ k + 1) ⊎ (n ≤ k)) [ inl e ↦ inl e.1 | inr e ↦ inr (let f = e.1 in omega arith) ]
@@ -11,7 +11,7 @@ newest n k h = elim (eqb_tells n (k + 1)) as (λ _. (n ≡ k + 1) ⊎ (n ≤ k))
 pub is_other : (n k : ℕ) → n ≢ k → (n == k) ≡ false
 is_other n k h = elim (eqb_tells n k) as (λ _. (n == k) ≡ false) [ inl e ↦ absurd (h e.1) | inr e ↦ e.0 ]
 
-is_older : (n k : ℕ) → n ≤ k → (n == (k + 1)) ≡ false
+pub is_older : (n k : ℕ) → n ≤ k → (n == (k + 1)) ≡ false
 is_older n k h = is_other n (k + 1) (λ e. omega arith)
 
 pub parent_new : (x : Node) (older : List Node) (n : ℕ) → n ≡ length older + 1 → parent (x ∷ older) n ≡ x.parent
@@ -148,3 +148,13 @@ unfolding at parent
 walk_ends nodes [] tree walk = omega arith
 walk_ends nodes (Up ∷ w) tree walk = parent_fits nodes (at nodes w) tree (walk_ends nodes w tree walk)
 walk_ends nodes (Down n ∷ w) tree walk = walk.1
+
+-- a node that stands was made
+pub alive_fits : (nodes : List Node) (n : ℕ) → alive nodes n ≡ true → n ≤ length nodes
+unfolding alive
+alive_fits [] n h = cc
+alive_fits (x ∷ older) n h = of (eqb_tells n (length older + 1)) (λ e. alive_fits older n e)
+  where
+    of : (((n == (length older + 1)) ≡ true) × (n ≡ length older + 1)) ⊎ (((n == (length older + 1)) ≡ false) × (n ≢ length older + 1)) → (alive older n ≡ true → n ≤ length older) → n ≤ length (x ∷ older)
+    of (inl e) f = (let k = e.1 in omega arith)
+    of (inr e) f = (let k = f (sym (ap (λ b. cond b x.alive (alive older n)) e.0) ∙ h) in omega arith)

@@ -1,19 +1,27 @@
 -- What every history keeps that calls lead to.
-use Rattle.std.proofs.Common.{◌≡◌, ◌≢◌, ℕ, zero, suc, ◌+◌, ◌≤◌, ◌==◌, Bool, true, false, cond, List, [], ◌∷◌, ◌++◌, length, refl, sym, ap, ◌∙◌, subst, arith, Option, Some, None, option_map, ◌⊎◌, inl, inr, Result, Ok, Err, nat_le, nat_lt}
+use Rattle.std.proofs.Common.{◌≡◌, ◌≢◌, ℕ, zero, suc, ◌+◌, ◌≤◌, ◌==◌, Bool, true, false, cond, List, [], ◌∷◌, ◌++◌, length, refl, sym, ap, ◌∙◌, subst, arith, Option, Some, None, option_map, ◌⊎◌, inl, inr, Result, Ok, Err, is_some, nat_le, nat_lt}
 use Rattle.std.proofs.lemmas.Bool.Decides.{eqb_tells}
 use Rattle.esx_types.specs.declared.config.Config.{Config}
 use Rattle.esx_types.specs.declared.event.Event.{Event}
 use Rattle.esx_types.specs.declared.event.Answer.{Answer}
 use Rattle.esx_types.specs.declared.event.Refusal.{Refusal}
-use Rattle.esx_types.specs.declared.event.Refusal.TheVariants.{Full}
+use Rattle.esx_types.specs.declared.event.Refusal.TheVariants.{NoSuchNode, NameTaken, NoSuchName, OnPath, Full}
 use Rattle.esx_plain.specs.declared.scene.Scene.{Scene}
 use Rattle.esx_plain.specs.Replay.{opening, next, run, run_from, replay_of, shown_after}
-use Rattle.esx_plain.specs.History.{Node, History, alive, path, on_way, at, IsTree, IsWalk, cursor, here, opened, done, answered, do_event, scene_or, scene_at, book_at, undone, redone, undo, redo, jumped}
-use Rattle.esx_journal.specs.Reached.{IsReached, Opened, Did, Undid, Redid}
+use Rattle.esx_plain.specs.Tree.{Node, alive, path, on_way, at, IsTree, IsWalk}
+use Rattle.esx_plain.specs.History.{History, cursor, here, opened, done, answered, do_event, scene_or, scene_at, book_at, undone, redone, undo, redo, jumped}
+use Rattle.esx_plain.specs.Branching.{stands, gone_to, goto, visit, mark, prune, dropped, standing_below, is_on_path}
+use Rattle.esx_journal.specs.Marks.{node_named}
+use Rattle.esx_journal.specs.Reached.{IsReached, Opened, Did, Undid, Redid, Went, Visited, Named, Pruned}
 use Rattle.esx_journal.specs.Turns.{Shortens, Lengthens}
-use Rattle.esx_journal.proofs.Paths.{newest, parent_new, alive_old, path_new, path_old, way_old, way_below, way_same, walk_ends}
+use Rattle.esx_journal.proofs.Names.{visit_some, visit_none, mark_taken, mark_free, with_name}
+use Rattle.esx_journal.proofs.Ways.{Arrived, way_leads}
+use Rattle.esx_journal.proofs.Sinking.{alive_of, goto_none, goto_some}
+use Rattle.esx_journal.proofs.Pruning.{dropped_length, dropped_path, dropped_way, dropped_tree, dropped_at, dropped_walk, stands_after, still_stands, way_through, false_by}
+use Rattle.esx_journal.proofs.Dropping.{without, off_path, prune_none, prune_refused, prune_done}
+use Rattle.esx_journal.proofs.Paths.{alive_fits, way_zero, newest, parent_new, alive_old, path_new, path_old, way_old, way_below, way_same, walk_ends}
 use Rattle.esx_plain.proofs.Callers.{run_one_more}
-use Rattle.esx_journal.proofs.Steps.{IsChild, is_child, child_by}
+use Rattle.esx_journal.proofs.Steps.{IsChild, descents_of, is_child, child_by}
 use Rattle.esx_journal.proofs.Moves.{redone_back}
 use Rattle.esx_journal.proofs.Grows.{node_of, at_grown, walk_grown, way_done}
 use Rattle.esx_journal.proofs.Back.{undone_is, at_ups, walk_ups, way_from_above, gone_up, undo_is, here_up}
@@ -66,7 +74,7 @@ steady_down c (suc k) m w s e =
     let i : k + 1 ≡ suc k = omega arith in
     let last = redone_back m w k (ap (λ x. redone x m) i ∙ e) in
     let before = steady_down c k m last.before s last.gives in
-    let n = is_child last.before last.before.walk last.node before.walk (child_by last.before last.node last.is) in
+    let n = is_child last.before last.before.walk last.node (descents_of last.before.nodes last.before.walk before.walk) (child_by last.before last.node last.is) in
     let P : History → Type 0 = IsSteady c in
     subst P last.same (record {
       config = before.config;
@@ -146,25 +154,110 @@ steady_redid c m after k s h = of (redone k m) refl h
     of None e q = cc
     of (Some w) e q = (let same : jumped w ≡ after = cc in let P : History → Type 0 = IsSteady c in subst P same (steady_jumped c w (steady_down c k m w s e)))
 
+-- the way to a node that stands
+stands_way : (c : Config) (m : History) (n : ℕ) → IsSteady c m → stands m n ≡ true → (a : ℕ) → on_way m.nodes n a ≡ true → alive m.nodes a ≡ true
+stands_way c m zero s up a on = (let z = sym (way_zero m.nodes a) ∙ on in cc)
+stands_way c m (suc n) s up a on = (let live = alive_of m.nodes (suc n) (omega arith) up in s.live (suc n) a (alive_fits m.nodes (suc n) live) live on)
+
+stands_fits : (m : History) (n : ℕ) → stands m n ≡ true → n ≤ length m.nodes
+stands_fits m zero up = omega arith
+stands_fits m (suc n) up = alive_fits m.nodes (suc n) (alive_of m.nodes (suc n) (omega arith) up)
+
+-- the shortest way leads to the node
+pub goes_there : (c : Config) (m : History) (n : ℕ) → IsSteady c m → stands m n ≡ true → Arrived m.nodes (gone_to n m).walk n
+goes_there c m n s up = (let f = walk_ends m.nodes m.walk s.tree s.walk in
+    way_leads m.nodes (cursor m + n) (cursor m) n m.walk s.tree (omega arith) f (stands_fits m n up) refl s.walk)
+
+pub steady_gone : (c : Config) (m : History) (n : ℕ) → IsSteady c m → stands m n ≡ true → IsSteady c (gone_to n m)
+steady_gone c m n s up = (let there = goes_there c m n s up in record {
+  config = s.config;
+  tree = s.tree;
+  walk = there.walks;
+  paths = s.paths;
+  live = s.live;
+  way = λ a on. stands_way c m n s up a (ap (λ x. on_way m.nodes x a) (sym there.ends) ∙ on);
+})
+
+-- what an accepted goto is
+pub gone_is : (m after : History) (n : ℕ) → goto n m ≡ Ok after → (stands m n ≡ true) × (jumped (gone_to n m) ≡ after)
+gone_is m after n h = of (stands m n) refl
+  where
+    of : (b : Bool) → stands m n ≡ b → (stands m n ≡ true) × (jumped (gone_to n m) ≡ after)
+    of true e = (e, (let q : Ok (jumped (gone_to n m)) ≡ Ok after = sym (goto_some n m e) ∙ h in cc))
+    of false e = (let q : Err NoSuchNode ≡ Ok after = sym (goto_none n m e) ∙ h in cc)
+
+steady_went : (c : Config) (m after : History) (n : ℕ) → IsSteady c m → goto n m ≡ Ok after → IsSteady c after
+steady_went c m after n s h = (let g = gone_is m after n h in let P : History → Type 0 = IsSteady c in subst P g.1 (steady_jumped c (gone_to n m) (steady_gone c m n s g.0)))
+
+steady_visited : (c : Config) (m after : History) (name : List ℕ) → IsSteady c m → visit name m ≡ Ok after → IsSteady c after
+steady_visited c m after name s h = of (node_named name m.marks) refl
+  where
+    of : (o : Option ℕ) → node_named name m.marks ≡ o → IsSteady c after
+    of None e = (let q : Err NoSuchName ≡ Ok after = sym (visit_none name m e) ∙ h in cc)
+    of (Some n) e = steady_went c m after n s (sym (visit_some name m n e) ∙ h)
+
+-- what an accepted mark is
+pub named_is : (m after : History) (name : List ℕ) → mark name m ≡ Ok after → (is_some (node_named name m.marks) ≡ false) × (with_name name m ≡ after)
+named_is m after name h = of (is_some (node_named name m.marks)) refl
+  where
+    of : (b : Bool) → is_some (node_named name m.marks) ≡ b → (is_some (node_named name m.marks) ≡ false) × (with_name name m ≡ after)
+    of true e = (let q : Err NameTaken ≡ Ok after = sym (mark_taken name m e) ∙ h in cc)
+    of false e = (e, (let q : Ok (with_name name m) ≡ Ok after = sym (mark_free name m e) ∙ h in cc))
+
+steady_named : (c : Config) (m after : History) (name : List ℕ) → IsSteady c m → mark name m ≡ Ok after → IsSteady c after
+steady_named c m after name s h = (let P : History → Type 0 = IsSteady c in
+    subst P (named_is m after name h).1 (record { config = s.config; tree = s.tree; walk = s.walk; paths = s.paths; live = s.live; way = s.way }))
+
+refused_twice : (r : Refusal) (p : ℕ × History) (d : Result (ℕ × History) Refusal) → d ≡ Err r → d ≡ Ok p → ⊥
+refused_twice r p d e h = (let q : Err r ≡ Ok p = sym e ∙ h in cc)
+
+-- what an accepted prune is
+pub pruned_is : (m after : History) (n k : ℕ) → prune n m ≡ Ok (k, after) → (is_on_path m n ≡ false) × (standing_below n m.nodes ≡ k) × (without n m ≡ after)
+pruned_is m after n k h = of (stands m n) refl (is_on_path m n) refl
+  where
+    of : (a : Bool) → stands m n ≡ a → (b : Bool) → is_on_path m n ≡ b → (is_on_path m n ≡ false) × (standing_below n m.nodes ≡ k) × (without n m ≡ after)
+    of false e b f = absurd (refused_twice NoSuchNode (k, after) (prune n m) (prune_none n m e) h)
+    of true e true f = absurd (refused_twice OnPath (k, after) (prune n m) (prune_refused n m e f) h)
+    of true e false f = (let q : Ok (standing_below n m.nodes, without n m) ≡ Ok (k, after) = sym (prune_done n m e f) ∙ h in
+        let pair : (standing_below n m.nodes, without n m) ≡ (k, after) = cc in
+        (f, ap (λ (p : ℕ × History). p.0) pair, ap (λ (p : ℕ × History). p.1) pair))
+
+steady_without : (c : Config) (m : History) (n : ℕ) → IsSteady c m → on_way m.nodes (cursor m) n ≡ false → IsSteady c (without n m)
+steady_without c m n s off =
+    let l = dropped_length n m.nodes in
+    let here_fits = walk_ends m.nodes m.walk s.tree s.walk in
+    let P : List Event → Type 0 = Runs c in
+    record {
+      config = s.config;
+      tree = dropped_tree n m.nodes s.tree;
+      walk = dropped_walk n m.nodes m.walk s.walk;
+      paths = λ y f. subst P (sym (dropped_path n m.nodes y)) (s.paths y (omega arith));
+      live = λ y a f up on. (
+          let was = stands_after n m.nodes y up in
+          let before : on_way m.nodes y a ≡ true = sym (dropped_way n m.nodes y a) ∙ on in
+          let fits = alive_fits m.nodes y was.0 in
+          still_stands n m.nodes a (s.live y a fits was.0 before) (false_by (on_way m.nodes a n) (λ w. (let z = sym was.1 ∙ way_through m.nodes y a n s.tree fits before w in cc))));
+      way = λ y on. (
+          let before : on_way m.nodes (cursor m) y ≡ true = sym (dropped_way n m.nodes (cursor m) y) ∙ ap (λ x. on_way (dropped n m.nodes) x y) (sym (dropped_at n m.nodes m.walk)) ∙ on in
+          still_stands n m.nodes y (s.way y before) (false_by (on_way m.nodes y n) (λ w. (let z = sym off ∙ way_through m.nodes (cursor m) y n s.tree here_fits before w in cc))));
+    }
+
+steady_pruned : (c : Config) (m after : History) (n k : ℕ) → IsSteady c m → prune n m ≡ Ok (k, after) → IsSteady c after
+steady_pruned c m after n k s h = (let p = pruned_is m after n k h in let P : History → Type 0 = IsSteady c in subst P p.2 (steady_without c m n s (off_path m n p.0).1))
+
 pub reached_steady : (c : Config) (m : History) → IsReached c m → IsSteady c m
 reached_steady c m Opened = steady_open c
 reached_steady c m (Did e a h after r q) = steady_did c h m e a (reached_steady c h r) q
 reached_steady c m (Undid k h after r q) = steady_undid c h m k (reached_steady c h r) q
 reached_steady c m (Redid k h after r q) = steady_redid c h m k (reached_steady c h r) q
+reached_steady c m (Went n h after r q) = steady_went c h m n (reached_steady c h r) q
+reached_steady c m (Visited name h after r q) = steady_visited c h m name (reached_steady c h r) q
+reached_steady c m (Named name h after r q) = steady_named c h m name (reached_steady c h r) q
+reached_steady c m (Pruned n k h after r q) = steady_pruned c h m n k (reached_steady c h r) q
 
 -- the replay of the cursor's path
 pub replayed_here : (c : Config) (m : History) → IsSteady c m → replay_of m.config (here m) ≡ Ok (book_at m)
 replayed_here c m s = ap (shown_after m.config) (runs_here c m s)
-
--- a node that stands was made
-pub alive_fits : (nodes : List Node) (n : ℕ) → alive nodes n ≡ true → n ≤ length nodes
-unfolding alive
-alive_fits [] n h = cc
-alive_fits (x ∷ older) n h = of (eqb_tells n (length older + 1)) (λ e. alive_fits older n e)
-  where
-    of : (((n == (length older + 1)) ≡ true) × (n ≡ length older + 1)) ⊎ (((n == (length older + 1)) ≡ false) × (n ≢ length older + 1)) → (alive older n ≡ true → n ≤ length older) → n ≤ length (x ∷ older)
-    of (inl e) f = (let k = e.1 in omega arith)
-    of (inr e) f = (let k = f (sym (ap (λ b. cond b x.alive (alive older n)) e.0) ∙ h) in omega arith)
 
 -- an undo from a reached history
 pub shortens : (c : Config) (m : History) (k : ℕ) → IsReached c m → k ≤ length (here m) → Shortens m k

@@ -4,10 +4,11 @@ use Rattle.std.proofs.lemmas.Bool.Decides.{eqb_tells}
 use Rattle.esx_machine.specs.Machine as machines
 use Rattle.esx_machine.specs.Changes.{Back}
 use Rattle.esx_machine.specs.Machine.{Trades}
-use Rattle.esx_plain.specs.History.{Node, Move, Up, Down, History, parent, alive, path, on_way, at, last_descent, IsWalk, cursor, up_once, down_to, child, if_alive}
+use Rattle.esx_plain.specs.Tree.{Node, Move, Up, Down, parent, alive, path, on_way, at, last_descent, IsWalk}
+use Rattle.esx_plain.specs.History.{History, cursor, up_once, down_to, child, if_alive}
 use Rattle.esx_journal.specs.declared.row.Row.{Row}
 use Rattle.esx_journal.specs.Row.{FlipsAt, Flipped}
-use Rattle.esx_journal.specs.Journal.{Kept, Leads, IsRow, Aims, Holds, kept_after}
+use Rattle.esx_journal.specs.Journal.{Kept, Leads, IsRow, AreDescents, Aims, Holds, kept_after}
 use Rattle.esx_journal.proofs.Lists.{set_there, set_elsewhere, set_length}
 use Rattle.esx_journal.proofs.Paths.{path_child, way_same, way_self, way_above, way_child, walk_ends, path_zero}
 
@@ -87,10 +88,10 @@ flips_up j m aim h deep = λ d b e. (state m (parent m.nodes (cursor m)), leads_
 
 pub went_up : (j new : Kept) (m : History) (aim : List Move) (d : Row) → Aims j m aim → 0 < j.depth
     → ((there : machines.Kept) (e : Row) (b : Back) → (slice_index_or j.rows j.cursor e).back ≡ Some b → Trades b j.machine there → Flipped j.machine new.machine j.rows new.rows j.cursor there e)
-    → new.cursor ≡ (slice_index_or new.rows j.cursor d).parent → new.depth + 1 ≡ j.depth → new.nodes ≡ j.nodes
+    → new.cursor ≡ (slice_index_or new.rows j.cursor d).parent → new.depth + 1 ≡ j.depth → new.nodes ≡ j.nodes → new.marks ≡ j.marks
     → Aims new (up_once m) aim
 unfolding up_once at
-went_up j new m aim d h deep flips cursor_is depth_is limit_is =
+went_up j new m aim d h deep flips cursor_is depth_is limit_is marks_are =
     let c = cursor m in
     let p = parent m.nodes c in
     let some : 0 < c = cursor_some j m aim h deep in
@@ -119,15 +120,23 @@ went_up j new m aim d h deep flips cursor_is depth_is limit_is =
       place = cursor_is ∙ ap (λ x. (slice_index_or new.rows x d).parent) h.place ∙ up_is;
       deep = (let a = ap length long.1 in let l = length-append (path m.nodes p) (long.0 ∷ []) in let k = h.deep in omega arith);
       shows = f.arrives;
+      names = marks_are ∙ h.names;
+      whole = h.whole;
       way = λ n on. h.way n (way_child m.nodes c n h.tree some fits ∙ or_true (n == c) (on_way m.nodes p n) on);
       each = subst R (sym f.rows) rows_are;
     }
 
-pub cursor_of_child : (nodes : List Node) (walk : List Move) (p n : ℕ) → IsWalk nodes walk → last_descent nodes walk p ≡ Some n → (parent nodes n ≡ p) × (0 < n) × (n ≤ length nodes)
+-- each move down of a walk goes to a node that was made
+pub descents_of : (nodes : List Node) (walk : List Move) → IsWalk nodes walk → AreDescents nodes walk
+descents_of nodes [] ok = tt
+descents_of nodes (Up ∷ w) ok = descents_of nodes w ok
+descents_of nodes (Down n ∷ w) ok = (ok.0, ok.1, descents_of nodes w ok.3)
+
+pub cursor_of_child : (nodes : List Node) (walk : List Move) (p n : ℕ) → AreDescents nodes walk → last_descent nodes walk p ≡ Some n → (parent nodes n ≡ p) × (0 < n) × (n ≤ length nodes)
 unfolding last_descent
 cursor_of_child nodes [] p n ok h = cc
 cursor_of_child nodes (Up ∷ w) p n ok h = cursor_of_child nodes w p n ok h
-cursor_of_child nodes (Down k ∷ w) p n ok h = of (eqb_tells p (parent nodes k)) (λ e. cursor_of_child nodes w p n ok.3 e)
+cursor_of_child nodes (Down k ∷ w) p n ok h = of (eqb_tells p (parent nodes k)) (λ e. cursor_of_child nodes w p n ok.2 e)
   where
     here_it_is : p ≡ parent nodes k → k ≡ n → (parent nodes n ≡ p) × (0 < n) × (n ≤ length nodes)
     here_it_is e same = (let Q : ℕ → Type 0 = λ x. (parent nodes x ≡ p) × (0 < x) × (x ≤ length nodes) in subst Q same (sym e, ok.0, ok.1))
@@ -162,7 +171,7 @@ pub record IsChild (m : History) (aim : List Move) (n : ℕ) : Type 0 where
   pub some : 0 < n
   pub fits : n ≤ length m.nodes
 
-pub is_child : (m : History) (aim : List Move) (n : ℕ) → IsWalk m.nodes aim → if_alive m.nodes (last_descent m.nodes aim (cursor m)) ≡ Some n → IsChild m aim n
+pub is_child : (m : History) (aim : List Move) (n : ℕ) → AreDescents m.nodes aim → if_alive m.nodes (last_descent m.nodes aim (cursor m)) ≡ Some n → IsChild m aim n
 is_child m aim n walks e =
     let c = chosen m.nodes (last_descent m.nodes aim (cursor m)) n e in
     let k = cursor_of_child m.nodes aim (cursor m) n walks c.0 in
@@ -182,10 +191,10 @@ flips_down j m aim n h k = λ d b e. (state m n, leads_down j m aim n h k d b e)
 
 pub went_down : (j new : Kept) (m : History) (aim : List Move) (n : ℕ) (d : Row) → Aims j m aim → IsChild m aim n
     → ((there : machines.Kept) (e : Row) (b : Back) → (slice_index_or j.rows n e).back ≡ Some b → Trades b j.machine there → Flipped j.machine new.machine j.rows new.rows n there e)
-    → new.cursor ≡ n → new.depth ≡ j.depth + 1 → new.nodes ≡ j.nodes
+    → new.cursor ≡ n → new.depth ≡ j.depth + 1 → new.nodes ≡ j.nodes → new.marks ≡ j.marks
     → Aims new (down_to m n) aim
 unfolding at
-went_down j new m aim n d h k flips cursor_is depth_is limit_is =
+went_down j new m aim n d h k flips cursor_is depth_is limit_is marks_are =
     let p = cursor m in
     let row = h.each n d k.fits in
     let live : is_some (slice_index_or j.rows n d).back ≡ true = row.live ∙ k.live in
@@ -209,6 +218,8 @@ went_down j new m aim n d h k flips cursor_is depth_is limit_is =
       place = cursor_is;
       deep = (let a = ap length long.1 in let l = length-append (path m.nodes (parent m.nodes n)) (long.0 ∷ []) in let q = h.deep in let u = ap (λ x. length (path m.nodes x)) k.up in omega arith);
       shows = f.arrives;
+      names = marks_are ∙ h.names;
+      whole = h.whole;
       way = way_down;
       each = subst R (sym f.rows) rows_are;
     }
@@ -221,7 +232,7 @@ went_down j new m aim n d h k flips cursor_is depth_is limit_is =
         of (inr e) = h.way x (ap (λ y. on_way m.nodes y x) (sym k.up) ∙ sym (way_same m.nodes n x h.tree k.some k.fits e.1) ∙ on)
 
 -- two walks with the same last descents are kept by the same rows
-pub aims_same : (j : Kept) (m : History) (aim other : List Move) → Aims j m aim → IsWalk m.nodes other → ((n : ℕ) → last_descent m.nodes other n ≡ last_descent m.nodes aim n) → Aims j m other
+pub aims_same : (j : Kept) (m : History) (aim other : List Move) → Aims j m aim → AreDescents m.nodes other → ((n : ℕ) → last_descent m.nodes other n ≡ last_descent m.nodes aim n) → Aims j m other
 aims_same j m aim other h walks same = record {
   limit = h.limit;
   tree = h.tree;
@@ -231,6 +242,8 @@ aims_same j m aim other h walks same = record {
   place = h.place;
   deep = h.deep;
   shows = h.shows;
+  names = h.names;
+  whole = h.whole;
   way = h.way;
   each = λ n d fits. (let row = h.each n d fits in record { up = row.up; last = row.last ∙ sym (same n); live = row.live; accepted = row.accepted; back = row.back });
 }
@@ -238,11 +251,11 @@ aims_same j m aim other h walks same = record {
 -- one move of an undo
 pub holds_up : (j : Kept) (m : History) → Aims j (up_once m) m.walk → Holds j (up_once m)
 unfolding up_once last_descent
-holds_up j m h = aims_same j (up_once m) m.walk (Up ∷ m.walk) h h.walk (λ n. refl)
+holds_up j m h = aims_same j (up_once m) m.walk (Up ∷ m.walk) h h.lasts (λ n. refl)
 
 -- one step of a redo
 pub holds_down : (j : Kept) (m : History) (n : ℕ) → IsChild m m.walk n → Aims j (down_to m n) m.walk → Holds j (down_to m n)
-holds_down j m n k h = aims_same j (down_to m n) m.walk (Down n ∷ m.walk) h h.walk (same_descents m.nodes m.walk n k.last)
+holds_down j m n k h = aims_same j (down_to m n) m.walk (Down n ∷ m.walk) h (k.some, k.fits, h.lasts) (same_descents m.nodes m.walk n k.last)
 
 pub child_by : (m : History) (n : ℕ) → child m ≡ Some n → if_alive m.nodes (last_descent m.nodes m.walk (cursor m)) ≡ Some n
 unfolding child

@@ -5,11 +5,13 @@ use Rattle.std.proofs.lemmas.List.Sums.{sum_by-cons}
 use Rattle.std.proofs.lemmas.Bool.Decides.{nat_tests}
 use Rattle.esx_plain.specs.Replay.{run}
 use Rattle.esx_plain.specs.Show.{shown}
-use Rattle.esx_plain.specs.History.{Node, Move, History, parent, alive, path, on_way, at, last_descent, IsTree, IsWalk, cursor, here, scene_or, if_alive, undone, undo, redone, redo, jumped, then_go}
+use Rattle.esx_plain.specs.Tree.{Node, Move, parent, alive, path, on_way, at, last_descent, IsTree, IsWalk}
+use Rattle.esx_plain.specs.History.{History, cursor, here, scene_or, if_alive, undone, undo, redone, redo, jumped, then_go}
 use Rattle.esx_journal.specs.Turns.{Turn, Undo, Redo, turned, back, forward, above, OnlyMoves, IsSamePlace, LeadsTo}
 use Rattle.esx_journal.proofs.Paths.{path_child, parent_fits, walk_ends}
 use Rattle.esx_journal.proofs.Moves.{Looked, redo_some}
-use Rattle.esx_journal.proofs.Back.{ups, at_ups, lasts_ups, walk_ups, path_above, above_parent, way_up, last_on_way, looks_back, gone_up, undo_is, here_up}
+use Rattle.esx_journal.specs.Ways.{ups}
+use Rattle.esx_journal.proofs.Back.{at_ups, lasts_ups, walk_ups, path_above, above_parent, way_up, last_on_way, looks_back, gone_up, undo_is, here_up}
 use Rattle.esx_journal.proofs.Down.{redo_is}
 
 -- the node to which the last descent from a node went

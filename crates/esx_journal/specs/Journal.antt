@@ -1,16 +1,19 @@
 -- What a journal keeps of a history.
-use Rattle.std.specs.Prelude.{◌≡◌, ◌≢◌, ℕ, ◌+◌, ◌^◌, ◌<◌, ◌≤◌, Bool, true, false, List, length, Option, Some, None, is_some, slice_index_or, Result, Ok, Err, IsOk}
+use Rattle.std.specs.Prelude.{◌≡◌, ◌≢◌, ℕ, ◌+◌, ◌^◌, ◌<◌, ◌≤◌, Bool, true, false, List, [], ◌∷◌, length, Option, Some, None, is_some, slice_index_or, Result, Ok, Err, IsOk}
 use Rattle.esx_types.specs.declared.config.Config.{Config}
 use Rattle.esx_types.specs.declared.event.Event.{Event}
 use Rattle.esx_types.specs.declared.event.Answer.{Answer}
 use Rattle.esx_types.specs.declared.event.Refusal.{Refusal}
 use Rattle.esx_types.specs.declared.event.Refusal.TheVariants.{OutOfMemory}
 use Rattle.esx_types.specs.declared.call.Stand.{Stand}
+use Rattle.esx_types.specs.declared.call.NameRow.{NameRow}
 use Rattle.esx_plain.specs.declared.scene.Scene.{Scene}
 use Rattle.esx_plain.specs.Show.{shown}
 use Rattle.esx_plain.specs.Replay.{run}
 use Rattle.esx_plain.specs.Sound.{IsSound}
-use Rattle.esx_plain.specs.History.{Move, History, parent, alive, path, on_way, last_descent, IsTree, IsWalk, cursor, here, scene_or, book_at}
+use Rattle.esx_plain.specs.Tree.{Node, Move, Up, Down, parent, alive, path, on_way, last_descent, IsTree, IsWalk}
+use Rattle.esx_plain.specs.History.{History, cursor, here, scene_or, book_at}
+use Rattle.esx_plain.specs.Branching.{stands}
 use Rattle.esx_machine.specs.Machine as machines
 use Rattle.esx_machine.specs.Changes.{Back}
 use Rattle.esx_machine.specs.Machine.{Trades}
@@ -22,6 +25,7 @@ pub record Kept : Type 0 where
   pub cursor : ℕ
   pub depth : ℕ
   pub nodes : ℕ
+  pub marks : List NameRow
 
 -- the machine after a path
 unfoldable pub kept_after : Config → List Event → machines.Kept
@@ -50,16 +54,24 @@ pub record IsRow (h : History) (aim : List Move) (c n : ℕ) (row : Row) : Type 
   pub accepted : IsAccepted h.config (path h.nodes n)
   pub back : (r : Back) → row.back ≡ Some r → Leads (on_way h.nodes c n) r (kept_after h.config (path h.nodes n)) (kept_after h.config (path h.nodes (parent h.nodes n)))
 
--- what is kept of a history, with the last children of a walk
+-- each move down goes to a node that was made
+abbrev pub AreDescents : List Node → List Move → Type 0
+AreDescents nodes [] = Unit {0}
+AreDescents nodes (Up ∷ moves) = AreDescents nodes moves
+AreDescents nodes (Down n ∷ moves) = (0 < n) × (n ≤ length nodes) × AreDescents nodes moves
+
+-- what is kept of a history, with the last children of some moves
 pub record Aims (j : Kept) (h : History) (aim : List Move) : Type 0 where
   pub limit : j.nodes ≡ h.config.nodes
   pub tree : IsTree h.nodes
   pub walk : IsWalk h.nodes h.walk
-  pub lasts : IsWalk h.nodes aim
+  pub lasts : AreDescents h.nodes aim
   pub size : length j.rows ≡ length h.nodes + 1
   pub place : j.cursor ≡ cursor h
   pub deep : j.depth ≡ length (here h)
   pub shows : j.machine ≡ kept_after h.config (here h)
+  pub names : j.marks ≡ h.marks
+  pub whole : (n : ℕ) → alive h.nodes n ≡ true → stands h (parent h.nodes n) ≡ true
   pub way : (n : ℕ) → on_way h.nodes (cursor h) n ≡ true → alive h.nodes n ≡ true
   pub each : (n : ℕ) (d : Row) → n ≤ length h.nodes → IsRow h aim (cursor h) n (slice_index_or j.rows n d)
 
@@ -67,10 +79,11 @@ pub record Aims (j : Kept) (h : History) (aim : List Move) : Type 0 where
 abbrev pub Holds : Kept → History → Type 0
 Holds j h = Aims j h h.walk
 
--- what every journal keeps
+-- what every journal keeps, also on its way to a node, when the last children already lead there
 pub record IsKept (j : Kept) : Type 0 where
   pub history : History
-  pub holds : Holds j history
+  pub aim : List Move
+  pub holds : Aims j history aim
   pub fits : length history.nodes ≤ j.nodes
   pub limit : j.nodes < 2 ^ 32
 
@@ -93,6 +106,51 @@ pub record Stays (old new : Kept) (e wanted : Refusal) (d : Option History) : Ty
 abbrev pub Moves : Refusal → Result Stand Refusal → Kept → Kept → Option History → Type 0
 Moves wanted (Ok s) old new d = Arrives new s d
 Moves wanted (Err e) old new d = Stays old new e wanted d
+
+-- What a goto or a visit may give, where d is what it makes of the history.
+pub record Went (new : Kept) (s : Stand) (d : Result History Refusal) : Type 0 where
+  pub after : History
+  pub gives : d ≡ Ok after
+  pub holds : Holds new after
+  pub stands : s ≡ stand_at after
+
+pub record Remains (old new : Kept) (e : Refusal) (d : Result History Refusal) : Type 0 where
+  pub same : new ≡ old
+  pub why : d ≡ Err e
+
+abbrev pub Goes : Result Stand Refusal → Kept → Kept → Result History Refusal → Type 0
+Goes (Ok s) old new d = Went new s d
+Goes (Err e) old new d = Remains old new e d
+
+-- What a mark may give: the node with the name. Memory runs out only where the mark would be accepted.
+pub record Marked (new : Kept) (n : ℕ) (d : Result History Refusal) : Type 0 where
+  pub after : History
+  pub gives : d ≡ Ok after
+  pub holds : Holds new after
+  pub node : n ≡ cursor after
+
+pub record Unmarked (old new : Kept) (e : Refusal) (d : Result History Refusal) : Type 0 where
+  pub same : new ≡ old
+  pub why : e ≢ OutOfMemory → d ≡ Err e
+  pub late : e ≡ OutOfMemory → IsOk d
+
+abbrev pub Names : Result ℕ Refusal → Kept → Kept → Result History Refusal → Type 0
+Names (Ok n) old new d = Marked new n d
+Names (Err e) old new d = Unmarked old new e d
+
+-- What a prune may give: how many nodes go.
+pub record Pruned (new : Kept) (count : ℕ) (d : Result (ℕ × History) Refusal) : Type 0 where
+  pub after : History
+  pub gives : d ≡ Ok (count, after)
+  pub holds : Holds new after
+
+pub record Unpruned (old new : Kept) (e : Refusal) (d : Result (ℕ × History) Refusal) : Type 0 where
+  pub same : new ≡ old
+  pub why : d ≡ Err e
+
+abbrev pub Prunes : Result ℕ Refusal → Kept → Kept → Result (ℕ × History) Refusal → Type 0
+Prunes (Ok count) old new d = Pruned new count d
+Prunes (Err e) old new d = Unpruned old new e d
 
 -- What an event may give, where d is what it makes of the history. Memory runs out only where the event would be accepted.
 pub record Accepted (new : Kept) (answers : Answer × Answer) (d : Result (Answer × History) Refusal) : Type 0 where

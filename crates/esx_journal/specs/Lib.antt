@@ -1,9 +1,16 @@
 pub mod Row
 pub mod Journal
+pub mod Marks
 pub mod Reached
 pub mod Turns
+pub mod Visits
+pub mod Ways
+pub mod Trial
 pub use Rattle.esx_types.specs.Ranges
+pub use Rattle.esx_plain.specs.Tree
 pub use Rattle.esx_plain.specs.History
+pub use Rattle.esx_plain.specs.Branching
+pub use Rattle.esx_plain.specs.WhatIf
 pub use Rattle.esx_plain.specs.Replay
 pub use Rattle.esx_plain.specs.Show
 pub use Rattle.esx_machine.specs.Changes

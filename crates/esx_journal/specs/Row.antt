@@ -1,8 +1,10 @@
 -- What the rows of a journal do.
-use Rattle.std.specs.Prelude.{◌≡◌, ℕ, ◌<◌, List, ◌++◌, ◌∷◌, [], length, Option, Some, None, is_some, slice_index_or, slice_set, if◌then◌else◌}
+use Rattle.std.specs.Prelude.{◌≡◌, ℕ, ◌+◌, ◌<◌, ◌≤◌, ◌==◌, ◌&&◌, ◌||◌, Bool, true, not, List, ◌++◌, ◌∷◌, [], length, Option, Some, None, is_some, slice_index_or, slice_set, if◌then◌else◌}
 use Rattle.esx_machine.specs.Machine as machines
 use Rattle.esx_machine.specs.Changes.{Back}
 use Rattle.esx_machine.specs.Machine.{Trades}
+use Rattle.esx_plain.specs.Tree.{Node, parent, alive, on_way, IsTree}
+use Rattle.esx_plain.specs.Branching.{standing_below}
 use Rattle.esx_journal.specs.declared.row.Row.{Row}
 
 -- the row of a new node
@@ -35,3 +37,26 @@ child_at rows at d = kept_child rows d (slice_index_or rows at d).last
 -- the rows with a new node under a place
 abbrev pub grown : List Row → ℕ → Back → Row → List Row
 grown rows at b d = slice_set (rows ++ row_of at b ∷ []) at (record (slice_index_or rows at d) { last = Some (length rows) })
+
+-- the rows tell the parents of nodes and which of them stand, and each stands under one that stands
+pub record AreNodes (rows : List Row) (nodes : List Node) : Type 0 where
+  pub tree : IsTree nodes
+  pub size : length rows ≡ length nodes + 1
+  pub up : (n : ℕ) (d : Row) → n ≤ length nodes → (slice_index_or rows n d).parent ≡ parent nodes n
+  pub live : (n : ℕ) (d : Row) → n ≤ length nodes → is_some (slice_index_or rows n d).back ≡ alive nodes n
+  pub whole : (n : ℕ) → alive nodes n ≡ true → ((parent nodes n == 0) || alive nodes (parent nodes n)) ≡ true
+
+-- a row without its record
+abbrev pub emptied : Row → Row
+emptied row = record row { back = None }
+
+-- the rows of a node and of all below it lost their records, which so many had
+pub record Drops (gone : ℕ) (old new : List Row) (nodes : List Node) (node : ℕ) : Type 0 where
+  pub size : length new ≡ length old
+  pub count : gone ≡ standing_below node nodes
+  pub each : (n : ℕ) (d : Row) → n ≤ length nodes → slice_index_or new n d ≡ (if on_way nodes n node then emptied (slice_index_or old n d) else slice_index_or old n d)
+
+-- it stands, and is the node or a child of one that does not
+abbrev pub is_gone : List Row → ℕ → ℕ → Row → Bool
+is_gone rows node at d = is_some (slice_index_or rows at d).back
+    && ((at == node) || (not ((slice_index_or rows at d).parent == 0) && not (is_some (slice_index_or rows (slice_index_or rows at d).parent d).back)))

@@ -2,7 +2,8 @@
 use Rattle.std.specs.Prelude.{◌≡◌, ℕ, zero, suc, ◌-◌, ◌++◌, List, [], ◌∷◌, length, take, Option, Some, true, Ok}
 use Rattle.esx_types.specs.declared.event.Event.{Event}
 use Rattle.esx_plain.specs.Replay.{replay_of}
-use Rattle.esx_plain.specs.History.{Node, History, parent, alive, on_way, last_descent, cursor, here, book_at, then_go, undo, redo}
+use Rattle.esx_plain.specs.Tree.{Node, parent, alive, on_way, last_descent}
+use Rattle.esx_plain.specs.History.{History, cursor, here, book_at, then_go, undo, redo}
 
 -- An undo or a redo of so many events.
 pub data Turn : Type 0 where

@@ -1,15 +1,21 @@
 //! The journal: one row for each node, at its number.
 
-ghost use Rattle.std.specs.Prelude.{◌≡◌, ◌≢◌, ◌<◌, ◌+◌, ℕ, IfOk, IfErr, is_some, Some, Ok};
+ghost use Rattle.std.specs.Prelude.{◌≡◌, ◌≢◌, ◌<◌, ◌≤◌, ◌+◌, ◌∷◌, ℕ, List, length, IfOk, IfErr, is_some, true, Some, Ok};
 ghost use Rattle.esx_types.specs.Ranges.{IsConfig};
 ghost use Rattle.esx_plain.specs.Replay.{replay_of};
-ghost use Rattle.esx_plain.specs.History.{History, here, up_once, down_to, child, redone, undo, redo, opened, do_event};
-ghost use Rattle.esx_journal.specs.Journal.{Holds, Moves, Does, stand_at, kept_at};
+ghost use Rattle.esx_plain.specs.Tree.{Move, Down, parent, last_descent};
+ghost use Rattle.esx_plain.specs.History.{History, cursor, here, up_once, down_to, if_alive, redone, undo, redo, opened, do_event};
+ghost use Rattle.esx_plain.specs.Branching.{stands, is_on_path, goto, visit, mark, prune};
+ghost use Rattle.esx_plain.specs.WhatIf.{what_if};
+ghost use Rattle.esx_journal.specs.Journal.{Aims, Holds, Moves, Goes, Names, Prunes, Does, stand_at, kept_at};
+ghost use Rattle.esx_journal.specs.Ways.{Climbed};
 
-use crate::row::{Row, add_child, child_of, flip_row, revert, take_room};
+use crate::marks::Marks;
+use crate::row::{Row, add_child, child_of, drop_below, flip_row, revert, take_room};
+use crate::trial::try_events;
 use esx_machine::Machine;
-use esx_types::{Answer, Config, Event, Refusal, Stand};
-use std::alloc::Global;
+use esx_types::{Answer, Bytes, Config, Event, Refusal, Rows, Sides, Stand};
+use std::alloc::{AllocError, Global};
 use std::marker::Model;
 
 /// A machine, the tree of its events and a cursor on it.
@@ -23,6 +29,7 @@ pub struct Journal {
     cursor: u32,
     depth: u32,
     nodes: u32,
+    marks: Marks,
 }
 
 impl Model for Journal {
@@ -30,9 +37,9 @@ impl Model for Journal {
 
     ghost Value = { Kept };
 
-    ghost view = { λ a. record { machine = a.machine; rows = a.rows.items; cursor = a.cursor; depth = a.depth; nodes = a.nodes } };
+    ghost view = { λ a. record { machine = a.machine; rows = a.rows.items; cursor = a.cursor; depth = a.depth; nodes = a.nodes; marks = a.marks } };
 
-    ghost invariant = { λ a. IsKept (record { machine = a.machine; rows = a.rows.items; cursor = a.cursor; depth = a.depth; nodes = a.nodes }) };
+    ghost invariant = { λ a. IsKept (record { machine = a.machine; rows = a.rows.items; cursor = a.cursor; depth = a.depth; nodes = a.nodes; marks = a.marks }) };
 }
 
 impl Journal {
@@ -56,6 +63,7 @@ impl Journal {
             cursor: 0,
             depth: 0,
             nodes: config.nodes,
+            marks: Marks::new(alloc),
         })
     }
 
@@ -103,10 +111,19 @@ impl Journal {
         }
     }
 
+    /// The names that were given to nodes, in order of making.
+    pub fn marks(&self) -> &Marks
+        ensures { (h : History) → Holds self.now h → result.now ≡ h.marks }
+    {
+        &self.marks
+    }
+
     fn step_up(&mut self)
         requires { 0 < self.old.depth }
         ensures depth { self.new.depth + 1 ≡ self.old.depth }
-        ensures holds { (h : History) → Holds self.old h → Holds self.new (up_once h) }
+        ensures size { length self.new.rows ≡ length self.old.rows }
+        ensures older { self.new.cursor < self.old.cursor }
+        ensures holds { (h : History) (aim : List Move) → Aims self.old h aim → Aims self.new (up_once h) aim }
     {
         let at = self.cursor as usize;
         flip_row(&mut self.machine, &mut self.rows, at);
@@ -128,7 +145,8 @@ impl Journal {
     }
 
     fn step_down(&mut self)
-        ensures { (h : History) (n : ℕ) → Holds self.old h → child h ≡ Some n → Holds self.new (down_to h n) }
+        ensures { (h : History) (aim : List Move) (n : ℕ) → Aims self.old h aim → if_alive h.nodes (last_descent h.nodes aim (cursor h)) ≡ Some n
+            → Aims self.new (down_to h n) aim }
     {
         if let Some(next) = child_of(&self.rows, self.cursor as usize) {
             flip_row(&mut self.machine, &mut self.rows, next as usize);
@@ -162,5 +180,128 @@ impl Journal {
             self.step_down();
         }
         Ok(self.stand())
+    }
+
+    fn stands(&self, node: u32) -> bool
+        ensures told { (h : History) (aim : List Move) → Aims self.now h aim → result ≡ stands h node }
+        ensures within { result ≡ true → node < length self.now.rows }
+    {
+        node == 0
+            || match self.rows.get(node as usize) {
+                Some(row) => row.back.is_some(),
+                None => false,
+            }
+    }
+
+    /// Makes a node the last child of its parent, which it answers.
+    fn aim_at(&mut self, node: u32) -> u32
+        requires some { 0 < node }
+        requires within { node < length self.old.rows }
+        ensures older { result < node }
+        ensures size { length self.new.rows ≡ length self.old.rows }
+        ensures place { self.new.cursor ≡ self.old.cursor }
+        ensures holds { (h : History) (aim : List Move) → Aims self.old h aim → (result ≡ parent h.nodes node) × Aims self.new h (Down node ∷ aim) }
+    {
+        let parent = self.rows[node as usize].parent;
+        self.rows[parent as usize].last = Some(node);
+        parent
+    }
+
+    /// Goes up to where the way to a node leaves the cursor's, and makes that way the one of the last
+    /// children. Answers how many nodes it still is to go down.
+    fn climb(&mut self, node: u32) -> u32
+        requires { node < length self.old.rows }
+        ensures { (h : History) → Holds self.old h → Climbed h node self.new result }
+    {
+        let mut at = node;
+        let mut down = 0;
+        'climb: while self.cursor != at {
+            if self.cursor > at {
+                self.step_up();
+            } else {
+                at = self.aim_at(at);
+                down += 1;
+            }
+        }
+        down
+    }
+
+    /// Goes to a node the shortest way. `NoSuchNode` where it was never made or was pruned; then nothing
+    /// moves. It crosses only the nodes between here and there.
+    pub fn goto(&mut self, node: u32) -> Result<Stand, Refusal>
+        ensures { (h : History) → Holds self.old h → Goes result self.old self.new (goto node h) }
+    {
+        if !self.stands(node) {
+            return Err(Refusal::NoSuchNode);
+        }
+        let down = self.climb(node);
+        'descend: for _gone in 0..down {
+            self.step_down();
+        }
+        Ok(self.stand())
+    }
+
+    /// Goes to the node that has a name, as `goto`. `NoSuchName` where no node was given it.
+    pub fn visit(&mut self, name: &[u8]) -> Result<Stand, Refusal>
+        ensures { (h : History) → Holds self.old h → Goes result self.old self.new (visit name.now h) }
+    {
+        match self.marks.node_of(name) {
+            Some(node) => self.goto(node),
+            None => Err(Refusal::NoSuchName),
+        }
+    }
+
+    /// Gives the cursor's node a name, and answers the node. `NameTaken` where the name was given, also
+    /// to a node that was pruned since.
+    pub fn mark(&mut self, name: Bytes) -> Result<u32, Refusal>
+        ensures { (h : History) → Holds self.old h → Names result self.old self.new (mark name h) }
+    {
+        if self.marks.node_of(name.as_slice()).is_some() {
+            return Err(Refusal::NameTaken);
+        }
+        self.marks.add(name, self.cursor)?;
+        Ok(self.cursor)
+    }
+
+    fn is_on_path(&self, node: u32) -> bool
+        ensures { (h : History) (aim : List Move) → Aims self.now h aim → result ≡ is_on_path h node }
+    {
+        let mut at = self.cursor;
+        'climb: while at > node {
+            at = self.rows[at as usize].parent;
+        }
+        at == node
+    }
+
+    /// Drops a node and all below it, and answers how many there were. `NoSuchNode` where it was never
+    /// made or was pruned, `OnPath` where the cursor stands on it or below it. Their numbers are not used again.
+    pub fn prune(&mut self, node: u32) -> Result<u32, Refusal>
+        ensures { (h : History) → Holds self.old h → Prunes result self.old self.new (prune node h) }
+    {
+        if !self.stands(node) {
+            return Err(Refusal::NoSuchNode);
+        }
+        if self.is_on_path(node) {
+            return Err(Refusal::OnPath);
+        }
+        Ok(drop_below(&mut self.rows, node))
+    }
+
+    /// What would come of events at the cursor: they are tried in order up to the first that is refused,
+    /// and all of them are taken back.
+    pub fn what_if(&mut self, events: &[Event]) -> Result<Sides, AllocError>
+        requires { length events.now ≤ 64 }
+        ensures same { self.new ≡ self.old }
+        ensures sides { (h : History) → Holds self.old h → IfOk result (λ sides. sides ≡ what_if events.now h) }
+    {
+        let before = self.machine.sum();
+        let mut replies = Vec::new(*self.rows.allocator());
+        let after = try_events(&mut self.machine, events, 0, &mut replies)?;
+        Ok(Sides {
+            given: events.len() as u32,
+            before,
+            replies: Rows::from_vec(replies),
+            after,
+        })
     }
 }

@@ -1,14 +1,18 @@
-//! Laws of the histories that events, undos and redos lead to. A function here does nothing: its
+//! Laws of the histories that events, moves, names and prunes lead to. A function here does nothing: its
 //! contract is the law.
 
-ghost use Rattle.std.specs.Prelude.{◌≡◌, ◌<◌, ◌≤◌, ◌+◌, ◌++◌, ◌∷◌, [], ℕ, List, length, sum_by, Some, None, Ok, true};
+ghost use Rattle.std.specs.Prelude.{◌≡◌, ◌<◌, ◌≤◌, ◌+◌, ◌++◌, ◌∷◌, [], ℕ, List, length, sum_by, Some, None, Ok, Err, IfOk, IsOk, true, false};
 ghost use Rattle.esx_types.specs.declared.config.Config.{Config};
 ghost use Rattle.esx_types.specs.declared.event.Event.{Event};
 ghost use Rattle.esx_plain.specs.Replay.{run, replay_of};
-ghost use Rattle.esx_plain.specs.History.{History, alive, on_way, cursor, here, done, undo, redo, scene_at};
+ghost use Rattle.esx_plain.specs.Tree.{alive, on_way};
+ghost use Rattle.esx_plain.specs.History.{History, cursor, here, done, undo, redo, scene_at};
+ghost use Rattle.esx_types.specs.declared.event.Refusal.TheVariants.{NoSuchNode, NameTaken, NoSuchName};
+ghost use Rattle.esx_plain.specs.Branching.{stands, goto, visit, mark, prune};
 ghost use Rattle.esx_journal.specs.Journal.{Holds};
 ghost use Rattle.esx_journal.specs.Reached.{IsReached};
 ghost use Rattle.esx_journal.specs.Turns.{Turn, turned, back, forward, OnlyMoves, IsSamePlace, Shortens, Lengthens, LeadsTo};
+ghost use Rattle.esx_journal.specs.Visits.{Visits, TakesOff};
 
 use crate::journal::Journal;
 
@@ -85,4 +89,27 @@ pub fn event_drops_undone()
 pub fn reached_path_runs()
     ensures site { (c : Config) (h : History) → IsReached c h → h.config ≡ c }
     ensures scene { (c : Config) (h : History) → IsReached c h → run c (here h) ≡ Ok (scene_at h) }
+{}
+
+/// Where a node stands a goto is accepted, and leads there by the fewest moves; elsewhere it is refused.
+pub fn goto_leads_there()
+    ensures accepted { (c : Config) (h : History) (node : ℕ) → IsReached c h → stands h node ≡ true → IfOk (goto node h) (λ after. Visits h after node) }
+    ensures refused { (h : History) (node : ℕ) → stands h node ≡ false → goto node h ≡ Err NoSuchNode }
+{}
+
+/// A visit is a goto to the node that was named first; where no node was named so, it is refused.
+pub fn visit_is_a_goto()
+    ensures named { (h after : History) (name : List ℕ) → mark name h ≡ Ok after → visit name after ≡ goto (cursor h) after }
+    ensures unnamed { (h : History) (name : List ℕ) → visit name h ≡ Err NoSuchName → IsOk (mark name h) }
+{}
+
+/// A name that was given is refused from then on, also where its node was pruned.
+pub fn names_stay_taken()
+    ensures given { (h after : History) (name : List ℕ) → mark name h ≡ Ok after → mark name after ≡ Err NameTaken }
+    ensures pruned { (h after : History) (node count : ℕ) → prune node h ≡ Ok (count, after) → after.marks ≡ h.marks }
+{}
+
+/// A prune drops a node and all below it, and nothing else: paths, tables, names and numbers stay.
+pub fn prune_takes_off()
+    ensures { (h after : History) (node count : ℕ) → prune node h ≡ Ok (count, after) → TakesOff h after node count }
 {}

@@ -1,17 +1,22 @@
 //! A journal over the machine: the tree of the accepted events, and a cursor that goes back and forth
-//! on it. Each move costs one record for each event that it crosses, and no memory.
+//! on it. Each move costs one record for each event that it crosses, and no memory. Nodes have names,
+//! branches are pruned, and events are tried without being made.
 #![tactic(auto)]
 
 pub mod journal;
 pub mod laws;
+pub mod marks;
 mod row;
+mod trial;
 
 pub use journal::Journal;
+pub use marks::Marks;
 
 #[cfg(test)]
 mod tests {
     use crate::Journal;
-    use esx_types::{Answer, Config, Event, VmId, VmSpec};
+    use esx_types::{Answer, Bytes, Config, Event, Refusal, Stand, VmId, VmSpec};
+    use std::alloc::Global;
     use std::test::Fail;
 
     const SITE: Config = Config {
@@ -26,18 +31,26 @@ mod tests {
         nodes: 16777216,
     };
 
+    const SPEC: VmSpec = VmSpec {
+        min: 2,
+        max: 6,
+        overhead: 1,
+        shares: 1000,
+        balloon_max: 0,
+    };
+
+    fn started(alloc: Global, vm: VmId) -> Result<Journal, Refusal> {
+        let mut journal = Journal::open(alloc, SITE)?;
+        journal.apply(&Event::Admit { vm, spec: SPEC })?;
+        journal.apply(&Event::Start { vm })?;
+        Ok(journal)
+    }
+
     #[test]
     fn applies_with_ample_memory(rt: HostRuntime) -> Result<(), Fail> {
         let vm = VmId::new(0).ok_or("vm")?;
-        let spec = VmSpec {
-            min: 2,
-            max: 6,
-            overhead: 1,
-            shares: 1000,
-            balloon_max: 0,
-        };
         let mut journal = Journal::open(rt.alloc(), SITE)?;
-        let (answer, _) = journal.apply(&Event::Admit { vm, spec })?;
+        let (answer, _) = journal.apply(&Event::Admit { vm, spec: SPEC })?;
         assert!(rt;
             matches!(
                 &answer,
@@ -49,6 +62,42 @@ mod tests {
                 }
             )
         );
+        Ok(())
+    }
+
+    #[test]
+    fn goes_between_branches(rt: HostRuntime) -> Result<(), Fail> {
+        let vm = VmId::new(0).ok_or("vm")?;
+        let mut journal = started(rt.alloc(), vm)?;
+        journal.undo(2)?;
+        journal.apply(&Event::Admit { vm, spec: SPEC })?;
+        let there = journal.goto(2)?;
+        let gone = journal.prune(3)?;
+        assert!(rt; there == Stand { node: 2, depth: 2 });
+        assert!(rt; gone == 1);
+        Ok(())
+    }
+
+    #[test]
+    fn names_a_node(rt: HostRuntime) -> Result<(), Fail> {
+        let vm = VmId::new(0).ok_or("vm")?;
+        let mut journal = started(rt.alloc(), vm)?;
+        let node = journal.mark(Bytes::copy_of(rt.alloc(), b"tip")?)?;
+        journal.undo(2)?;
+        let there = journal.visit(b"tip")?;
+        assert!(rt; node == 2);
+        assert!(rt; there == Stand { node: 2, depth: 2 });
+        assert!(rt; journal.marks().len() == 1);
+        Ok(())
+    }
+
+    #[test]
+    fn tries_and_takes_back(rt: HostRuntime) -> Result<(), Fail> {
+        let vm = VmId::new(0).ok_or("vm")?;
+        let mut journal = started(rt.alloc(), vm)?;
+        let sides = journal.what_if(&[Event::Start { vm }])?;
+        assert!(rt; sides.given == 1);
+        assert!(rt; sides.replies.len() == 1);
         Ok(())
     }
 }

@@ -1,11 +1,12 @@
 //! What is kept of each node.
 
-ghost use Rattle.std.specs.Prelude.{◌≡◌, ◌<◌, OnOk, IfOk, Some, length, slice_index_or, vec_len, vec_capacity};
+ghost use Rattle.std.specs.Prelude.{◌≡◌, ◌<◌, ◌≤◌, ◌^◌, OnOk, IfOk, Some, List, length, slice_index_or, slice_set, vec_len, vec_capacity};
+ghost use Rattle.esx_plain.specs.Tree.{Node};
 ghost use Rattle.esx_machine.specs.Changes.{Back};
 ghost use Rattle.esx_machine.specs.Machine.{Trades};
 ghost use Rattle.esx_machine.specs.Machine as machines;
 ghost use Rattle.esx_journal.specs.declared.row.Row.{Row};
-ghost use Rattle.esx_journal.specs.Row.{FlipsAt, Flipped, LastsFit, child_at, grown};
+ghost use Rattle.esx_journal.specs.Row.{FlipsAt, Flipped, LastsFit, child_at, grown, AreNodes, Drops, emptied, is_gone};
 
 use esx_machine::{Machine, Record};
 use esx_types::Answer;
@@ -82,4 +83,41 @@ pub fn add_child(rows: &mut Vec<Row>, at: u32, child: u32, back: Record)
     };
     rows.push(row).unwrap();
     rows[at as usize].last = Some(child);
+}
+
+/// Drops the records of a node and of all that stand below it, and answers how many. It looks at each
+/// row from the node's on once.
+pub fn drop_below(rows: &mut Vec<Row>, node: u32) -> u32
+    requires nodes { (nodes : List Node) × AreNodes rows.old.items nodes }
+    requires some { 0 < node }
+    requires inside { node < length rows.old.items }
+    requires small { length rows.old.items ≤ 2 ^ 32 }
+    ensures { (nodes : List Node) → AreNodes rows.old.items nodes → Drops result rows.old.items rows.new.items nodes node }
+{
+    let mut gone = 0;
+    'drop: for at in node as usize..rows.len() {
+        if goes(rows, node, at) {
+            drop_record(rows, at);
+            gone += 1;
+        }
+    }
+    gone
+}
+
+/// Does a node stand that is the one to be dropped, or whose parent was dropped?
+fn goes(rows: &[Row], node: u32, at: usize) -> bool
+    requires inside { at < length rows.now }
+    requires parent { (d : Row) → (slice_index_or rows.now at d).parent < length rows.now }
+    ensures { (d : Row) → result ≡ is_gone rows.now node at d }
+{
+    let row = &rows[at];
+    row.back.is_some()
+        && (at == node as usize || (row.parent != 0 && rows[row.parent as usize].back.is_none()))
+}
+
+fn drop_record(rows: &mut Vec<Row>, at: usize)
+    requires { at < length rows.old.items }
+    ensures { (d : Row) → rows.new.items ≡ slice_set rows.old.items at (emptied (slice_index_or rows.old.items at d)) }
+{
+    rows[at].back = None;
 }

@@ -1,12 +1,17 @@
 pub mod Arenas
+pub mod Chained
 pub mod Counts
+pub mod Found
 pub mod Heads
 pub mod Lists
 pub mod Moved
+pub mod Ordered
 pub mod Picked
 pub mod Puts
+pub mod Rows
 pub mod Shifts
 pub mod Starts
 pub mod Tables
 pub mod Takes
+pub mod Walked
 pub mod Walks

@@ -1,5 +1,9 @@
 pub mod Arena
+pub mod Chains
+pub mod Index
 pub mod Kinds
 pub mod Links
+pub use Rattle.esx_types.specs.Listings
 pub mod Table
 pub use Rattle.esx_formulas.specs.Key
+pub use Rattle.esx_lists.specs.Trades

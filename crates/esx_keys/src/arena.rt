@@ -66,7 +66,7 @@ pub(crate) fn empty_chains(alloc: Global, heads: usize, room: u32) -> Result<Vec
 }
 
 /// The head of a key.
-fn head_of(key: u64, heads: usize) -> usize
+pub(crate) fn head_of(key: u64, heads: usize) -> usize
     requires { IsPowerOfTwo heads }
     ensures { result ≡ key % heads }
 {

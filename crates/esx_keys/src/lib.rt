@@ -1,13 +1,18 @@
-//! The table of shared frames and hints under content keys, from Waldspurger's section on content-based
-//! page sharing.
+//! Shared frames and hints under content keys, from Waldspurger's section on content-based page sharing:
+//! `Listings` by frame, with an index by key, and `Keys` by key alone.
 #![tactic(auto)]
 
 mod arena;
 mod entry;
+mod index;
+pub mod laws;
+mod listings;
+mod order;
 mod table;
 #[cfg(test)]
 mod tests;
 
 pub use entry::{Entry, Kind};
 pub use esx_formulas::content_key as key;
+pub use listings::Listings;
 pub use table::Keys;

@@ -1,5 +1,5 @@
-use crate::{Entry, Keys, Kind, key};
-use esx_types::VmId;
+use crate::{Entry, Keys, Kind, Listings, key};
+use esx_types::{Hint, KeyRow, Listing, VmId};
 use std::test::Fail;
 
 #[test]
@@ -48,5 +48,82 @@ fn a_key_leads_to_a_frame_and_a_page(rt: HostRuntime) -> Result<(), Fail> {
     );
     assert_eq!(rt; keys.shared(7), None);
     assert_eq!(rt; keys.hint(7), Some((vm, 6)));
+    Ok(())
+}
+
+#[test]
+fn the_least_frame_under_a_key_is_found(rt: HostRuntime) -> Result<(), Fail> {
+    let vm = VmId::new(3).expect(&rt, "a machine has number 3");
+    let mut listings = Listings::new(rt.alloc(), 4)?;
+    let mut hint = Listing::Hinted {
+        vm,
+        page: 9,
+        key: 5,
+    };
+    for frame in [3, 1, 2] {
+        listings.trade(frame, &mut Listing::Shared { key: 5 });
+    }
+    assert_eq!(rt; listings.shared_under(5), Some(1));
+    listings.trade(1, &mut hint);
+    assert_eq!(rt; hint, Listing::Shared { key: 5 });
+    assert_eq!(rt; listings.shared_under(5), Some(2));
+    assert_eq!(rt; listings.hinted_under(5), Some(1));
+    assert_eq!(rt; listings.hinted_under(9), None);
+    listings.trade(4, &mut hint);
+    assert_eq!(rt; hint, Listing::Shared { key: 5 });
+    listings.trade(1, &mut hint);
+    assert_eq!(rt; listings.shared_under(5), Some(1));
+    assert_eq!(rt; listings.get(0), Listing::Unlisted);
+    Ok(())
+}
+
+#[test]
+fn what_stands_is_read_in_order_of_key(rt: HostRuntime) -> Result<(), Fail> {
+    let vm = VmId::new(3).expect(&rt, "a machine has number 3");
+    let mut listings = Listings::new(rt.alloc(), 6)?;
+    listings.trade(0, &mut Listing::Shared { key: 8 });
+    listings.trade(2, &mut Listing::Shared { key: 7 });
+    listings.trade(5, &mut Listing::Shared { key: 7 });
+    listings.trade(
+        3,
+        &mut Listing::Hinted {
+            vm,
+            page: 1,
+            key: 9,
+        },
+    );
+    listings.trade(
+        4,
+        &mut Listing::Hinted {
+            vm,
+            page: 0,
+            key: 2,
+        },
+    );
+    assert_eq!(rt;
+        listings.shared(rt.alloc())?.as_slice(),
+        [
+            KeyRow { key: 7, frame: 2 },
+            KeyRow { key: 7, frame: 5 },
+            KeyRow { key: 8, frame: 0 }
+        ]
+        .as_slice()
+    );
+    assert_eq!(rt;
+        listings.hints(rt.alloc())?.as_slice(),
+        [
+            Hint {
+                key: 2,
+                vm,
+                page: 0
+            },
+            Hint {
+                key: 9,
+                vm,
+                page: 1
+            }
+        ]
+        .as_slice()
+    );
     Ok(())
 }

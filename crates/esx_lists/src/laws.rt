@@ -1,7 +1,7 @@
 //! Laws of trades. A function here does nothing: its contract is the law.
 
 ghost use Rattle.std.specs.Prelude.{◌≡◌, ◌≢◌, ℕ, List};
-ghost use Rattle.esx_lists.specs.Trades.{LeadsBack, row_traded, place_traded, part_traded, in_turn};
+ghost use Rattle.esx_lists.specs.Trades.{LeadsBack, row_traded, place_traded, part_traded, top_traded, place_turned, in_turn};
 
 /// A row that is traded at a place and traded back leaves list and row as they were.
 #[tactic(auto, using(crate::proofs::Trades::row_back))]
@@ -20,6 +20,19 @@ pub fn place_there_and_back<T, U>()
 #[tactic(auto, using(crate::proofs::Trades::part_back))]
 pub fn part_there_and_back<T>()
     ensures { (at : ℕ) → LeadsBack (λ (old new : List T). part_traded old at new) }
+{}
+
+/// An item that goes onto the end of a list and comes off again, or the other way round, leaves the list as it was.
+#[tactic(auto, using(crate::proofs::Tops::top_back))]
+pub fn top_there_and_back<T>()
+    ensures { (room : ℕ) (d : T) → LeadsBack (top_traded room d) }
+{}
+
+/// A turn that is its own inverse leaves the list as it was, made twice at a place.
+#[tactic(auto, using(crate::proofs::Tops::turned_back))]
+pub fn turn_there_and_back<T>()
+    ensures { (turn : T → T) (at : ℕ) (d : T) → ((x : T) → turn (turn x) ≡ x)
+        → (rows : List T) → place_turned turn (place_turned turn rows at d) at d ≡ rows }
 {}
 
 /// Trades at two places give the same list and the same rows in either order.

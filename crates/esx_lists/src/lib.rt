@@ -4,4 +4,4 @@
 mod kept;
 pub mod laws;
 
-pub use kept::moved;
+pub use kept::recount;

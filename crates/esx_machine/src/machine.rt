@@ -47,11 +47,11 @@ impl Model for Record {
 }
 
 impl Machine {
-    ghost use Rattle.std.specs.Prelude.{◌≡◌, ◌≢◌, ◌+◌, IfOk, IfErr};
+    ghost use Rattle.std.specs.Prelude.{◌≡◌, ◌≢◌, ◌+◌, count_by, IfOk, IfErr};
     ghost use Rattle.esx_types.specs.Ranges.{IsConfig};
     ghost use Rattle.esx_plain.specs.declared.scene.Scene.{Scene};
     ghost use Rattle.esx_plain.specs.Site.{free_count};
-    ghost use Rattle.esx_plain.specs.Readings.{sum_of, page_state};
+    ghost use Rattle.esx_plain.specs.Readings.{is_free, sum_of, page_state};
     ghost use Rattle.esx_plain.specs.Replay.{next, opening};
     ghost use Rattle.esx_machine.specs.Machine.{Kept, Shows, Trades, turned, Applies, page_answer};
 
@@ -103,7 +103,8 @@ impl Machine {
 
     /// How many frames are free.
     pub fn free(&self) -> u32
-        ensures { (scene : Scene) → Shows self.now scene → result ≡ free_count self.now.config.frames scene.site }
+        ensures rows { result ≡ count_by is_free self.now.book.frames }
+        ensures shown { (scene : Scene) → Shows self.now scene → result ≡ free_count self.now.config.frames scene.site }
     {
         self.tables.free()
     }

@@ -10,19 +10,20 @@ use Rattle.esx_types.specs.declared.level.Level.{Level}
 use Rattle.esx_types.specs.declared.table.FrameRow.{FrameRow}
 use Rattle.esx_types.specs.declared.table.FrameRow.TheVariants as frames
 use Rattle.esx_types.specs.declared.table.MapRow.{MapRow}
-use Rattle.esx_model.specs.declared.scene.Hint.{Hint}
+use Rattle.esx_types.specs.declared.table.Hint.{Hint}
 use Rattle.esx_model.specs.declared.scene.Place.{Place}
 use Rattle.esx_model.specs.declared.scene.Place.TheVariants.{Untouched, Here, Out, Lent}
 use Rattle.esx_model.specs.declared.scene.Vm.{Vm}
 use Rattle.esx_model.specs.declared.scene.Site.{Site}
 use Rattle.esx_model.specs.declared.book.VmRow.{VmRow}
-use Rattle.esx_model.specs.declared.book.KeyRow.{KeyRow}
-use Rattle.esx_model.specs.declared.tables.Listing.{Listing}
+use Rattle.esx_types.specs.declared.table.KeyRow.{KeyRow}
+use Rattle.esx_types.specs.declared.table.Listing.{Listing}
 use Rattle.esx_model.specs.Places.{is_here_at, is_private}
 use Rattle.esx_model.specs.Site.{vm_at, place_at, place_in, place_of, all_places, all_overhead}
 use Rattle.esx_model.specs.Hints.{in_order}
 use Rattle.esx_model.specs.Show.{pages_in, frame_row, frame_rows, map_row, vm_row, shared_from, shared_rows, book_of, with_key}
-use Rattle.esx_model.specs.Tables.{raw_place, filled, vm_table, is_hint_in, listing_by, listing_row, listing_rows, tables_of, read_place, read_vm, read_hints, read_keys, book_from}
+use Rattle.esx_types.specs.Listings as listed
+use Rattle.esx_model.specs.Tables.{raw_place, vm_table, is_hint_in, listing_by, listing_row, listing_rows, tables_of, read_place, read_vm, read_hints, read_keys, book_from}
 use Rattle.esx_model.specs.sound.Hints.{AreOrdered}
 use Rattle.esx_model.specs.sound.Sound.{IsSound}
 use Rattle.esx_model.proofs.Lists.{chosen, find_passes, find_in, all_middle, one, some_below}
@@ -46,13 +47,8 @@ places_read : (e : ℕ) (ps : List Place) → map (read_place e) (map raw_place 
 places_read e [] = refl
 places_read e (p ∷ ps) = ap (λ r. r ∷ map (read_place e) (map raw_place ps)) (place_read e p) ∙ ap (λ (rs : List MapRow). map_row e p ∷ rs) (places_read e ps)
 
-held_read : (xs ys : List ℕ) → take (length xs) (xs ++ ys) ≡ xs
-held_read xs ys = grind (arith, common_steps)
-
 vm_read : (v : Vm) → read_vm (vm_table v) ≡ vm_row v
-vm_read v =
-    ap (λ (xs : List ℕ). record (read_vm (vm_table v)) { overhead = xs }) (held_read v.overhead (replicate (v.spec.overhead - length v.overhead) 0))
-    ∙ ap (λ (rs : List MapRow). record (vm_row v) { pages = rs }) (places_read v.epoch v.places)
+vm_read v = ap (λ (rs : List MapRow). record (vm_row v) { pages = rs }) (places_read v.epoch v.places)
 
 vms_read : (vms : List (Option Vm)) → map (option_map read_vm) (map (option_map vm_table) vms) ≡ map (option_map vm_row) vms
 vms_read [] = refl
@@ -61,22 +57,25 @@ vms_read (Some v ∷ os) = ap (λ r. Some r ∷ map (option_map read_vm) (map (o
 
 -- Shared frames.
 
-key_read : (a : ℕ) (r : FrameRow) (o : Option Hint) (ls : List Listing) (rs : List FrameRow) → read_keys (a + 1) ls ≡ shared_from (a + 1) rs → read_keys a (listing_by r o ∷ ls) ≡ shared_from a (r ∷ rs)
-unfolding read_keys
+abbrev by_key : KeyRow → ℕ
+by_key row = row.key
+
+key_read : (a : ℕ) (r : FrameRow) (o : Option Hint) (ls : List Listing) (rs : List FrameRow) → listed.in_order by_key (listed.shared_from (a + 1) ls) ≡ shared_from (a + 1) rs
+    → listed.in_order by_key (listed.shared_from a (listing_by r o ∷ ls)) ≡ shared_from a (r ∷ rs)
 key_read a frames.Free o ls rs rest = rest
 key_read a frames.Overhead o ls rs rest = rest
 key_read a (frames.Private bytes) None ls rs rest = rest
 key_read a (frames.Private bytes) (Some h) ls rs rest = rest
 key_read a (frames.Shared count bytes) o ls rs rest = ap (with_key (record { key = content_key bytes; frame = a })) rest
 
-keys_read : (s : Site) (a k : ℕ) → read_keys a (map (listing_row s) (range_with_len a k)) ≡ shared_from a (map (frame_row s) (range_with_len a k))
-unfolding read_keys
+keys_read : (s : Site) (a k : ℕ) → listed.in_order by_key (listed.shared_from a (map (listing_row s) (range_with_len a k))) ≡ shared_from a (map (frame_row s) (range_with_len a k))
 keys_read s a zero = refl
 keys_read s a (suc k) =
     let ls = map (listing_row s) (range_with_len (a + 1) k) in
-    ap (λ l. read_keys a (l ∷ ls)) (listing_is s a) ∙ key_read a (frame_row s a) (find (is_hint_in s a) s.hints) ls (map (frame_row s) (range_with_len (a + 1) k)) (keys_read s (a + 1) k)
+    ap (λ l. listed.in_order by_key (listed.shared_from a (l ∷ ls))) (listing_is s a)
+    ∙ key_read a (frame_row s a) (find (is_hint_in s a) s.hints) ls (map (frame_row s) (range_with_len (a + 1) k)) (keys_read s (a + 1) k)
 
-shared_read : (s : Site) (n : ℕ) → read_keys 0 (listing_rows n s) ≡ shared_rows (frame_rows n s)
+shared_read : (s : Site) (n : ℕ) → read_keys (listing_rows n s) ≡ shared_rows (frame_rows n s)
 unfolding shared_rows
 shared_read s n = keys_read s 0 n
 
@@ -176,7 +175,6 @@ abbrev hint_at : Site → ℕ → Option Hint
 hint_at s f = the_hint (frame_row s f) (find (is_hint_in s f) s.hints)
 
 hint_read : (r : FrameRow) (o : Option Hint) (ls : List Listing) → read_hints (listing_by r o ∷ ls) ≡ with_some (the_hint r o) (read_hints ls)
-unfolding read_hints
 hint_read frames.Free o ls = refl
 hint_read frames.Overhead o ls = refl
 hint_read (frames.Private bytes) None ls = refl
@@ -252,7 +250,6 @@ from_some s a (Some g) xs h is rest mem = elim (ordered_mem g h xs mem) [
 ]
 
 read_from : (s : Site) (a k : ℕ) (h : Hint) → Mem h (read_hints (map (listing_row s) (range_with_len a k))) → IsFrom s a h
-unfolding read_hints
 read_from s a zero h mem = absurd mem
 read_from s a (suc k) h mem =
     let P : List Hint → Type 0 = Mem h in
@@ -295,7 +292,6 @@ ordered_some c s a (Some g) xs sound is order from =
       omega (arith, one, low))))
 
 read_ordered : (c : Config) (s : Site) (a k : ℕ) → IsSound c s → AreOrdered (read_hints (map (listing_row s) (range_with_len a k)))
-unfolding read_hints
 read_ordered c s a zero sound = tt
 read_ordered c s a (suc k) sound =
     let P : List Hint → Type 0 = AreOrdered in
@@ -320,5 +316,5 @@ hints_read c s sound =
 pub book_read : (c : Config) (s : Site) (level : Level) → IsSound c s → book_from (tables_of c s) level ≡ book_of c s level
 book_read c s level sound =
     ap (λ xs. record (book_from (tables_of c s) level) { vms = xs }) (vms_read s.vms)
-    ∙ ap (λ xs. record (book_of c s level) { hints = xs; shared = read_keys 0 (listing_rows c.frames s) }) (hints_read c s sound)
+    ∙ ap (λ xs. record (book_of c s level) { hints = xs; shared = read_keys (listing_rows c.frames s) }) (hints_read c s sound)
     ∙ ap (λ xs. record (book_of c s level) { shared = xs }) (shared_read s c.frames)

@@ -1,10 +1,10 @@
 -- What the reserves give: a slot for each page that has to go out, and a site without a free frame in which each machine has its least.
 use Rattle.std.proofs.Common.{zero, suc, ◌≡◌, ℕ, ◌+◌, ◌-◌, ◌<◌, ◌≤◌, Bool, false, true, not, List, [], ◌∷◌, length, get_or, count_by, sum_by, refl, sym, ap, ◌∙◌, arith, cond, Option, Some, None, inl, inr, ◌==◌, ◌%◌}
-use Rattle.std.specs.List.{list_any, find, range_with_len}
-use Rattle.std.proofs.lemmas.List.Sums.{sum_by-cons}
+use Rattle.std.specs.List.{list_any, range_with_len}
+use Rattle.std.proofs.lemmas.List.Sums.{sum_by-cons, sum_by-le-sum_by}
 use Rattle.std.proofs.lemmas.Bool.Decides.{nat_tests}
 use Rattle.std.proofs.lemmas.Option.{slice_get-get_or}
-use Rattle.std.proofs.lemmas.Bool.{cases_eq, cases_lt}
+use Rattle.std.proofs.lemmas.Bool.{cases_lt}
 use Rattle.esx_types.specs.declared.config.Config.{Config}
 use Rattle.esx_model.specs.declared.scene.Place.{Place}
 use Rattle.esx_model.specs.declared.scene.Place.TheVariants.{Untouched, Here, Out, Lent}
@@ -17,64 +17,11 @@ use Rattle.esx_model.specs.event.Paging.{is_above_min, victim}
 use Rattle.esx_model.specs.Laws.{IsFull}
 use Rattle.esx_model.specs.sound.Machines.{IsVm}
 use Rattle.esx_model.specs.sound.Sound.{IsSound}
-use Rattle.esx_model.proofs.Lists.{one, chosen, either, or_false}
+use Rattle.esx_model.proofs.Lists.{one, either, or_false}
+use Rattle.esx_model.proofs.Counted.{sum_plus, sum_none, covered, hits_once, listed_once, counted_any, sum_any, range_least, range_more, none_of_range, none_found}
+use Rattle.esx_model.proofs.Gates.{not_not}
 use Rattle.esx_model.proofs.Rooms.{pages_at_is}
 use Rattle.esx_model.proofs.event.Leaving.{held_most}
-
--- Sums over a list of sums.
-
-sum_same : {X : Type 0} (f g : X → ℕ) (xs : List X) → ((x : X) → f x ≡ g x) → sum_by f xs ≡ sum_by g xs
-sum_same f g [] same = refl
-sum_same f g (x ∷ xs) same = (let a = sum_by-cons f x xs in let b = sum_by-cons g x xs in let e = same x in let rest = sum_same f g xs same in omega (arith, a, b, e, rest))
-
-sum_plus : {X : Type 0} (f g : X → ℕ) (xs : List X) → sum_by (λ x. f x + g x) xs ≡ sum_by f xs + sum_by g xs
-sum_plus f g [] = refl
-sum_plus f g (x ∷ xs) = (let a = sum_by-cons f x xs in let b = sum_by-cons g x xs in let c = sum_by-cons (λ x. f x + g x) x xs in let rest = sum_plus f g xs in omega (arith, a, b, c, rest))
-
-sum_none : {X : Type 0} (xs : List X) → sum_by (λ (x : X). 0) xs ≡ 0
-sum_none [] = refl
-sum_none {X = X} (x ∷ xs) = (let a = sum_by-cons (λ (x : X). 0) x xs in let rest = sum_none xs in omega (arith, a, rest))
-
-sum_most : {X : Type 0} (f g : X → ℕ) (xs : List X) → ((x : X) → f x ≤ g x) → sum_by f xs ≤ sum_by g xs
-sum_most f g [] most = omega arith
-sum_most f g (x ∷ xs) most = (let a = sum_by-cons f x xs in let b = sum_by-cons g x xs in let e = most x in let rest = sum_most f g xs most in omega (arith, a, b, e, rest))
-
-covered : {X : Type 0} (h : ℕ → X → ℕ) (w : X → ℕ) (fs : List ℕ) (xs : List X) → ((x : X) → sum_by (λ f. h f x) fs ≤ w x) → sum_by (λ f. sum_by (h f) xs) fs ≤ sum_by w xs
-covered h w fs [] most = (let none = sum_none fs in omega (arith, none))
-covered h w fs (x ∷ xs) most =
-    let same = sum_same (λ f. sum_by (h f) (x ∷ xs)) (λ f. h f x + sum_by (h f) xs) fs (λ f. sum_by-cons (h f) x xs) in
-    let plus = sum_plus (λ f. h f x) (λ f. sum_by (h f) xs) fs in
-    let here = most x in
-    let rest = covered h w fs xs most in
-    let more = sum_by-cons w x xs in
-    omega (arith, same, plus, here, rest, more)
-
--- One number is met at most once in a range.
-
-hits_none : (g a n : ℕ) → g < a → sum_by (λ f. one (g == f)) (range_with_len a n) ≡ 0
-hits_none g a zero low = refl
-hits_none g a (suc n) low =
-    let more = sum_by-cons (λ f. one (g == f)) a (range_with_len (a + 1) n) in
-    let no : (g == a) ≡ false = grind (arith, nat_tests) in
-    let none : one (g == a) ≡ 0 = ap one no in
-    let rest = hits_none g (a + 1) n (omega arith) in
-    omega (arith, more, none, rest)
-
-hit : (g a n : ℕ) (b : Bool) → (g == a) ≡ b → sum_by (λ f. one (g == f)) (range_with_len (a + 1) n) ≤ 1 → sum_by (λ f. one (g == f)) (range_with_len a (suc n)) ≤ 1
-hit g a n true e rest =
-    let more = sum_by-cons (λ f. one (g == f)) a (range_with_len (a + 1) n) in
-    let some : one (g == a) ≡ 1 = ap one e in
-    let same : g ≡ a = grind (arith, nat_tests) in
-    let none = hits_none g (a + 1) n (omega arith) in
-    omega (arith, more, some, none)
-hit g a n false e rest =
-    let more = sum_by-cons (λ f. one (g == f)) a (range_with_len (a + 1) n) in
-    let none : one (g == a) ≡ 0 = ap one e in
-    omega (arith, more, none, rest)
-
-hits_once : (g a n : ℕ) → sum_by (λ f. one (g == f)) (range_with_len a n) ≤ 1
-hits_once g a zero = omega arith
-hits_once g a (suc n) = hit g a n (g == a) refl (hits_once g (a + 1) n)
 
 page_once : (n : ℕ) (p : Place) → sum_by (λ f. one (is_here_at f p)) (range_with_len 0 n) ≤ one (is_here p)
 page_once n Untouched = (let none = sum_none (range_with_len 0 n) in omega (arith, none))
@@ -96,16 +43,6 @@ namings f o = count_by (λ g. g == f) (vm_overhead o) + count_by (is_here_at f) 
 taken : Option Vm → ℕ
 taken o = length (vm_overhead o) + count_by is_here (vm_places o)
 
-listed_once : (n : ℕ) (os : List ℕ) → sum_by (λ f. count_by (λ g. g == f) os) (range_with_len 0 n) ≤ length os
-listed_once n [] = (let none = sum_none (range_with_len 0 n) in omega (arith, none))
-listed_once n (g ∷ os) =
-    let fs = range_with_len 0 n in
-    let same = sum_same (λ f. count_by (λ x. x == f) (g ∷ os)) (λ f. one (g == f) + count_by (λ x. x == f) os) fs (λ f. sum_by-cons (λ x. one (x == f)) g os) in
-    let plus = sum_plus (λ f. one (g == f)) (λ f. count_by (λ x. x == f) os) fs in
-    let here = hits_once g 0 n in
-    let rest = listed_once n os in
-    omega (arith, same, plus, here, rest)
-
 namings_most : (n : ℕ) (o : Option Vm) → sum_by (λ f. namings f o) (range_with_len 0 n) ≤ taken o
 unfolding namings taken
 namings_most n o =
@@ -117,13 +54,6 @@ namings_most n o =
 
 -- A frame that is taken is taken once at least.
 
-counted_any : {X : Type 0} (p : X → Bool) (xs : List X) → list_any p xs ≡ true → 1 ≤ count_by p xs
-counted_any p [] h = cc
-counted_any p (x ∷ xs) h = elim (either (p x) (list_any p xs) h) [
-  | inl w ↦ (let more = sum_by-cons (λ y. one (p y)) x xs in let some : one (p x) ≡ 1 = ap one w in omega (arith, more, some))
-  | inr w ↦ (let more = sum_by-cons (λ y. one (p y)) x xs in let rest = counted_any p xs w in omega (arith, more, rest))
-]
-
 named_some : (f : ℕ) (o : Option Vm) → vm_names f o ≡ true → 1 ≤ namings f o
 unfolding namings
 named_some f None h = cc
@@ -131,62 +61,6 @@ named_some f (Some v) h = elim (either (is_listed f v.overhead) (list_any (is_he
   | inl w ↦ (let some = counted_any (λ g. g == f) v.overhead w in omega (arith, some))
   | inr w ↦ (let some = counted_any (is_here_at f) v.places w in omega (arith, some))
 ]
-
-sum_any : {X : Type 0} (p : X → Bool) (h : X → ℕ) (xs : List X) → ((x : X) → p x ≡ true → 1 ≤ h x) → list_any p xs ≡ true → 1 ≤ sum_by h xs
-sum_any p h [] some e = cc
-sum_any p h (x ∷ xs) some e = elim (either (p x) (list_any p xs) e) [
-  | inl w ↦ (let more = sum_by-cons h x xs in let here = some x w in omega (arith, more, here))
-  | inr w ↦ (let more = sum_by-cons h x xs in let rest = sum_any p h xs some w in omega (arith, more, rest))
-]
-
--- Sums over a range of what is 1 at least.
-
-range_least : (h : ℕ → ℕ) (a n : ℕ) → ((f : ℕ) → f < a + n → a ≤ f → 1 ≤ h f) → n ≤ sum_by h (range_with_len a n)
-range_least h a zero least = omega arith
-range_least h a (suc n) least =
-    let more = sum_by-cons h a (range_with_len (a + 1) n) in
-    let here = least a (omega arith) (omega arith) in
-    let rest = range_least h (a + 1) n (λ f below from. least f (omega arith) (omega arith)) in
-    omega (arith, more, here, rest)
-
-range_more : (h : ℕ → ℕ) (a n f : ℕ) → ((f : ℕ) → f < a + n → a ≤ f → 1 ≤ h f) → f < a + n → a ≤ f → 2 ≤ h f → n + 1 ≤ sum_by h (range_with_len a n)
-range_more h a zero f least below from two = absurd (omega arith)
-range_more h a (suc n) f least below from two = elim (cases_eq f a) [
-  | inl e ↦ (let more = sum_by-cons h a (range_with_len (a + 1) n) in
-      let here : 2 ≤ h a = (let same = ap h e in omega (arith, same, two)) in
-      let rest = range_least h (a + 1) n (λ g low high. least g (omega arith) (omega arith)) in
-      omega (arith, more, here, rest))
-  | inr other ↦ (let more = sum_by-cons h a (range_with_len (a + 1) n) in
-      let here = least a (omega arith) (omega arith) in
-      let rest = range_more h (a + 1) n f (λ g low high. least g (omega arith) (omega arith)) (omega arith) (omega arith) two in
-      omega (arith, more, here, rest))
-]
-
-zero_one : (b : Bool) → one b ≡ 0 → b ≡ false
-zero_one true h = absurd (omega arith)
-zero_one false h = refl
-
--- what no number of a range passes
-none_of_range : (p : ℕ → Bool) (a n f : ℕ) → count_by p (range_with_len a n) ≡ 0 → f < a + n → a ≤ f → p f ≡ false
-none_of_range p a zero f none below from = absurd (omega arith)
-none_of_range p a (suc n) f none below from = elim (cases_eq f a) [
-  | inl e ↦ ap p e ∙ zero_one (p a) (let more = sum_by-cons (λ x. one (p x)) a (range_with_len (a + 1) n) in omega (arith, more, none))
-  | inr other ↦ none_of_range p (a + 1) n f (let more = sum_by-cons (λ x. one (p x)) a (range_with_len (a + 1) n) in omega (arith, more, none)) (omega arith) (omega arith)
-]
-
-none_found : (p : ℕ → Bool) (a n f : ℕ) → find p (range_with_len a n) ≡ None → f < a + n → a ≤ f → p f ≡ false
-none_found p a zero f none below from = absurd (omega arith)
-none_found p a (suc n) f none below from = elim (chosen (p a) (Some a) (find p (range_with_len (a + 1) n)) None none) [
-  | inl w ↦ cc
-  | inr w ↦ elim (cases_eq f a) [
-    | inl e ↦ ap p e ∙ w.0
-    | inr other ↦ none_found p (a + 1) n f w.1 (omega arith) (omega arith)
-  ]
-]
-
-not_false : (b : Bool) → not b ≡ false → b ≡ true
-not_false true h = refl
-not_false false h = cc
 
 -- Where no frame is free, and no machine has more than its least.
 
@@ -240,14 +114,14 @@ taken_less c (o ∷ os) (suc n) v each few there less =
 all_taken : (c : Config) (s : Site) (f : ℕ) → free_count c.frames s ≡ 0 → f < c.frames → 1 ≤ sum_by (namings f) s.vms
 unfolding free_count
 all_taken c s f none below =
-    sum_any (vm_names f) (namings f) s.vms (named_some f) (not_false (is_named s f) (none_of_range (λ g. not (is_named s g)) 0 c.frames f none (omega (arith, below)) (omega arith)))
+    sum_any (vm_names f) (namings f) s.vms (named_some f) (not_not (is_named s f) (none_of_range (λ g. not (is_named s g)) 0 c.frames f none (omega (arith, below)) (omega arith)))
 
 total_most : (c : Config) (s : Site) → sum_by (λ f. sum_by (namings f) s.vms) (range_with_len 0 c.frames) ≤ sum_by taken s.vms
 total_most c s = covered namings taken (range_with_len 0 c.frames) s.vms (namings_most c.frames)
 
 pages_named : (f : ℕ) (vms : List (Option Vm)) → sum_by (pages_of f) vms ≤ sum_by (namings f) vms
 unfolding namings
-pages_named f vms = sum_most (pages_of f) (namings f) vms (λ o. of o)
+pages_named f vms = sum_by-le-sum_by (pages_of f) (namings f) vms (λ o. of o)
   where
     of : (o : Option Vm) → pages_of f o ≤ namings f o
     of None = omega arith
@@ -340,7 +214,7 @@ unfolding least_slot outs
 slot_or_not c s n v (Some i) sound there few found = (i, refl)
 slot_or_not c s n v None sound there few found =
     let held : (i : ℕ) → i < c.slots → 1 ≤ sum_by (λ o. count_by (is_out_at i) (vm_places o)) s.vms =
-    λ i below. sum_any (vm_holds i) (λ o. count_by (is_out_at i) (vm_places o)) s.vms (held_some i) (not_false (is_held s i) (none_found (λ g. not (is_held s g)) 0 c.slots i found (omega (arith, below)) (omega arith))) in
+    λ i below. sum_any (vm_holds i) (λ o. count_by (is_out_at i) (vm_places o)) s.vms (held_some i) (not_not (is_held s i) (none_found (λ g. not (is_held s g)) 0 c.slots i found (omega (arith, below)) (omega arith))) in
     let least = range_least (λ i. sum_by (λ o. count_by (is_out_at i) (vm_places o)) s.vms) 0 c.slots (λ i below from. held i (omega (arith, below))) in
     let total = covered (λ i o. count_by (is_out_at i) (vm_places o)) outs (range_with_len 0 c.slots) s.vms (λ o. covered (λ i p. one (is_out_at i p)) (λ p. one (is_out p)) (range_with_len 0 c.slots) (vm_places o) (slot_once c.slots)) in
     let under = outs_less c s.vms n v sound.each there few in

@@ -8,7 +8,7 @@ use Rattle.esx_model.specs.declared.scene.Place.{Place}
 use Rattle.esx_model.specs.declared.scene.Place.TheVariants.{Untouched, Here, Out, Lent}
 use Rattle.esx_model.specs.declared.scene.Vm.{Vm}
 use Rattle.esx_model.specs.declared.scene.Site.{Site}
-use Rattle.esx_model.specs.declared.tables.VmTable.{VmTable}
+use Rattle.esx_model.specs.declared.book.VmRow.{VmRow}
 use Rattle.esx_model.specs.declared.tables.Tables.{Tables}
 use Rattle.esx_model.specs.Places.{is_private}
 use Rattle.esx_model.specs.Site.{vm_at, with_vm, place_at, place_in, place_of}
@@ -35,23 +35,23 @@ use Rattle.esx_model.proofs.event.Sampling.{counted_kept}
 
 -- A machine's row is beside what a page leaves and where it comes.
 
-pub left_put : (p : Place) (b : Tables) (n : ℕ) (o : Option VmTable) → left p (put_vm b n o) ≡ put_vm (left p b) n o
+pub left_put : (p : Place) (b : Tables) (n : ℕ) (o : Option VmRow) → left p (put_vm b n o) ≡ put_vm (left p b) n o
 left_put Untouched b n o = refl
 left_put (Here bytes f shared) b n o = refl
 left_put (Out bytes i) b n o = refl
 left_put (Lent e) b n o = refl
 
-pub joined_put : (q : Place) (b : Tables) (n : ℕ) (o : Option VmTable) → joined q (put_vm b n o) ≡ put_vm (joined q b) n o
+pub joined_put : (q : Place) (b : Tables) (n : ℕ) (o : Option VmRow) → joined q (put_vm b n o) ≡ put_vm (joined q b) n o
 joined_put Untouched b n o = refl
 joined_put (Here bytes f shared) b n o = refl
 joined_put (Out bytes i) b n o = refl
 joined_put (Lent e) b n o = refl
 
-pub put_twice : (b : Tables) (n : ℕ) (o row : Option VmTable) → put_vm (put_vm b n o) n row ≡ put_vm b n row
-put_twice b n o row = ap (λ (vms : List (Option VmTable)). record b { vms = vms }) (set_again b.vms n o row)
+pub put_twice : (b : Tables) (n : ℕ) (o row : Option VmRow) → put_vm (put_vm b n o) n row ≡ put_vm b n row
+put_twice b n o row = ap (λ (vms : List (Option VmRow)). record b { vms = vms }) (set_again b.vms n o row)
 
 -- a page that leaves and comes, where its machine's row was changed before
-moved_put : (p q : Place) (b : Tables) (n : ℕ) (o row : Option VmTable) → put_vm (joined q (left p (put_vm b n o))) n row ≡ put_vm (joined q (left p b)) n row
+moved_put : (p q : Place) (b : Tables) (n : ℕ) (o row : Option VmRow) → put_vm (joined q (left p (put_vm b n o))) n row ≡ put_vm (joined q (left p b)) n row
 moved_put p q b n o row =
     ap (λ t. put_vm (joined q t) n row) (left_put p b n o) ∙ ap (λ t. put_vm t n row) (joined_put q (left p b) n o) ∙ put_twice (joined q (left p b)) n o row
 
@@ -75,7 +75,7 @@ access_shown c s n page v bytes f shared sound there running below frame whole r
     let v2 = with_place page q v1 in
     let there2 = vm_placed_there s1 n page v1 q there1 in
     let kept = counted_kept c v2 page (sound2.each n v2 there2) running below in
-    let row : Option VmTable = Some (vm_table (counted page v2)) in
+    let row : Option VmRow = Some (vm_table (counted page v2)) in
     ap (λ t. tables_of c (with_change (placed t n page q) n (counted page))) (with_change_is s n v (popped page) there)
     ∙ ap (tables_of c) (with_change_is s2 n v2 (counted page) there2)
     ∙ row_only_shown c s2 n v2 (counted page v2) there2 kept.places kept.overhead
@@ -111,7 +111,7 @@ access_in_place_shown c s n page v old f new sound there running below was whole
     let v2 = with_place page q v1 in
     let there2 = vm_placed_there s1 n page v1 q there1 in
     let kept = counted_kept c v2 page (sound2.each n v2 there2) running below in
-    let row : Option VmTable = Some (vm_table (counted page v2)) in
+    let row : Option VmRow = Some (vm_table (counted page v2)) in
     ap (λ t. tables_of c (with_change (placed t n page q) n (counted page))) (with_change_is s n v (popped page) there)
     ∙ ap (tables_of c) (with_change_is s2 n v2 (counted page) there2)
     ∙ row_only_shown c s2 n v2 (counted page v2) there2 kept.places kept.overhead
@@ -145,7 +145,7 @@ traded_shown c s n page q v bytes f shared i new t whole =
     placed_shown c a n q va o steps.left_sound steps.left_there (let w = t.within in omega (arith, fine.pages, w)) past steps.out_place steps.out_room (λ e. absurd (false≢true e)) in
     let third : tables_of c (placed b n page h) ≡ put_vm (joined h (left (place_at vb page) (tables_of c b))) n (Some (vm_table vd)) =
     placed_shown c b n page vb h steps.out_sound steps.out_there t.below past steps.in_place steps.in_room (λ e. ap is_private steps.nowhere) in
-    let row : Option VmTable = Some (vm_table vd) in
+    let row : Option VmRow = Some (vm_table vd) in
     let rest = left (Here bytes f shared) (left p (tables_of c s)) in
     let places : vd.places ≡ set (set v.places q o) page h =
     ap (λ (xs : List Place). set xs page h) (set_comm v.places page q Untouched o (λ e. apart (sym e))) ∙ set_again (set v.places q o) page Untouched h in

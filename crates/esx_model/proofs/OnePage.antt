@@ -4,7 +4,7 @@ use Rattle.std.specs.List.{filter, find, AllByRecursion}
 use Rattle.std.proofs.lemmas.Bool.{false≢true}
 use Rattle.std.proofs.lemmas.Bool.Decides.{nat_tests}
 use Rattle.esx_types.specs.declared.config.Config.{Config}
-use Rattle.esx_model.specs.declared.scene.Hint.{Hint}
+use Rattle.esx_types.specs.declared.table.Hint.{Hint}
 use Rattle.esx_model.specs.declared.scene.Place.{Place}
 use Rattle.esx_model.specs.declared.scene.Place.TheVariants.{Untouched, Here, Out, Lent}
 use Rattle.esx_model.specs.declared.scene.Vm.{Vm}

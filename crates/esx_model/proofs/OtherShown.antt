@@ -9,13 +9,13 @@ use Rattle.esx_types.specs.declared.config.Config.{Config}
 use Rattle.esx_types.specs.declared.vm.VmSpec.{VmSpec}
 use Rattle.esx_types.specs.declared.table.FrameRow.{FrameRow}
 use Rattle.esx_types.specs.declared.table.FrameRow.TheVariants as frames
-use Rattle.esx_model.specs.declared.scene.Hint.{Hint}
+use Rattle.esx_types.specs.declared.table.Hint.{Hint}
 use Rattle.esx_model.specs.declared.scene.Place.{Place}
 use Rattle.esx_model.specs.declared.scene.Place.TheVariants.{Here}
 use Rattle.esx_model.specs.declared.scene.Vm.{Vm}
 use Rattle.esx_model.specs.declared.scene.Site.{Site}
-use Rattle.esx_model.specs.declared.tables.Listing.{Listing}
-use Rattle.esx_model.specs.declared.tables.Listing.TheVariants as listings
+use Rattle.esx_types.specs.declared.table.Listing.{Listing}
+use Rattle.esx_types.specs.declared.table.Listing.TheVariants as listings
 use Rattle.esx_model.specs.Places.{is_here, is_here_at, is_out, is_out_at, is_private}
 use Rattle.esx_model.specs.Site.{vm_at, with_vm, place_at, place_in, place_of, all_places, all_overhead, least_free, resident, paged_out}
 use Rattle.esx_model.specs.Show.{in_frame, in_slot, pages_in, is_listed, row_of, frame_row, slot_row, frame_rows, slot_rows}
@@ -69,7 +69,7 @@ row_listed s t f listed pages =
 
 -- A machine takes an overhead frame.
 pub start_shown : (c : Config) (s : Site) (n f : ℕ) (v : Vm) → vm_at s n ≡ Some v → least_free c.frames s ≡ Some f
-    → tables_of c (with_vm s n (with_overhead v f)) ≡ put_vm (put_frame (tables_of c s) f frames.Overhead listings.Nothing) n (Some (vm_table (with_overhead v f)))
+    → tables_of c (with_vm s n (with_overhead v f)) ≡ put_vm (put_frame (tables_of c s) f frames.Overhead listings.Unlisted) n (Some (vm_table (with_overhead v f)))
 start_shown c s n f v there found =
     let w = with_overhead v f in
     let t = with_vm s n w in
@@ -80,10 +80,10 @@ start_shown c s n f v there found =
     let others : (k : ℕ) → k ≢ f → frame_row t k ≡ frame_row s k = λ k other. row_listed s t k (listed_same f k (all_overhead s) (all_overhead t) more other) (ap (in_frame k) same) in
     let hint : (k : ℕ) → find (is_hint_in t k) s.hints ≡ find (is_hint_in s k) s.hints =
     λ k. find_same (is_hint_in s k) (is_hint_in t k) s.hints (λ h. ap (is_here_at k) (place_changed s n h.vm h.page v w s.hints there (λ e. refl))) in
-    shown_by c s n w s.hints (set (frame_rows c.frames s) f frames.Overhead) (slot_rows c.slots s) (set (listing_rows c.frames s) f listings.Nothing)
+    shown_by c s n w s.hints (set (frame_rows c.frames s) f frames.Overhead) (slot_rows c.slots s) (set (listing_rows c.frames s) f listings.Unlisted)
     (rows_move (frame_row s) (frame_row t) f c.frames frames.Overhead frames.Free row others unused.below)
     (rows_same (slot_row s) (slot_row t) 0 c.slots (λ i. out_row_same s t i (ap (in_slot i) same)))
-    (rows_move (listing_row s) (listing_row t) f c.frames listings.Nothing listings.Nothing (listing_is t f ∙ ap (λ r. listing_by r (find (is_hint_in t f) s.hints)) row)
+    (rows_move (listing_row s) (listing_row t) f c.frames listings.Unlisted listings.Unlisted (listing_is t f ∙ ap (λ r. listing_by r (find (is_hint_in t f) s.hints)) row)
     (λ k other. listing_is t k ∙ ap (λ r. listing_by r (find (is_hint_in t k) s.hints)) (others k other) ∙ ap (listing_by (frame_row s k)) (hint k) ∙ sym (listing_is s k)) unused.below)
 
 -- what is known of a frame that is overhead no more
@@ -106,7 +106,7 @@ freed c s t f sound i pages = record {
 
 -- A machine gives its last overhead frame back.
 pub given_back_shown : (c : Config) (s : Site) (n : ℕ) (v : Vm) → IsSound c s → vm_at s n ≡ Some v → 0 < length v.overhead
-    → tables_of c (with_vm s n (without_last v)) ≡ put_vm (put_frame (tables_of c s) (get_or v.overhead (length v.overhead - 1) 0) frames.Free listings.Nothing) n (Some (vm_table (without_last v)))
+    → tables_of c (with_vm s n (without_last v)) ≡ put_vm (put_frame (tables_of c s) (get_or v.overhead (length v.overhead - 1) 0) frames.Free listings.Unlisted) n (Some (vm_table (without_last v)))
 given_back_shown c s n v sound there some =
     let w = without_last v in
     let t = with_vm s n w in
@@ -115,10 +115,10 @@ given_back_shown c s n v sound there some =
     let free = freed c s t f sound (last_inserted s n v there some) (λ k. ap (in_frame k) same) in
     let hint : (k : ℕ) → find (is_hint_in t k) s.hints ≡ find (is_hint_in s k) s.hints =
     λ k. find_same (is_hint_in s k) (is_hint_in t k) s.hints (λ h. ap (is_here_at k) (place_changed s n h.vm h.page v w s.hints there (λ e. refl))) in
-    shown_by c s n w s.hints (set (frame_rows c.frames s) f frames.Free) (slot_rows c.slots s) (set (listing_rows c.frames s) f listings.Nothing)
+    shown_by c s n w s.hints (set (frame_rows c.frames s) f frames.Free) (slot_rows c.slots s) (set (listing_rows c.frames s) f listings.Unlisted)
     (rows_move (frame_row s) (frame_row t) f c.frames frames.Free frames.Free free.row free.others free.below)
     (rows_same (slot_row s) (slot_row t) 0 c.slots (λ i. out_row_same s t i (ap (in_slot i) same)))
-    (rows_move (listing_row s) (listing_row t) f c.frames listings.Nothing listings.Nothing (listing_is t f ∙ ap (λ r. listing_by r (find (is_hint_in t f) s.hints)) free.row)
+    (rows_move (listing_row s) (listing_row t) f c.frames listings.Unlisted listings.Unlisted (listing_is t f ∙ ap (λ r. listing_by r (find (is_hint_in t f) s.hints)) free.row)
     (λ k other. listing_is t k ∙ ap (λ r. listing_by r (find (is_hint_in t k) s.hints)) (free.others k other) ∙ ap (listing_by (frame_row s k)) (hint k) ∙ sym (listing_is s k)) free.below)
 
 -- A machine comes.
@@ -157,13 +157,13 @@ gone_hints c s n v sound there here k =
 
 -- with its last overhead frame
 pub gone_shown : (c : Config) (s : Site) (n f : ℕ) (v : Vm) → IsSound c s → vm_at s n ≡ Some v → resident v ≡ 0 → paged_out v ≡ 0 → v.overhead ≡ f ∷ []
-    → tables_of c (without_vm s n) ≡ put_vm (put_frame (tables_of c s) f frames.Free listings.Nothing) n None
+    → tables_of c (without_vm s n) ≡ put_vm (put_frame (tables_of c s) f frames.Free listings.Unlisted) n None
 gone_shown c s n f v sound there here out is =
     let t = without_vm s n in
     let free = freed c s t f sound (overhead_last s n f v there is) (λ k. places_fewer s n v is_here (is_here_at k) there (in_frame_here k) here) in
-    gone_by c s n (set (frame_rows c.frames s) f frames.Free) (set (listing_rows c.frames s) f listings.Nothing) v there out
+    gone_by c s n (set (frame_rows c.frames s) f frames.Free) (set (listing_rows c.frames s) f listings.Unlisted) v there out
     (rows_move (frame_row s) (frame_row t) f c.frames frames.Free frames.Free free.row free.others free.below)
-    (rows_move (listing_row s) (listing_row t) f c.frames listings.Nothing listings.Nothing (listing_is t f ∙ ap (λ r. listing_by r (find (is_hint_in t f) s.hints)) free.row)
+    (rows_move (listing_row s) (listing_row t) f c.frames listings.Unlisted listings.Unlisted (listing_is t f ∙ ap (λ r. listing_by r (find (is_hint_in t f) s.hints)) free.row)
     (λ k other. listing_is t k ∙ ap (λ r. listing_by r (find (is_hint_in t k) s.hints)) (free.others k other) ∙ ap (listing_by (frame_row s k)) (gone_hints c s n v sound there here k) ∙ sym (listing_is s k)) free.below)
 
 -- without one
@@ -249,7 +249,7 @@ without_key key n page (frames.Shared count bytes) o other = refl
 without_key key n page (frames.Private bytes) None other = refl
 without_key key n page (frames.Private bytes) (Some h) other = of (h.key == key) (is_hint_of n page h) (other h refl)
   where
-    of : (a b : Bool) → b ≡ false → hint_listing (cond (not (a || b)) (Some h) None) ≡ cond a listings.Nothing (listings.Hinted h.key h.vm h.page)
+    of : (a b : Bool) → b ≡ false → hint_listing (cond (not (a || b)) (Some h) None) ≡ cond a listings.Unlisted (listings.Hinted h.vm h.page h.key)
     of true b e = refl
     of false true e = cc
     of false false e = refl
@@ -270,7 +270,7 @@ map_twice {Z = Z} f g (x ∷ xs) = ap (λ (zs : List Z). g (f x) ∷ zs) (map_tw
 
 -- A page that is private in frame f becomes the hint under its key.
 pub hinted_shown : (c : Config) (s : Site) (n page : ℕ) (v : Vm) (bytes old : List ℕ) (f : ℕ) → IsSound c s → vm_at s n ≡ Some v → page < length v.places → place_at v page ≡ Here old f false
-    → tables_of c (hinted s n page bytes) ≡ record (tables_of c s) { listings = set (map (listing_without (hint_key bytes)) (listing_rows c.frames s)) f (listings.Hinted (hint_key bytes) n page) }
+    → tables_of c (hinted s n page bytes) ≡ record (tables_of c s) { listings = set (map (listing_without (hint_key bytes)) (listing_rows c.frames s)) f (listings.Hinted n page (hint_key bytes)) }
 hinted_shown c s n page v bytes old f sound there within was =
     let key = hint_key bytes in
     let new : Hint = record { key = key; vm = n; page = page } in
@@ -286,7 +286,7 @@ hinted_shown c s n page v bytes old f sound there within was =
     row_clear s f (row_here c.frames (all_places s) (all_overhead s) old f false sound.frames i).1 ∙ private_row c.frames (all_places s) (all_overhead s) old f sound.frames i in
     let own : (h : Hint) → find (is_hint_in s f) s.hints ≡ Some h → is_hint_of n page h ≡ true =
     λ h found. one_page c s n page h.vm h.page (vm_at s n) (place_of s n page) f sound refl refl (ap is_private at) (ap (is_here_at f) at ∙ eqb_same f) (find_passes (is_hint_in s f) s.hints h found) in
-    let here : listing_row t f ≡ listings.Hinted key n page =
+    let here : listing_row t f ≡ listings.Hinted n page key =
     listing_is t f ∙ ap (λ r. listing_by r (find (is_hint_in s f) (with_hint new s.hints))) (rows.0 f ∙ row)
     ∙ ap hint_listing (found_first (is_hint_in s f) new (filter keep s.hints) (ap (is_here_at f) at ∙ eqb_same f)
     (found_kept (is_hint_in s f) keep s.hints (one_hint c s f sound) ∙ its_own key n page (find (is_hint_in s f) s.hints) own)) in
@@ -296,9 +296,9 @@ hinted_shown c s n page v bytes old f sound there within was =
     ∙ ap (listing_by (frame_row s g)) (found_in_order (is_hint_in s g) new (filter keep s.hints) away ∙ found_kept (is_hint_in s g) keep s.hints (one_hint c s g sound))
     ∙ without_key key n page (frame_row s g) (find (is_hint_in s g) s.hints) (λ h found. not_own s n page g h away (find_passes (is_hint_in s g) s.hints h found) (is_hint_of n page h) refl)
     ∙ ap (listing_without key) (sym (listing_is s g))) in
-    let listing : listing_rows c.frames t ≡ set (map (listing_without key) (listing_rows c.frames s)) f (listings.Hinted key n page) =
-    rows_move (λ g. listing_without key (listing_row s g)) (listing_row t) f c.frames (listings.Hinted key n page) listings.Nothing here others below
-    ∙ ap (λ (xs : List Listing). set xs f (listings.Hinted key n page)) (map_twice (listing_row s) (listing_without key) (range_with_len 0 c.frames)) in
+    let listing : listing_rows c.frames t ≡ set (map (listing_without key) (listing_rows c.frames s)) f (listings.Hinted n page key) =
+    rows_move (λ g. listing_without key (listing_row s g)) (listing_row t) f c.frames (listings.Hinted n page key) listings.Unlisted here others below
+    ∙ ap (λ (xs : List Listing). set xs f (listings.Hinted n page key)) (map_twice (listing_row s) (listing_without key) (range_with_len 0 c.frames)) in
     ap (λ xs. record (tables_of c t) { frames = xs }) (rows_same (frame_row s) (frame_row t) 0 c.frames rows.0)
     ∙ ap (λ xs. record (tables_of c t) { frames = frame_rows c.frames s; slots = xs }) (rows_same (slot_row s) (slot_row t) 0 c.slots rows.1)
     ∙ ap (λ xs. record (tables_of c t) { frames = frame_rows c.frames s; slots = slot_rows c.slots s; listings = xs }) listing

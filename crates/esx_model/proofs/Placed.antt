@@ -6,12 +6,12 @@ use Rattle.std.proofs.lemmas.Bool.{cases_eq}
 use Rattle.esx_types.specs.declared.config.Config.{Config}
 use Rattle.esx_types.specs.declared.table.FrameRow.TheVariants as frames
 use Rattle.esx_types.specs.declared.vm.VmState.TheVariants.{Starting}
-use Rattle.esx_model.specs.declared.scene.Hint.{Hint}
+use Rattle.esx_types.specs.declared.table.Hint.{Hint}
 use Rattle.esx_model.specs.declared.scene.Place.{Place}
 use Rattle.esx_model.specs.declared.scene.Place.TheVariants.{Untouched, Here, Out, Lent}
 use Rattle.esx_model.specs.declared.scene.Vm.{Vm}
 use Rattle.esx_model.specs.declared.scene.Site.{Site}
-use Rattle.esx_model.specs.declared.tables.VmTable.{VmTable}
+use Rattle.esx_model.specs.declared.book.VmRow.{VmRow}
 use Rattle.esx_model.specs.declared.tables.Tables.{Tables}
 use Rattle.esx_model.specs.Places.{is_here_at, is_private}
 use Rattle.esx_model.specs.Site.{vm_at, place_at, place_in, place_of, all_places, all_overhead}
@@ -57,11 +57,11 @@ by_nowhere c s n page v q sound there fresh =
     ∙ ap (λ (hints : List Hint). record s { vms = set s.vms n (Some (with_place page q v)); hints = hints }) (same_hints s n page q c sound fresh (is_private q) refl)
     ∙ sym (placed_is s n page v q there)
 
-joined_row : (q : Place) (b : Tables) (n : ℕ) (o row : Option VmTable) → put_vm (joined q (put_vm b n o)) n row ≡ put_vm (joined q b) n row
-joined_row Untouched b n o row = ap (λ (vms : List (Option VmTable)). record b { vms = vms }) (set_again b.vms n o row)
-joined_row (Here bytes f shared) b n o row = ap (λ (vms : List (Option VmTable)). record (joined (Here bytes f shared) b) { vms = vms }) (set_again b.vms n o row)
-joined_row (Out bytes i) b n o row = ap (λ (vms : List (Option VmTable)). record (joined (Out bytes i) b) { vms = vms }) (set_again b.vms n o row)
-joined_row (Lent e) b n o row = ap (λ (vms : List (Option VmTable)). record b { vms = vms }) (set_again b.vms n o row)
+joined_row : (q : Place) (b : Tables) (n : ℕ) (o row : Option VmRow) → put_vm (joined q (put_vm b n o)) n row ≡ put_vm (joined q b) n row
+joined_row Untouched b n o row = ap (λ (vms : List (Option VmRow)). record b { vms = vms }) (set_again b.vms n o row)
+joined_row (Here bytes f shared) b n o row = ap (λ (vms : List (Option VmRow)). record (joined (Here bytes f shared) b) { vms = vms }) (set_again b.vms n o row)
+joined_row (Out bytes i) b n o row = ap (λ (vms : List (Option VmRow)). record (joined (Out bytes i) b) { vms = vms }) (set_again b.vms n o row)
+joined_row (Lent e) b n o row = ap (λ (vms : List (Option VmRow)). record b { vms = vms }) (set_again b.vms n o row)
 
 -- A page goes from where it is to another place, where there is room for it once it left. (One that stays private in a frame is written there, below.)
 pub placed_shown : (c : Config) (s : Site) (n page : ℕ) (v : Vm) (q : Place) → IsSound c s → vm_at s n ≡ Some v → page < v.spec.max → v.state ≢ Starting → IsPlace c v.epoch q
@@ -91,7 +91,7 @@ placed_shown c s n page v q sound there below past place room fresh =
       within = (let len = length-set v.places page Untouched in omega (arith, len, within));
       was = get_or-set_same v.places page Untouched Untouched within;
     }) untouched_nowhere place fits in
-    let row : Option VmTable = Some (vm_table (with_place page q w)) in
+    let row : Option VmRow = Some (vm_table (with_place page q w)) in
     let was : is_private q ≡ true → is_private (place_of s n page) ≡ false = λ e. ap (λ o. is_private (place_in o page)) there ∙ fresh e in
     ap (tables_of c) (sym (by_nowhere c s n page v q sound there was))
     ∙ then ∙ ap (λ (b : Tables). put_vm (joined q b) n row) first ∙ joined_row q (left p (tables_of c s)) n (Some (vm_table w)) row

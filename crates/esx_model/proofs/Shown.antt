@@ -12,13 +12,13 @@ use Rattle.esx_types.specs.declared.table.SlotRow.{SlotRow}
 use Rattle.esx_types.specs.declared.table.SlotRow.TheVariants as slots
 use Rattle.esx_types.specs.Frames.{frame_at}
 use Rattle.esx_formulas.specs.Key.{content_key}
-use Rattle.esx_model.specs.declared.scene.Hint.{Hint}
+use Rattle.esx_types.specs.declared.table.Hint.{Hint}
 use Rattle.esx_model.specs.declared.scene.Place.{Place}
 use Rattle.esx_model.specs.declared.scene.Place.TheVariants.{Untouched, Here, Out, Lent}
 use Rattle.esx_model.specs.declared.scene.Vm.{Vm}
 use Rattle.esx_model.specs.declared.scene.Site.{Site}
-use Rattle.esx_model.specs.declared.tables.Listing.{Listing}
-use Rattle.esx_model.specs.declared.tables.Listing.TheVariants as listings
+use Rattle.esx_types.specs.declared.table.Listing.{Listing}
+use Rattle.esx_types.specs.declared.table.Listing.TheVariants as listings
 use Rattle.esx_model.specs.declared.tables.Tables.{Tables}
 use Rattle.esx_model.specs.Places.{is_here_at, is_out_at, is_private}
 use Rattle.esx_model.specs.Site.{vm_at, with_vm, place_at, place_in, place_of, all_places, all_overhead}
@@ -239,7 +239,7 @@ frame_leaves c s n page v bytes f shared q g away =
     let os = placed_overhead s n page v q g.there in
     let rows = frame_rows c.frames s in
     let old : frame_at rows f ≡ frame_row s f = row_in_rows (frame_row s) c.frames f frames.Free below in
-    let old_list : listing_at (listing_rows c.frames s) f ≡ listing_row s f = row_in_rows (listing_row s) c.frames f listings.Nothing below in
+    let old_list : listing_at (listing_rows c.frames s) f ≡ listing_row s f = row_in_rows (listing_row s) c.frames f listings.Unlisted below in
     let there : frame_row t f ≡ less (frame_at rows f) = row_clear t f (ap (is_listed f) os ∙ clear) ∙ moves.inside.is ∙ ap less (sym (old ∙ row_clear s f clear)) in
     let others : (k : ℕ) → k ≢ f → frame_row t k ≡ frame_row s k = λ k other. row_same s t k os (moves.others k other) in
     let listing : listing_row t f ≡ listing_after (less (frame_at rows f)) (listing_at (listing_rows c.frames s) f) =
@@ -249,7 +249,7 @@ frame_leaves c s n page v bytes f shared q g away =
     shown_placed c s n page v q (set rows f (less (frame_at rows f))) (slot_rows c.slots s) (set (listing_rows c.frames s) f (listing_after (less (frame_at rows f)) (listing_at (listing_rows c.frames s) f))) g.there
     (rows_move (frame_row s) (frame_row t) f c.frames (less (frame_at rows f)) frames.Free there others below)
     (slots_stay c s n page v p q g (λ i. refl) away.out)
-    (rows_move (listing_row s) (listing_row t) f c.frames (listing_after (less (frame_at rows f)) (listing_at (listing_rows c.frames s) f)) listings.Nothing listing
+    (rows_move (listing_row s) (listing_row t) f c.frames (listing_after (less (frame_at rows f)) (listing_at (listing_rows c.frames s) f)) listings.Unlisted listing
     (λ k other. listing_stays c s n page v p q g (nowhere_private q away) k (other_frame f k other) (others k other)) below)
 
 slot_leaves : (c : Config) (s : Site) (n page : ℕ) (v : Vm) (bytes : List ℕ) (i : ℕ) (q : Place) (g : Moves c s n page v (Out bytes i)) → IsNowhere q
@@ -366,7 +366,7 @@ frame_joins c s n page v p bytes f shared g off below clear fits =
     shown_placed c s n page v q (set rows f (more bytes shared (frame_at rows f))) (slot_rows c.slots s) (set (listing_rows c.frames s) f (listing_for bytes shared)) g.there
     (rows_move (frame_row s) (frame_row t) f c.frames (more bytes shared (frame_at rows f)) frames.Free there others below)
     (slots_stay c s n page v p q g off.out (λ i. refl))
-    (rows_move (listing_row s) (listing_row t) f c.frames (listing_for bytes shared) listings.Nothing listing
+    (rows_move (listing_row s) (listing_row t) f c.frames (listing_for bytes shared) listings.Unlisted listing
     (λ k other. listing_beside c s n page v p q g off k (other_frame f k other) (others k other)) below)
 
 slot_joins : (c : Config) (s : Site) (n page : ℕ) (v : Vm) (p : Place) (bytes : List ℕ) (i : ℕ) (g : Moves c s n page v p) → IsNowhere p → i < c.slots → slot_of (pages_out s i) ≡ slots.Free

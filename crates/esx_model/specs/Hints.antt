@@ -1,6 +1,7 @@
 -- Pages that others may be shared with, and how a page's change of place ends its hint (Waldspurger, "Content-Based Page Sharing").
-use Rattle.std.specs.Prelude.{ℕ, Bool, ◌&&◌, ◌||◌, not, ◌==◌, nat_le, List, [], ◌∷◌, Option, option_map, slice_set, filter, find, if◌then◌else◌}
-use Rattle.esx_model.specs.declared.scene.Hint.{Hint}
+use Rattle.std.specs.Prelude.{ℕ, Bool, ◌&&◌, ◌||◌, not, ◌==◌, List, Option, option_map, slice_set, filter, find, if◌then◌else◌}
+use Rattle.esx_types.specs.declared.table.Hint.{Hint}
+use Rattle.esx_types.specs.Listings.{with_placed}
 use Rattle.esx_model.specs.declared.scene.Place.{Place}
 use Rattle.esx_model.specs.declared.scene.Vm.{Vm}
 use Rattle.esx_model.specs.declared.scene.Site.{Site}
@@ -21,8 +22,7 @@ without_hint n page hints = filter (λ h. not (is_hint_of n page h)) hints
 
 -- a hint at its place in the order of keys
 abbrev pub in_order : Hint → List Hint → List Hint
-in_order new [] = new ∷ []
-in_order new (h ∷ hints) = if nat_le new.key h.key then new ∷ h ∷ hints else h ∷ in_order new hints
+in_order new hints = with_placed (λ (h : Hint). h.key) new hints
 
 -- the hints with this one, alone under its key and alone of its page
 abbrev pub with_hint : Hint → List Hint → List Hint

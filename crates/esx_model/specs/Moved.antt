@@ -9,9 +9,9 @@ use Rattle.esx_types.specs.Slots.{slot_at}
 use Rattle.esx_formulas.specs.Key.{content_key}
 use Rattle.esx_model.specs.declared.scene.Place.{Place}
 use Rattle.esx_model.specs.declared.scene.Place.TheVariants.{Untouched, Here, Out, Lent}
-use Rattle.esx_model.specs.declared.tables.Listing.{Listing}
-use Rattle.esx_model.specs.declared.tables.Listing.TheVariants as listings
-use Rattle.esx_model.specs.declared.tables.VmTable.{VmTable}
+use Rattle.esx_types.specs.declared.table.Listing.{Listing}
+use Rattle.esx_types.specs.declared.table.Listing.TheVariants as listings
+use Rattle.esx_model.specs.declared.book.VmRow.{VmRow}
 use Rattle.esx_model.specs.declared.tables.Tables.{Tables}
 
 -- the row of a frame after one of its pages left
@@ -38,26 +38,26 @@ more bytes true (frames.Shared count old) = frames.Shared (count + 1) bytes
 
 -- what the frame stands under after a page left it: a frame that others stay in keeps its key
 abbrev pub listing_after : FrameRow → Listing → Listing
-listing_after frames.Free old = listings.Nothing
-listing_after frames.Overhead old = listings.Nothing
-listing_after (frames.Private bytes) old = listings.Nothing
+listing_after frames.Free old = listings.Unlisted
+listing_after frames.Overhead old = listings.Unlisted
+listing_after (frames.Private bytes) old = listings.Unlisted
 listing_after (frames.Shared count bytes) old = old
 
 -- what it stands under after a page came: the key of its content if it is shared, else nothing
 abbrev pub listing_for : List ℕ → Bool → Listing
-listing_for bytes false = listings.Nothing
+listing_for bytes false = listings.Unlisted
 listing_for bytes true = listings.Shared (content_key bytes)
 
 -- a listing gives way to a hint that comes under its key
 abbrev pub listing_without : ℕ → Listing → Listing
-listing_without key listings.Nothing = listings.Nothing
+listing_without key listings.Unlisted = listings.Unlisted
 listing_without key (listings.Shared k) = listings.Shared k
-listing_without key (listings.Hinted k n page) = if k == key then listings.Nothing else listings.Hinted k n page
+listing_without key (listings.Hinted n page k) = if k == key then listings.Unlisted else listings.Hinted n page k
 
 abbrev pub listing_at : List Listing → ℕ → Listing
-listing_at rows f = slice_index_or rows f listings.Nothing
+listing_at rows f = slice_index_or rows f listings.Unlisted
 
-abbrev pub put_vm : Tables → ℕ → Option VmTable → Tables
+abbrev pub put_vm : Tables → ℕ → Option VmRow → Tables
 put_vm b n row = record b { vms = slice_set b.vms n row }
 
 abbrev pub put_frame : Tables → ℕ → FrameRow → Listing → Tables

@@ -1,5 +1,5 @@
 -- The tables that show a site.
-use Rattle.std.specs.Prelude.{ℕ, ◌+◌, Bool, true, false, ◌==◌, nat_le, List, [], ◌∷◌, length, map, Option, option_map, filter, if◌then◌else◌}
+use Rattle.std.specs.Prelude.{ℕ, ◌+◌, Bool, true, false, ◌==◌, List, [], ◌∷◌, length, map, Option, option_map, filter, if◌then◌else◌}
 use Rattle.std.specs.List.{list_any, range_with_len}
 use Rattle.esx_types.specs.declared.config.Config.{Config}
 use Rattle.esx_types.specs.declared.level.Level.{Level}
@@ -17,7 +17,8 @@ use Rattle.esx_model.specs.declared.scene.Site.{Site}
 use Rattle.esx_model.specs.declared.scene.Scene.{Scene}
 use Rattle.esx_model.specs.declared.book.PeriodRow.{PeriodRow}
 use Rattle.esx_model.specs.declared.book.VmRow.{VmRow}
-use Rattle.esx_model.specs.declared.book.KeyRow.{KeyRow}
+use Rattle.esx_types.specs.declared.table.KeyRow.{KeyRow}
+use Rattle.esx_types.specs.Listings.{with_placed}
 use Rattle.esx_model.specs.declared.book.Book.{Book}
 use Rattle.esx_formulas.specs.Average.{slow_average, fast_average, is_touched}
 use Rattle.esx_formulas.specs.Key.{content_key}
@@ -101,8 +102,7 @@ slot_rows n s = map (slot_row s) (range_with_len 0 n)
 
 -- a row at its place in the order of keys
 abbrev pub with_key : KeyRow → List KeyRow → List KeyRow
-with_key row [] = row ∷ []
-with_key row (x ∷ xs) = if nat_le row.key x.key then row ∷ x ∷ xs else x ∷ with_key row xs
+with_key row rows = with_placed (λ (x : KeyRow). x.key) row rows
 
 -- the shared frames from frame f on, each under the key of its content
 abbrev pub shared_from : ℕ → List FrameRow → List KeyRow

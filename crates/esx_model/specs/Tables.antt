@@ -1,5 +1,5 @@
 -- The tables that a machine keeps of a site, and the book that is read from them.
-use Rattle.std.specs.Prelude.{ℕ, ◌+◌, ◌-◌, ◌==◌, Bool, List, [], ◌∷◌, ◌++◌, length, map, take, replicate, Option, option_map, Some, None, find, if◌then◌else◌}
+use Rattle.std.specs.Prelude.{ℕ, ◌==◌, Bool, List, map, Option, option_map, Some, None, find, if◌then◌else◌}
 use Rattle.std.specs.List.{range_with_len}
 use Rattle.esx_types.specs.declared.config.Config.{Config}
 use Rattle.esx_types.specs.declared.level.Level.{Level}
@@ -12,21 +12,20 @@ use Rattle.esx_formulas.specs.Key.{content_key}
 use Rattle.esx_model.specs.declared.scene.Place.{Place}
 use Rattle.esx_model.specs.declared.scene.Place.TheVariants.{Untouched, Here, Out, Lent}
 use Rattle.esx_model.specs.declared.scene.Vm.{Vm}
-use Rattle.esx_model.specs.declared.scene.Hint.{Hint}
+use Rattle.esx_types.specs.declared.table.Hint.{Hint}
 use Rattle.esx_model.specs.declared.scene.Site.{Site}
 use Rattle.esx_model.specs.declared.book.VmRow.{VmRow}
-use Rattle.esx_model.specs.declared.book.KeyRow.{KeyRow}
+use Rattle.esx_types.specs.declared.table.KeyRow.{KeyRow}
 use Rattle.esx_model.specs.declared.book.Book.{Book}
 use Rattle.esx_model.specs.declared.look.Standing.{Standing}
-use Rattle.esx_model.specs.declared.tables.Listing.{Listing}
-use Rattle.esx_model.specs.declared.tables.Listing.TheVariants as listings
-use Rattle.esx_model.specs.declared.tables.VmFacts.{VmFacts}
-use Rattle.esx_model.specs.declared.tables.VmTable.{VmTable}
+use Rattle.esx_types.specs.declared.table.Listing.{Listing}
+use Rattle.esx_types.specs.declared.table.Listing.TheVariants as listings
+use Rattle.esx_types.specs.Listings.{in_order, hints_of, shared_from}
+use Rattle.esx_types.specs.Pages.{resident_count, out_count, lent_count}
 use Rattle.esx_model.specs.declared.tables.Tables.{Tables}
 use Rattle.esx_model.specs.Places.{is_here_at}
-use Rattle.esx_model.specs.Site.{place_of, resident, paged_out, lent}
-use Rattle.esx_model.specs.Hints.{in_order}
-use Rattle.esx_model.specs.Show.{frame_row, frame_rows, slot_rows, period_row, with_key}
+use Rattle.esx_model.specs.Site.{place_of}
+use Rattle.esx_model.specs.Show.{frame_row, frame_rows, slot_rows, period_row}
 
 -- where a page is, without its bytes
 abbrev pub raw_place : Place → MapRow
@@ -35,49 +34,37 @@ raw_place (Here bytes frame shared) = maps.Here frame
 raw_place (Out bytes slot) = maps.Out slot
 raw_place (Lent epoch) = maps.Lent epoch
 
-abbrev pub facts_of : Vm → VmFacts
-facts_of v = record {
+-- a machine's row, in which a loan stands with its epoch, also one that is over
+abbrev pub vm_table : Vm → VmRow
+vm_table v = record {
   spec = v.spec;
   state = v.state;
   epoch = v.epoch;
   due = v.due;
   target = v.target;
-  held = length v.overhead;
-  resident = resident v;
-  out = paged_out v;
-  lent = lent v;
+  overhead = v.overhead;
+  pages = map raw_place v.places;
   slow = slow_average v.closed;
   fast = fast_average v.closed;
-}
-
--- a list with zeros up to so many entries
-abbrev pub filled : ℕ → List ℕ → List ℕ
-filled n xs = xs ++ replicate (n - length xs) 0
-
-abbrev pub vm_table : Vm → VmTable
-vm_table v = record {
-  facts = facts_of v;
-  overhead = filled v.spec.overhead v.overhead;
-  pages = map raw_place v.places;
   period = option_map period_row v.period;
 }
 
--- What gates read of a row: for a machine's row it is what they read of the machine.
-abbrev pub standing_of : VmTable → Standing
-standing_of v = record { spec = v.facts.spec; state = v.facts.state; target = v.facts.target; resident = v.facts.resident; out = v.facts.out; lent = v.facts.lent }
+-- what gates read of a row; of a machine's row it is what they read of the machine
+abbrev pub standing_of : VmRow → Standing
+standing_of v = record { spec = v.spec; state = v.state; target = v.target; resident = resident_count v.pages; out = out_count v.pages; lent = lent_count v.epoch v.pages }
 
 -- the hint's page is in frame f
 abbrev pub is_hint_in : Site → ℕ → Hint → Bool
 is_hint_in s f h = is_here_at f (place_of s h.vm h.page)
 
 abbrev pub hint_listing : Option Hint → Listing
-hint_listing None = listings.Nothing
-hint_listing (Some h) = listings.Hinted h.key h.vm h.page
+hint_listing None = listings.Unlisted
+hint_listing (Some h) = listings.Hinted h.vm h.page h.key
 
 -- a shared frame stands under its key, a private one under that of its page's hint
 abbrev pub listing_by : FrameRow → Option Hint → Listing
-listing_by frames.Free hint = listings.Nothing
-listing_by frames.Overhead hint = listings.Nothing
+listing_by frames.Free hint = listings.Unlisted
+listing_by frames.Overhead hint = listings.Unlisted
 listing_by (frames.Private bytes) hint = hint_listing hint
 listing_by (frames.Shared count bytes) hint = listings.Shared (content_key bytes)
 
@@ -104,33 +91,15 @@ read_place epoch (maps.Here frame) = maps.Here frame
 read_place epoch (maps.Out slot) = maps.Out slot
 read_place epoch (maps.Lent e) = if e == epoch then maps.Lent e else maps.Untouched
 
-abbrev pub read_vm : VmTable → VmRow
-read_vm v = record {
-  spec = v.facts.spec;
-  state = v.facts.state;
-  epoch = v.facts.epoch;
-  due = v.facts.due;
-  target = v.facts.target;
-  overhead = take v.facts.held v.overhead;
-  pages = map (read_place v.facts.epoch) v.pages;
-  slow = v.facts.slow;
-  fast = v.facts.fast;
-  period = v.period;
-}
+abbrev pub read_vm : VmRow → VmRow
+read_vm v = record v { pages = map (read_place v.epoch) v.pages }
 
--- the hints that the listings name, in order of key
-unfoldable pub read_hints : List Listing → List Hint
-read_hints [] = []
-read_hints (listings.Nothing ∷ rows) = read_hints rows
-read_hints (listings.Shared key ∷ rows) = read_hints rows
-read_hints (listings.Hinted key n page ∷ rows) = in_order (record { key = key; vm = n; page = page }) (read_hints rows)
+-- the hints that the listings name, and the shared frames, both in order of key
+abbrev pub read_hints : List Listing → List Hint
+read_hints rows = in_order (λ (h : Hint). h.key) (hints_of rows)
 
--- the shared frames from frame f on, in order of key
-unfoldable pub read_keys : ℕ → List Listing → List KeyRow
-read_keys f [] = []
-read_keys f (listings.Nothing ∷ rows) = read_keys (f + 1) rows
-read_keys f (listings.Shared key ∷ rows) = with_key (record { key = key; frame = f }) (read_keys (f + 1) rows)
-read_keys f (listings.Hinted key n page ∷ rows) = read_keys (f + 1) rows
+abbrev pub read_keys : List Listing → List KeyRow
+read_keys rows = in_order (λ (row : KeyRow). row.key) (shared_from 0 rows)
 
 abbrev pub book_from : Tables → Level → Book
 book_from t level = record {
@@ -138,7 +107,7 @@ book_from t level = record {
   slots = t.slots;
   vms = map (option_map read_vm) t.vms;
   hints = read_hints t.listings;
-  shared = read_keys 0 t.listings;
+  shared = read_keys t.listings;
   tau = t.tau;
   level = level;
 }

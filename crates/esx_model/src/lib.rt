@@ -4,10 +4,11 @@
 pub mod book;
 pub mod laws;
 pub mod look;
+pub mod reserve_laws;
 pub mod scene;
 pub mod tables;
 
-pub use book::{Book, KeyRow, Mark, PeriodRow, VmRow};
+pub use book::{Book, Mark, PeriodRow, VmRow};
 pub use look::{Look, Standing};
-pub use scene::{Hint, Place, Scene, Site, Vm};
-pub use tables::{Listing, Tables, VmFacts, VmTable};
+pub use scene::{Place, Scene, Site, Vm};
+pub use tables::Tables;

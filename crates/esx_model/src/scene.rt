@@ -1,7 +1,7 @@
 //! The model: where each page is, and what each virtual machine has done.
 
 use esx_formulas::{Estimate, Period};
-use esx_types::{Bytes, Level, Rows, VmId, VmSpec, VmState};
+use esx_types::{Bytes, Hint, Level, Rows, VmId, VmSpec, VmState};
 
 /// Where a page of a virtual machine is.
 #[derive(Debug, Drop)]
@@ -42,14 +42,6 @@ pub struct Vm {
     /// The sample periods that closed since it was admitted, the oldest first.
     pub closed: Rows<Estimate>,
     pub period: Option<Period>,
-}
-
-/// A page that another page with its content may be shared with.
-#[derive(Clone, Copy, Debug, PartialEq, Eq)]
-pub struct Hint {
-    pub key: u64,
-    pub vm: VmId,
-    pub page: u32,
 }
 
 /// The virtual machines at their numbers, the hints in order of key, and the idle memory tax in percent.

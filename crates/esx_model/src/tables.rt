@@ -1,54 +1,15 @@
 //! The tables that a machine keeps of a site, as it keeps them.
 
-use crate::book::PeriodRow;
-use esx_types::{FrameRow, MapRow, Rows, SlotRow, VmId, VmSpec, VmState};
+use crate::book::VmRow;
+use esx_types::{FrameRow, Listing, Rows, SlotRow};
 
-/// What a virtual machine's row tells in small numbers.
-///
-/// `held` is how many overhead frames it has; `resident`, `out` and `lent` are how many of its pages are in
-/// frames, in slots and lent in the present epoch. The averages are in units of 1/65,536.
-#[derive(Clone, Copy, Debug, PartialEq, Eq)]
-pub struct VmFacts {
-    pub spec: VmSpec,
-    pub state: VmState,
-    pub epoch: u32,
-    pub due: bool,
-    pub target: u32,
-    pub held: u32,
-    pub resident: u32,
-    pub out: u32,
-    pub lent: u32,
-    pub slow: u32,
-    pub fast: u32,
-}
-
-/// A virtual machine's row.
-#[derive(Debug, Drop)]
-pub struct VmTable {
-    pub facts: VmFacts,
-    /// `spec.overhead` entries, of which the first `held` are its overhead frames and the others are 0.
-    pub overhead: Rows<u32>,
-    /// Where each page is. A loan stands with its epoch, also one that is over.
-    pub pages: Rows<MapRow>,
-    pub period: Option<PeriodRow>,
-}
-
-/// What a frame stands under in the order of keys.
-#[derive(Clone, Copy, Debug, PartialEq, Eq)]
-pub enum Listing {
-    Nothing,
-    /// Its pages are shared, under the key of their content.
-    Shared { key: u64 },
-    /// Its one page is the hint under a key.
-    Hinted { key: u64, vm: VmId, page: u32 },
-}
-
-/// Every table of a site, and the idle memory tax in percent.
+/// Every table of a site, and the idle memory tax in percent. In a machine's row a loan stands with its
+/// epoch, also one that is over.
 #[derive(Debug, Drop)]
 pub struct Tables {
     pub frames: Rows<FrameRow>,
     pub slots: Rows<SlotRow>,
-    pub vms: Rows<Option<VmTable>>,
+    pub vms: Rows<Option<VmRow>>,
     /// One for each frame.
     pub listings: Rows<Listing>,
     pub tau: u32,

@@ -17,7 +17,7 @@ use Rattle.esx_types.specs.declared.event.Event.TheVariants.{Admit, Start, Read,
 use Rattle.esx_types.specs.declared.event.Answer.{Answer}
 use Rattle.esx_types.specs.declared.event.Answer.TheVariants as answers
 use Rattle.esx_types.specs.declared.event.Refusal.{Refusal}
-use Rattle.esx_types.specs.declared.event.Refusal.TheVariants.{NoVm, VmThere, BadSpec, NoMemoryReserve, NoSwapReserve, NotRunning, OutOfRange, Held, Short, NotNeeded, NothingToUndo, NothingToRedo, Full, OutOfMemory}
+use Rattle.esx_types.specs.declared.event.Refusal.TheVariants.{NoVm, VmThere, BadSpec, NoMemoryReserve, NoSwapReserve, NotRunning, OutOfRange, Held, Short, NotNeeded, NothingToUndo, NothingToRedo, NoSuchNode, NameTaken, NoSuchName, OnPath, Full, OutOfMemory}
 use Rattle.esx_plain.specs.declared.scene.Place.{Place}
 use Rattle.esx_plain.specs.declared.scene.Place.TheVariants.{Untouched, Here, Out, Lent}
 use Rattle.esx_types.specs.declared.vm.VmState.{VmState}
@@ -422,6 +422,10 @@ fault_runs i Short d h = h (λ x. cc)
 fault_runs i NotNeeded d h = h (λ x. cc)
 fault_runs i NothingToUndo d h = h (λ x. cc)
 fault_runs i NothingToRedo d h = h (λ x. cc)
+fault_runs i NoSuchNode d h = h (λ x. cc)
+fault_runs i NameTaken d h = h (λ x. cc)
+fault_runs i NoSuchName d h = h (λ x. cc)
+fault_runs i OnPath d h = h (λ x. cc)
 fault_runs i Full d h = h (λ x. cc)
 
 -- A path that is one event longer.

@@ -1,6 +1,7 @@
 -- What a console answers, as a function of the calls so far.
 use Rattle.std.specs.Prelude.{◌≡◌, ℕ, List, [], ◌∷◌, ◌++◌, length, Option, Some, None, Result, Ok, Err}
 use Rattle.esx_types.specs.declared.config.Config.{Config}
+use Rattle.esx_types.specs.declared.level.Level.{Level}
 use Rattle.esx_types.specs.declared.event.Answer.{Answer}
 use Rattle.esx_types.specs.declared.event.Refusal.{Refusal}
 use Rattle.esx_types.specs.declared.event.Refusal.TheVariants.{NothingToUndo, NothingToRedo}
@@ -11,7 +12,7 @@ use Rattle.esx_types.specs.declared.call.Said.TheVariants as said
 use Rattle.esx_types.specs.declared.call.PageState.{PageState}
 use Rattle.esx_types.specs.declared.call.Reply.{Reply}
 use Rattle.esx_types.specs.declared.call.Line.{Line}
-use Rattle.esx_plain.specs.Readings.{sum_of, page_state}
+use Rattle.esx_plain.specs.Readings.{sum_of, gauge_in, page_state}
 use Rattle.esx_plain.specs.History.{History, opened, cursor, here, book_at, do_event, undo, redo}
 
 -- what is said, and the history after it
@@ -79,3 +80,7 @@ next_reply s call = reply_to (history s) call
 -- the session with one more line
 abbrev pub lined : Session → ℕ → Call → Session
 lined s caller call = record s { log = s.log ++ record { caller = caller; call = call; reply = next_reply s call } ∷ [] }
+
+-- the gauge of the tables after a session
+abbrev pub gauge_of : Session → ℕ × Level
+gauge_of s = gauge_in (book_at (history s))

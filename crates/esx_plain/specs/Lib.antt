@@ -13,7 +13,10 @@ pub mod Show
 pub mod Replay
 pub mod Sound
 pub mod Readings
+pub mod Tree
 pub mod History
+pub mod Branching
+pub mod WhatIf
 pub mod Console
 pub mod Access
 pub mod Shown

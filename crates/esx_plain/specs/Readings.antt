@@ -3,6 +3,7 @@ use Rattle.std.specs.Prelude.{◌≡◌, ℕ, ◌+◌, Bool, true, false, ◌&&�
 use Rattle.std.specs.List.{list_any}
 use Rattle.esx_types.specs.declared.event.Refusal.{Refusal}
 use Rattle.esx_types.specs.declared.event.Refusal.TheVariants.{NoVm, OutOfRange}
+use Rattle.esx_types.specs.declared.level.Level.{Level}
 use Rattle.esx_types.specs.declared.table.FrameRow.{FrameRow}
 use Rattle.esx_types.specs.declared.table.FrameRow.TheVariants.{Free, Overhead, Private, Shared}
 use Rattle.esx_types.specs.declared.table.MapRow.{MapRow}
@@ -46,6 +47,10 @@ sum_of b = record {
   free = count_by is_free b.frames;
   level = b.level;
 }
+
+-- how scarce frames are: how many are free, and the level
+abbrev pub gauge_in : Book → ℕ × Level
+gauge_in b = (count_by is_free b.frames, b.level)
 
 -- the frames of all kinds are so many
 abbrev pub AddUpTo : ℕ → Sum → Type 0

@@ -2,17 +2,18 @@
 
 ghost use Rattle.std.specs.Prelude.{◌≡◌, ℕ, ◌+◌, length, Some, None, true, false};
 ghost use Rattle.esx_types.specs.declared.event.Event.{Event};
-ghost use Rattle.esx_plain.specs.History.{History, parent, alive, cursor, child, done, up_once, down_to};
+ghost use Rattle.esx_plain.specs.Tree.{parent, alive};
+ghost use Rattle.esx_plain.specs.History.{History, cursor, child, done, up_once, down_to};
 
 /// After the cursor went down to a node and up again, a redo goes to that node; where it was pruned, nowhere.
-#[tactic(auto, unfolding(crate::specs::History::child, crate::specs::History::up_once, crate::specs::History::at, crate::specs::History::last_descent))]
+#[tactic(auto, unfolding(crate::specs::History::child, crate::specs::History::up_once, crate::specs::Tree::at, crate::specs::Tree::last_descent))]
 pub fn redo_goes_where_the_cursor_came_from()
     ensures standing { (h : History) (node : ℕ) → alive h.nodes node ≡ true → child (up_once (down_to h node)) ≡ Some node }
     ensures pruned { (h : History) (node : ℕ) → alive h.nodes node ≡ false → child (up_once (down_to h node)) ≡ None }
 {}
 
 /// An accepted event is a new node under the cursor's, and the cursor goes there; one step up leads back.
-#[tactic(auto, unfolding(crate::specs::History::done, crate::specs::History::child, crate::specs::History::up_once, crate::specs::History::at, crate::specs::History::parent, crate::specs::History::alive, crate::specs::History::last_descent))]
+#[tactic(auto, unfolding(crate::specs::History::done, crate::specs::History::child, crate::specs::History::up_once, crate::specs::Tree::at, crate::specs::Tree::parent, crate::specs::Tree::alive, crate::specs::Tree::last_descent))]
 pub fn event_is_a_child()
     ensures node { (event : Event) (h : History) → cursor (done event h) ≡ length h.nodes + 1 }
     ensures parent { (event : Event) (h : History) → parent (done event h).nodes (cursor (done event h)) ≡ cursor h }

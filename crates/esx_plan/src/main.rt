@@ -1,18 +1,28 @@
 //! The program: a console over the standard streams.
 #![tactic(auto)]
 
+ghost use Rattle.std.specs.Prelude.{IfOk};
+ghost use Rattle.esx_types.specs.Ranges.{IsConfig};
+
+mod opening;
 mod outgoing;
 mod site;
 mod streams;
+mod words;
 
+use esx_reading::TextFault;
 use esx_text::ServeFault;
 use esx_types::Config;
+use opening::site_of_reader;
 use std::alloc::AllocGlobal;
 use std::env::{self, Env};
+use std::fs;
 use std::io::{self, ErrorKind, Input, Print};
 use std::process::ExitCode;
+use std::rt::Files;
 use streams::serve_streams;
 use thiserror::Error;
+use words::{WordsFault, file_of_words};
 
 /// The site of a console that is given no scenario: 20 frames of 16 bytes and 8 swap slots.
 const SITE: Config = Config {
@@ -33,6 +43,8 @@ enum Failure {
     #[error("wrong words")]
     Words,
     #[error("{0}")]
+    Text(TextFault),
+    #[error("{0}")]
     Serve(ServeFault),
 }
 
@@ -46,19 +58,24 @@ impl Failure {
     {
         match self {
             Failure::Words => 2,
+            Failure::Text(TextFault::OutOfMemory) => 3,
+            Failure::Text(_) => 1,
             Failure::Serve(ServeFault::Read | ServeFault::Write) => 1,
             Failure::Serve(ServeFault::OutOfMemory) => 3,
         }
     }
 }
 
-/// How many words stand after the program's name.
-fn count_words<R: Env + AllocGlobal>(rt: &R) -> Result<usize, Failure> {
+/// The words that the program was given, its name first.
+fn all_words<R: Env + AllocGlobal>(rt: &R) -> Result<Vec<String>, Failure> {
     match env::args(rt) {
-        Ok(words) => Ok(words.skip(1).count()),
+        Ok(words) => match words.collect(rt.alloc()) {
+            Ok(words) => Ok(words),
+            Err(_) => Err(Failure::Text(TextFault::OutOfMemory)),
+        },
         Err(error) => {
             if error.kind() == ErrorKind::OutOfMemory {
-                Err(Failure::Serve(ServeFault::OutOfMemory))
+                Err(Failure::Text(TextFault::OutOfMemory))
             } else {
                 Err(Failure::Words)
             }
@@ -66,21 +83,49 @@ fn count_words<R: Env + AllocGlobal>(rt: &R) -> Result<usize, Failure> {
     }
 }
 
-/// Serves the standard input to the standard output.
-fn run_console<R: Input + Print + AllocGlobal>(rt: &R) -> Result<(), Failure> {
-    match serve_streams(rt.alloc(), SITE, rt.reader(), io::writer(rt)).ended {
+/// The site of the scenario in a file.
+fn site_of_file<R: Files + AllocGlobal>(rt: &R, path: &str) -> Result<Config, TextFault>
+    ensures { IfOk result IsConfig }
+{
+    match fs::open(rt, path) {
+        Ok(file) => site_of_reader(rt.alloc(), file),
+        Err(error) => {
+            if error.kind() == ErrorKind::OutOfMemory {
+                Err(TextFault::OutOfMemory)
+            } else {
+                Err(TextFault::Read)
+            }
+        }
+    }
+}
+
+/// The site that the words ask for.
+fn site_of_words<R: Env + Files + AllocGlobal>(rt: &R) -> Result<Config, Failure>
+    ensures { IfOk result IsConfig }
+{
+    let words = all_words(rt)?;
+    match file_of_words(rt.alloc(), words.as_slice()) {
+        Ok(Some(path)) => match site_of_file(rt, path) {
+            Ok(config) => Ok(config),
+            Err(fault) => Err(Failure::Text(fault)),
+        },
+        Ok(None) => Ok(SITE),
+        Err(WordsFault::Wrong) => Err(Failure::Words),
+        Err(WordsFault::OutOfMemory) => Err(Failure::Text(TextFault::OutOfMemory)),
+    }
+}
+
+/// Serves the standard input to the standard output, at the site that the words ask for.
+fn run_console<R: Env + Files + Input + Print + AllocGlobal>(rt: &R) -> Result<(), Failure> {
+    let site = site_of_words(rt)?;
+    match serve_streams(rt.alloc(), site, rt.reader(), io::writer(rt)).ended {
         Ok(_) => Ok(()),
         Err(fault) => Err(Failure::Serve(fault)),
     }
 }
 
 fn main(rt: HostRuntime) -> ExitCode {
-    let ended = match count_words(&rt) {
-        Ok(0) => run_console(&rt),
-        Ok(_) => Err(Failure::Words),
-        Err(failure) => Err(failure),
-    };
-    match ended {
+    match run_console(&rt) {
         Ok(()) => ExitCode::from(0),
         Err(failure) => {
             let status = failure.status();

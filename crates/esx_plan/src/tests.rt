@@ -1,12 +1,14 @@
 //! Worked examples, each through the whole console. What they answer was worked out by hand.
 
 mod ends;
+mod opening;
 
 ghost use Rattle.std.specs.Prelude.{◌≡◌, ◌≤◌};
 ghost use Rattle.esx_types.specs.Ranges.{IsConfig};
 
 use crate::site::serve_site;
 use crate::{Failure, SITE};
+use esx_reading::TextFault;
 use esx_text::{ServeFault, parse_command, print_command, print_reply};
 use esx_types::{Config, MemorySink, MemorySource, PageState, Reply, Said};
 use std::alloc::Global;
@@ -182,6 +184,9 @@ fn full(rt: HostRuntime) -> Result<(), Fail> {
 #[test]
 fn statuses(rt: HostRuntime) {
     assert_eq!(rt; Failure::Words.status(), 2);
+    assert_eq!(rt; Failure::Text(TextFault::NotToml).status(), 1);
+    assert_eq!(rt; Failure::Text(TextFault::Read).status(), 1);
+    assert_eq!(rt; Failure::Text(TextFault::OutOfMemory).status(), 3);
     assert_eq!(rt; Failure::Serve(ServeFault::Read).status(), 1);
     assert_eq!(rt; Failure::Serve(ServeFault::Write).status(), 1);
     assert_eq!(rt; Failure::Serve(ServeFault::OutOfMemory).status(), 3);

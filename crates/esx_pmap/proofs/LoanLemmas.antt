@@ -1,20 +1,16 @@
 -- Loans after a change of one of them, and what a place tells.
-use Rattle.std.proofs.Common.{◌≡◌, ◌≢◌, ℕ, zero, suc, ◌+◌, ◌-◌, ◌<◌, ◌≤◌, Bool, true, false, eqb, cond, List, [], ◌∷◌, length, get_or, set, refl, sym, ap, ◌∙◌, inl, inr, arith, get_or-set_same, get_or-set_other, ltb}
-use Rattle.std.specs.List.{insert, remove, sum_by}
-use Rattle.std.proofs.lemmas.Bool.{cases_eq, cases_lt, cases_order, eqb-true, eq-eqb, ne_eqb, lt-ltb, le-ltb}
-use Rattle.std.proofs.lemmas.Bool.Decides.{nat_tests}
-use Rattle.std.proofs.lemmas.List.{length-set, get_or_past}
+use Rattle.std.proofs.Common.{◌≡◌, ◌≢◌, ℕ, zero, suc, ◌+◌, ◌-◌, ◌<◌, ◌≤◌, eqb, List, [], ◌∷◌, length, set, refl, sym, ap, ◌∙◌, inl, inr, arith, get_or-set_same, get_or-set_other}
+use Rattle.std.specs.List.{insert, remove}
+use Rattle.std.proofs.lemmas.Bool.{cases_eq, cases_lt, cases_order, eq-eqb, ne_eqb}
+use Rattle.std.proofs.lemmas.List.{length-set}
 use Rattle.std.proofs.lemmas.List.Edits.{get_or-insert_at, get_or-insert_below, get_or-insert_above, length-insert, get_or-remove_below, get_or-remove_above, length-remove}
 use Rattle.std.specs.List.Sorted.{IsNonDecreasingBy}
 use Rattle.std.proofs.lemmas.List.Sorted.{IsNonDecreasingBy-from_default}
-use Rattle.std.proofs.lemmas.List.Sums.{sum_by-cons, sum_by-set, sum_by-insert, sum_by-remove}
+use Rattle.std.proofs.lemmas.List.Sums.{sum_by-cons, sum_by-set, sum_by-remove}
 use Rattle.esx_lists.specs.Counts.{one}
 use Rattle.esx_lists.proofs.Counts.{sum_of_none, sum_of_one}
 use Rattle.esx_pmap.specs.declared.loans.Loan.{Loan}
-use Rattle.esx_pmap.specs.Loans.{loan_at, AreLoans, IsPlace, lent_of, lent_in, all_lent}
-
-abbrev no_loan : Loan
-no_loan = record { epoch = 0; count = 0 }
+use Rattle.esx_pmap.specs.Loans.{no_loan, loan_at, AreLoans, IsPlace, lent_of, lent_in, all_lent}
 
 -- what a loan adds to an epoch's pages
 own : (e : ℕ) (l : Loan) → l.epoch ≡ e → lent_of e l ≡ l.count

@@ -1,5 +1,5 @@
 -- A page map's counts, after a change and in a search.
-use Rattle.std.proofs.Common.{◌≡◌, ◌≢◌, ℕ, zero, suc, ◌+◌, ◌-◌, ◌*◌, ◌/◌, ◌%◌, ◌^◌, ◌<◌, ◌≤◌, min, Bool, true, false, cond, List, [], ◌∷◌, length, get_or, set, take, drop, replicate, sum, count_by, refl, sym, ap, ◌∙◌, inl, inr, mul-zero, arith, get_or-set_same, get_or-set_other}
+use Rattle.std.proofs.Common.{◌≡◌, ◌≢◌, ℕ, zero, suc, ◌+◌, ◌-◌, ◌*◌, ◌/◌, ◌%◌, ◌^◌, ◌<◌, ◌≤◌, min, Bool, true, false, cond, List, [], ◌∷◌, length, get_or, set, take, drop, replicate, sum, count_by, refl, sym, ap, ◌∙◌, inl, inr, arith, get_or-set_same, get_or-set_other}
 use Rattle.std.specs.Int.{div_ceil}
 use Rattle.std.proofs.Math.Seq.{take-add, take-set-lt}
 use Rattle.std.proofs.lemmas.Bool.{cases_eq, cases_lt}
@@ -7,13 +7,13 @@ use Rattle.std.proofs.lemmas.List.{length-set, length-take, length-drop, length-
 use Rattle.std.proofs.lemmas.List.Sums.{sum_by-cons, sum_by_more, sum_by-append, sum_by-take-le, count_by-le-length}
 use Rattle.esx_types.specs.declared.table.MapRow.{MapRow}
 use Rattle.esx_types.specs.declared.table.MapRow.TheVariants.{Untouched, Lent}
-use Rattle.esx_types.specs.Pages.{is_here, is_out, is_lent, is_lent_in, page_at, resident_from, resident_count, resident_pages, out_count}
+use Rattle.esx_types.specs.Pages.{is_here, is_out, is_lent, is_lent_in, page_at, resident_from, resident_count, resident_pages}
 use Rattle.esx_lists.specs.Counts.{one}
 use Rattle.esx_pmap.specs.Blocks.{block_count}
 use Rattle.esx_pmap.specs.declared.loans.Loan.{Loan}
 use Rattle.esx_pmap.specs.Loans.{AreLoans, lent_in, all_lent}
 use Rattle.esx_pmap.specs.Map.{IsMap, AreLent}
-use Rattle.esx_lists.proofs.Counts.{count_by-set, count_by-set-fits, counted_there, count_by-replicate}
+use Rattle.esx_lists.proofs.Counts.{count_by-set, counted_there, count_by-replicate}
 
 -- a page's place within its block
 in_block : (rows : List MapRow) (i : ℕ) → i < length rows → i % 256 < length (take 256 (drop (i / 256 * 256) rows))

@@ -1,9 +1,12 @@
 -- How many pages are lent in each epoch, in the order of the epochs.
-use Rattle.std.specs.Prelude.{◌≡◌, ℕ, ◌<◌, ◌≤◌, ◌==◌, List, length, slice_index_or, sum_by, if◌then◌else◌}
+use Rattle.std.specs.Prelude.{ℕ, ◌<◌, ◌≤◌, ◌==◌, List, length, slice_index_or, sum_by, if◌then◌else◌}
 use Rattle.esx_pmap.specs.declared.loans.Loan.{Loan}
 
+abbrev pub no_loan : Loan
+no_loan = record { epoch = 0; count = 0 }
+
 abbrev pub loan_at : List Loan → ℕ → Loan
-loan_at loans k = slice_index_or loans k (record { epoch = 0; count = 0 })
+loan_at loans k = slice_index_or loans k no_loan
 
 -- the epochs rise, and in each some page is lent
 pub record AreLoans (loans : List Loan) : Type 0 where

@@ -8,7 +8,7 @@ ghost use Rattle.esx_pmap.specs.Blocks.{block_count};
 
 use crate::blocks::{nth_block, nth_here};
 use crate::loans::{Loan, enter, leave, lent_in};
-use esx_lists::moved;
+use esx_lists::recount;
 use esx_types::MapRow;
 use std::alloc::{AllocError, Global};
 use std::marker::Model;
@@ -81,10 +81,9 @@ impl PageMap {
         let at = page as usize;
         let old = self.rows[at];
         let (was, is) = (old.is_here(), row.is_here());
-        self.resident = moved(self.resident, was, is);
-        let count = moved(self.blocks[at / BLOCK], was, is);
-        self.blocks[at / BLOCK] = count;
-        self.out = moved(self.out, old.is_out(), row.is_out());
+        recount(&mut self.resident, was, is);
+        recount(&mut self.blocks[at / BLOCK], was, is);
+        recount(&mut self.out, old.is_out(), row.is_out());
         leave(&mut self.loans, &old);
         enter(&mut self.loans, row);
         std::mem::swap(&mut self.rows[at], row);
@@ -176,6 +175,25 @@ mod tests {
         assert_eq!(rt; map.resident(), 5);
         assert_eq!(rt; map.nth_resident(2), 511);
         assert_eq!(rt; map.block(1), 1);
+        Ok(())
+    }
+
+    #[test]
+    fn counts_pages_out_and_lent(rt: HostRuntime) -> Result<(), Fail> {
+        let mut map = PageMap::new(rt.alloc(), 4)?;
+        for (page, epoch) in [(0, 5), (1, 5), (2, 3), (9, 5)] {
+            map.trade(page, &mut MapRow::Lent { epoch });
+        }
+        map.trade(3, &mut MapRow::Out { slot: 0 });
+        assert_eq!(rt; map.out(), 1);
+        assert_eq!(rt; map.lent(5), 2);
+        assert_eq!(rt; map.lent(3), 1);
+        assert_eq!(rt; map.lent(4), 0);
+        let mut row = MapRow::Untouched;
+        map.trade(2, &mut row);
+        assert_eq!(rt; row, MapRow::Lent { epoch: 3 });
+        assert_eq!(rt; map.lent(3), 0);
+        assert_eq!(rt; map.rows().len(), 4);
         Ok(())
     }
 }

@@ -1,8 +1,6 @@
 -- What a change of one row does to the index of free rows, and to their number.
-use Rattle.std.proofs.Common.{◌≡◌, ℕ, ◌+◌, ◌-◌, ◌^◌, ◌<◌, ◌≤◌, Bool, true, false, cond, map, List, length, get_or, set, replicate, count_by, sym, ap, ◌∙◌, arith, mul-one}
-use Rattle.std.proofs.Math.Seq.{map-set_same}
-use Rattle.std.proofs.lemmas.List.{length-set, length-replicate, map-set}
-use Rattle.std.proofs.lemmas.List.Sums.{count_by-le-length}
+use Rattle.std.proofs.Common.{◌≡◌, ℕ, ◌+◌, ◌-◌, ◌^◌, ◌<◌, Bool, true, cond, map, List, length, set, replicate, sym, ◌∙◌, mul-one}
+use Rattle.std.proofs.lemmas.List.{length-set, length-replicate}
 use Rattle.std.proofs.lemmas.List.Folds.{sum_by-replicate}
 use Rattle.esx_lists.specs.Counts.{one}
 use Rattle.esx_lists.proofs.Counts.{count_by-set, map-replicate}

@@ -1,12 +1,12 @@
 //! The table: its rows, an index of the free ones, and their number.
 
-ghost use Rattle.std.specs.Prelude.{◌≡◌, ◌<◌, IfOk, count_by, length, replicate, slice_index_or, slice_set};
+ghost use Rattle.std.specs.Prelude.{◌≡◌, ◌<◌, IfOk, count_by, length, option_copied, replicate, slice_get, slice_index_or, slice_set};
 ghost use Rattle.esx_types.specs.declared.table.SlotRow.{SlotRow};
 ghost use Rattle.esx_types.specs.declared.table.SlotRow.TheVariants.{Free};
 ghost use Rattle.esx_types.specs.Slots.{is_empty, slot_at, least_slot};
 
 use esx_index::FreeIndex;
-use esx_lists::moved;
+use esx_lists::recount;
 use esx_types::SlotRow;
 use std::alloc::{AllocError, Global};
 use std::marker::Model;
@@ -68,12 +68,11 @@ impl Slots {
         self.rows.as_slice()
     }
 
-    /// The row of a slot.
-    pub fn row(&self, slot: u32) -> &SlotRow
-        requires { slot < length self.now }
-        ensures { result.now ≡ slot_at self.now slot }
+    /// The row of a slot; none past the end.
+    pub fn get(&self, slot: u32) -> Option<&SlotRow>
+        ensures { option_copied result ≡ slice_get self.now slot }
     {
-        &self.rows[slot as usize]
+        self.rows.get(slot as usize)
     }
 
     /// The least slot that is free; none where no slot is.
@@ -93,7 +92,7 @@ impl Slots {
         let at = slot as usize;
         let was = self.rows[at].is_empty();
         let is = row.is_empty();
-        self.count = moved(self.count, was, is);
+        recount(&mut self.count, was, is);
         if is != was {
             self.free.set(at, is);
         }
@@ -136,6 +135,21 @@ mod tests {
         assert_eq!(rt; slots.least_free(), Some(1));
         slots.swap_row(0, &mut row);
         assert_eq!(rt; slots.least_free(), Some(0));
+        Ok(())
+    }
+
+    #[test]
+    fn trades_and_counts(rt: HostRuntime) -> Result<(), Fail> {
+        let mut slots = Slots::new(rt.alloc(), 2)?;
+        let bytes = Bytes::from_vec(vec![in rt.alloc(); 7; 16]?);
+        let mut row = SlotRow::Held { bytes };
+        slots.trade(2, &mut row);
+        assert_eq!(rt; slots.free(), 2);
+        slots.trade(1, &mut row);
+        assert!(rt; row.is_empty());
+        assert_eq!(rt; slots.free(), 1);
+        assert_eq!(rt; slots.rows().len(), 2);
+        assert!(rt; slots.get(1).is_some());
         Ok(())
     }
 }

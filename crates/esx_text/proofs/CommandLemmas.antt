@@ -9,11 +9,13 @@ use Rattle.esx_types.specs.declared.config.TheConstants.{VM_NUMBERS}
 use Rattle.esx_types.specs.declared.event.Event.TheVariants.{Admit, Start, Read, Write}
 use Rattle.esx_types.specs.declared.call.Call.{Call}
 use Rattle.esx_types.specs.declared.call.Call.TheVariants.{Do, Undo, Redo, Sum, OfPage, Stand}
-use Rattle.esx_text.specs.Fields.{fields, joined}
-use Rattle.esx_text.specs.Command.{IsCommand, IsInRange, IsWritten, words, spelling, Refuses}
-use Rattle.esx_text.specs.declared.fault.TextFault.{TextFault}
-use Rattle.esx_text.specs.declared.fault.TextFault.TheVariants.{BadLine, OutOfMemory}
-use Rattle.esx_text.proofs.FieldLemmas.{ascii_joined, IsField, joined_of_fields, fields_of_joined, no_space_in_decimal, no_space_in_hex, no_space_in_known, other_word, others_of}
+use Rattle.esx_reading.specs.Fields.{fields, joined}
+use Rattle.esx_reading.specs.Faults.{Refuses}
+use Rattle.esx_reading.specs.Written.{IsWritten}
+use Rattle.esx_text.specs.Command.{IsCommand, IsInRange, words, spelling}
+use Rattle.esx_reading.specs.declared.fault.TextFault.{TextFault}
+use Rattle.esx_reading.specs.declared.fault.TextFault.TheVariants.{BadLine, OutOfMemory}
+use Rattle.esx_reading.proofs.FieldLemmas.{ascii_joined, IsField, joined_of_fields, fields_of_joined, no_space_in_decimal, no_space_in_hex, no_space_in_known, other_word, others_of}
 
 pub is_command : (text : List ℕ) (call : Call) → IsInRange call → fields text ≡ words call → IsCommand text call
 is_command text call range e = record { range = range; spelled = sym (joined_of_fields text) ∙ ap joined e }
@@ -108,6 +110,7 @@ pub refuses_text : (e : TextFault) (text : List ℕ) → Refuses e ((call : Call
     → Refuses e ((call : Call) → IsCommand text call → ⊥)
 refuses_text (BadLine n) text h = (h.0, λ call is. h.1 call is.range (fields_of_command text call is))
 refuses_text OutOfMemory text h = tt
+refuses_text _ text h = absurd h
 
 -- these fields are those of no call
 abbrev AreNone : List (List ℕ) → Type 0
@@ -143,6 +146,7 @@ refuses_rest : (e : TextFault) (rest : List (List ℕ)) → Refuses e ((vm page 
     → rest ≡ decimal vm ∷ decimal page ∷ decimal at ∷ encode_lower bytes ∷ [] → ⊥) → Refuses e (AreNone (codes "write" ∷ rest))
 refuses_rest (BadLine n) rest h = (h.0, no_write rest h.1)
 refuses_rest OutOfMemory rest h = tt
+refuses_rest _ rest h = absurd h
 
 pub refuses_write : (r : Result Call TextFault) (word : List ℕ) (all rest : List (List ℕ)) → word ≡ codes "write" → all ≡ word ∷ rest
     → IfErr r (λ e. Refuses e ((vm page at : ℕ) (bytes : List ℕ) → vm < VM_NUMBERS → page < 2 ^ 32 → at < 2 ^ 32 → IsWritten bytes

@@ -10,10 +10,10 @@ use Rattle.esx_plain.specs.Console.{Session}
 use Rattle.esx_text.specs.declared.fault.ServeFault.{ServeFault}
 use Rattle.esx_text.specs.declared.fault.ServeFault.TheVariants.{Read, Write, OutOfMemory}
 use Rattle.esx_text.specs.Lines.{HasNoFeed, EndsIn, line_of, last_line, lines, Keeps, Held}
-use Rattle.esx_text.specs.Answers.{IsAnswered, IsServed, Progress, Stops, Faults}
-use Rattle.esx_text.proofs.WritingLemmas.{appends_more, appends_nothing}
+use Rattle.esx_text.specs.Answers.{IsAnswered, IsServed, Progress, Stops}
+use Rattle.esx_text.proofs.WritingLemmas.{appends_more}
 use Rattle.esx_text.proofs.LineLemmas.{ended_keeps, last_keeps}
-use Rattle.esx_text.proofs.ProgressLemmas.{some_held, consumes_nothing}
+use Rattle.esx_text.proofs.ProgressLemmas.{some_held}
 
 abbrev ended_by_feed : List ℕ → List ℕ
 ended_by_feed piece = piece ++ 10 ∷ []

@@ -9,12 +9,13 @@ use Rattle.esx_types.specs.declared.call.Call.{Call}
 use Rattle.esx_types.specs.declared.call.Call.TheVariants.{Do, Undo, Redo, Sum, OfPage, Stand}
 use Rattle.esx_plain.specs.Console.{Session, next_reply, lined}
 use Rattle.esx_text.specs.Replies.{reply_text}
-use Rattle.esx_text.specs.Fields.{joined}
-use Rattle.esx_text.specs.Command.{IsCommand, IsInRange, IsWritten, words}
+use Rattle.esx_reading.specs.Fields.{joined}
+use Rattle.esx_reading.specs.Written.{IsWritten}
+use Rattle.esx_text.specs.Command.{IsCommand, IsInRange, words}
 use Rattle.esx_text.specs.Lines.{IsSilent, lines}
 use Rattle.esx_text.specs.Answers.{IsAnswered, AreAnswered, Serves}
 use Rattle.esx_text.specs.Answers.IsAnswered.{silent, asked, unknown}
-use Rattle.esx_text.proofs.FieldLemmas.{other_word, others_of}
+use Rattle.esx_reading.proofs.FieldLemmas.{other_word, others_of}
 use Rattle.esx_text.proofs.CommandLemmas.{fields_of_command}
 use Rattle.esx_text.proofs.OneSplit.{one_split}
 

@@ -1,5 +1,3 @@
-pub mod FieldLemmas
-pub mod HexField
 pub mod CommandLemmas
 pub mod WritingLemmas
 pub mod LineLemmas

@@ -1,6 +1,6 @@
 -- Lines, piece by piece.
 use Rattle.std.proofs.Common.{◌≡◌, ℕ, Bool, true, false, List, [], ◌∷◌, ◌++◌, ◌<◌, ◌≤◌, ◌+◌, refl, sym, ◌∙◌, ap, append_assoc, append-nil, take, length, arith, length-append, suc, zero, get_or, ◌↔◌}
-use Rattle.esx_text.proofs.FieldLemmas.{no_match}
+use Rattle.esx_reading.proofs.FieldLemmas.{no_match}
 use Rattle.std.proofs.lemmas.Grind.{flat_map-append}
 use Rattle.std.proofs.lemmas.List.Elements.{All-push, All-nil, All-append}
 use Rattle.std.specs.List.{flat_map}

@@ -1,5 +1,5 @@
 -- What stands after the answers that wait were handed on, and after that failed.
-use Rattle.std.proofs.Common.{◌≡◌, ℕ, List, [], ◌++◌, ◌+◌, ◌⊎◌, inl, inr, refl, arith, sym, ◌∙◌, append-nil, Option, None, Some, Result, Ok, Err, map}
+use Rattle.std.proofs.Common.{◌≡◌, ℕ, List, [], ◌+◌, ◌⊎◌, inl, inr, refl, arith, sym, ◌∙◌, append-nil, Option, None, Some, Result, Ok, Err, map}
 use Rattle.std.specs.Io.KnownBytes.{Keeps, Appends, Consumes}
 use Rattle.std.specs.Result.{IfOk, IfErr, IsErrAnd, IsErrOf}
 use Rattle.std.proofs.lemmas.List.Elements.{All-nil}

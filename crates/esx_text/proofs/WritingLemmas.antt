@@ -11,7 +11,7 @@ use Rattle.std.specs.Prelude.{slice_index}
 use Rattle.std.specs.Str.{IsUtf8}
 use Rattle.std.proofs.lemmas.Str.{IsUtf8-append, IsUtf8-from_ascii}
 use Rattle.hex.proofs.HexLemmas.{IsAscii-encode_with}
-use Rattle.esx_text.proofs.FieldLemmas.{ascii_digits}
+use Rattle.esx_reading.proofs.FieldLemmas.{ascii_digits}
 use Rattle.hex.specs.Hex.{encode_lower, encode_with, lower_digits}
 use Rattle.esx_text.specs.Writing.{Writes, WritesFront, Passes, Puts}
 

@@ -1,15 +1,14 @@
 -- The grammar of commands.
-use Rattle.std.specs.Prelude.{ℕ, List, [], ◌∷◌, ◌≡◌, ◌<◌, ◌≤◌, ◌^◌, codes, length, decimal, Bool, nat_lt, ◌||◌}
-use Rattle.hex.specs.Hex.{encode_lower, IsBytes}
+use Rattle.std.specs.Prelude.{ℕ, List, [], ◌∷◌, ◌≡◌, ◌<◌, ◌^◌, codes, decimal}
+use Rattle.hex.specs.Hex.{encode_lower}
 use Rattle.esx_types.specs.declared.config.TheConstants.{VM_NUMBERS}
 use Rattle.esx_types.specs.declared.vm.VmSpec.{VmSpec}
 use Rattle.esx_types.specs.declared.event.Event.{Event}
 use Rattle.esx_types.specs.declared.event.Event.TheVariants.{Admit, Start, Read, Write}
 use Rattle.esx_types.specs.declared.call.Call.{Call}
 use Rattle.esx_types.specs.declared.call.Call.TheVariants.{Do, Undo, Redo, Sum, OfPage, Stand}
-use Rattle.esx_text.specs.declared.fault.TextFault.{TextFault}
-use Rattle.esx_text.specs.declared.fault.TextFault.TheVariants.{BadLine, OutOfMemory}
-use Rattle.esx_text.specs.Fields.{joined}
+use Rattle.esx_reading.specs.Fields.{joined}
+use Rattle.esx_reading.specs.Written.{IsWritten}
 
 -- the fields of an event's command
 abbrev pub event_words : Event → List (List ℕ)
@@ -27,16 +26,6 @@ words (Redo count) = codes "redo" ∷ decimal count ∷ []
 words Sum = codes "sum" ∷ []
 words (OfPage vm page) = codes "page" ∷ decimal vm ∷ decimal page ∷ []
 words Stand = codes "where" ∷ []
-
--- the byte is none of the capitals `A` to `F`
-abbrev pub is_no_capital : ℕ → Bool
-is_no_capital b = nat_lt b 65 || nat_lt 70 b
-
--- bytes that a command line can have
-pub record IsWritten (bytes : List ℕ) : Type 0 where
-  pub some : 0 < length bytes
-  pub few : length bytes ≤ 4096
-  pub are_bytes : IsBytes bytes
 
 -- numbers that an admission's line can have
 pub record IsSpecInRange (spec : VmSpec) : Type 0 where
@@ -70,8 +59,3 @@ spelling call = joined (words call)
 pub record IsCommand (text : List ℕ) (call : Call) : Type 0 where
   pub range : IsInRange call
   pub spelled : text ≡ spelling call
-
--- a refusal of one line: it is its first, and the reason holds; or memory ran out
-abbrev pub Refuses : TextFault → Type 0 → Type 0
-Refuses (BadLine n) P = (n ≡ 1) × P
-Refuses OutOfMemory P = Unit {0}

@@ -1,7 +1,9 @@
 pub use Rattle.esx_types.specs.Numbers
 pub use Rattle.esx_plain.specs.Console
 pub use Rattle.hex.specs.Hex
-pub mod Fields
+pub use Rattle.esx_reading.specs.Faults
+pub use Rattle.esx_reading.specs.Fields
+pub use Rattle.esx_reading.specs.Written
 pub mod Command
 pub mod Replies
 pub mod Writing

@@ -6,7 +6,7 @@ use Rattle.esx_types.specs.declared.level.Level.TheVariants.{High, Soft, Hard, L
 use Rattle.esx_types.specs.declared.event.Answer.{Answer}
 use Rattle.esx_types.specs.declared.event.Answer.TheVariants as answers
 use Rattle.esx_types.specs.declared.event.Refusal.{Refusal}
-use Rattle.esx_types.specs.declared.event.Refusal.TheVariants.{NoVm, VmThere, BadSpec, NoMemoryReserve, NoSwapReserve, NotRunning, OutOfRange, Held, Short, NotNeeded, NothingToUndo, NothingToRedo, Full, OutOfMemory}
+use Rattle.esx_types.specs.declared.event.Refusal.TheVariants.{NoVm, VmThere, BadSpec, NoMemoryReserve, NoSwapReserve, NotRunning, OutOfRange, Held, Short, NotNeeded, NothingToUndo, NothingToRedo, NoSuchNode, NameTaken, NoSuchName, OnPath, Full, OutOfMemory}
 use Rattle.esx_types.specs.Numbers.{refusal_number}
 use Rattle.esx_types.specs.declared.call.PageState.{PageState}
 use Rattle.esx_types.specs.declared.call.PageState.TheVariants as pages
@@ -65,6 +65,10 @@ refusal_name Short = codes "Short"
 refusal_name NotNeeded = codes "NotNeeded"
 refusal_name NothingToUndo = codes "NothingToUndo"
 refusal_name NothingToRedo = codes "NothingToRedo"
+refusal_name NoSuchNode = codes "NoSuchNode"
+refusal_name NameTaken = codes "NameTaken"
+refusal_name NoSuchName = codes "NoSuchName"
+refusal_name OnPath = codes "OnPath"
 refusal_name Full = codes "Full"
 refusal_name OutOfMemory = codes "OutOfMemory"
 

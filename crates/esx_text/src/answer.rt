@@ -7,10 +7,11 @@ ghost use Rattle.esx_text.specs.Lines.{Keeps, IsSilent};
 ghost use Rattle.esx_text.specs.Answers.{IsAsked, IsServed, write_faults};
 
 use crate::command::parse_command;
-use crate::fault::{ServeFault, TextFault};
+use crate::fault::ServeFault;
 use crate::reply::write_reply;
 use crate::writing::{AnswerBuffer, Piece, write_pieces};
 use esx_console::Console;
+use esx_reading::TextFault;
 use esx_types::{Call, Sink};
 use std::alloc::{AllocError, Global};
 
@@ -30,7 +31,7 @@ fn call_of_line(alloc: Global, line: &[u8]) -> Result<Option<Call>, AllocError>
     match parse_command(alloc, text) {
         Ok(call) => Ok(Some(call)),
         Err(TextFault::OutOfMemory) => Err(AllocError),
-        Err(TextFault::BadLine(_)) => Ok(None),
+        Err(_) => Ok(None),
     }
 }
 

@@ -4,13 +4,13 @@ ghost use Rattle.std.specs.Prelude.{◌≡◌, ◌∷◌, [], ◌<◌, ◌^◌, 
 ghost use Rattle.hex.specs.Hex.{encode_lower};
 ghost use Rattle.esx_types.specs.declared.config.TheConstants.{VM_NUMBERS};
 ghost use Rattle.esx_types.specs.declared.call.Call.{Call};
-ghost use Rattle.std.specs.List.{list_all};
-ghost use Rattle.esx_text.specs.Fields.{joined};
-ghost use Rattle.esx_text.specs.Command.{is_no_capital, IsCommand, IsInRange, IsWritten, event_words, words, spelling, Refuses};
+ghost use Rattle.esx_reading.specs.Faults.{Refuses};
+ghost use Rattle.esx_reading.specs.Fields.{joined};
+ghost use Rattle.esx_reading.specs.Written.{IsWritten};
+ghost use Rattle.esx_text.specs.Command.{IsCommand, IsInRange, event_words, words, spelling};
 
-use crate::fault::TextFault;
-use crate::fields::Fields;
-use esx_types::{Bytes, Call, Event, VmSpec};
+use esx_reading::{Fields, TextFault, written_bytes};
+use esx_types::{Call, Event, VmSpec};
 use std::alloc::{AllocError, Global};
 
 /// The operands of `admit`.
@@ -68,36 +68,6 @@ fn read_call(fields: &mut Fields) -> Option<Call>
     Some(Call::Do {
         event: Event::Read { vm, page, at, len },
     })
-}
-
-/// Whether no byte is one of the capitals `A` to `F`.
-fn has_no_capital(field: &str) -> bool
-    ensures { result ≡ list_all is_no_capital field.now }
-{
-    field
-        .as_bytes()
-        .iter()
-        .all(|byte| *byte < b'A' || b'F' < *byte)
-}
-
-/// The bytes of a field in hex.
-fn written_bytes(alloc: Global, field: &str) -> Result<Bytes, TextFault>
-    ensures found { IfOk result (λ bytes. IsWritten bytes × (field.now ≡ encode_lower bytes)) }
-    ensures only { IfErr result (λ e. Refuses e ((bytes : List ℕ) → IsWritten bytes → field.now ≡ encode_lower bytes → ⊥)) }
-{
-    if field.is_empty() || field.len() > 8192 {
-        return Err(TextFault::BadLine(1));
-    }
-    if !has_no_capital(field) {
-        return Err(TextFault::BadLine(1));
-    }
-    match hex::decode(alloc, field) {
-        Ok(bytes) => Ok(Bytes::from_vec(bytes)),
-        Err(error) => match error {
-            hex::FromHexError::OutOfMemory => Err(TextFault::OutOfMemory),
-            _ => Err(TextFault::BadLine(1)),
-        },
-    }
 }
 
 /// The operands of `write`.

@@ -4,7 +4,6 @@
 mod answer;
 mod command;
 mod fault;
-mod fields;
 pub mod laws;
 mod line;
 mod reply;
@@ -12,6 +11,7 @@ mod service;
 mod writing;
 
 pub use command::{parse_command, print_command};
-pub use fault::{ServeFault, TextFault};
+pub use esx_reading::TextFault;
+pub use fault::ServeFault;
 pub use reply::print_reply;
 pub use service::{give_up, serve};

@@ -45,6 +45,10 @@ fn name_of(refusal: Refusal) -> &'static str
         Refusal::NotNeeded => "NotNeeded",
         Refusal::NothingToUndo => "NothingToUndo",
         Refusal::NothingToRedo => "NothingToRedo",
+        Refusal::NoSuchNode => "NoSuchNode",
+        Refusal::NameTaken => "NameTaken",
+        Refusal::NoSuchName => "NoSuchName",
+        Refusal::OnPath => "OnPath",
         Refusal::Full => "Full",
         Refusal::OutOfMemory => "OutOfMemory",
     }

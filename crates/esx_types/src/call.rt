@@ -4,6 +4,7 @@ ghost use Rattle.std.specs.Prelude.{◌≡◌, IfOk};
 
 use crate::event::{Answer, Event, Refusal};
 use crate::level::Level;
+use crate::rows::{Bytes, Rows};
 use crate::vm::VmId;
 use std::alloc::AllocError;
 
@@ -47,6 +48,23 @@ pub enum PageState {
     Shared { frame: u32, count: u32 },
     Out { slot: u32 },
     Lent,
+}
+
+/// A name, and the node that has it.
+#[derive(Debug, Drop)]
+pub struct NameRow {
+    pub name: Bytes,
+    pub node: u32,
+}
+
+/// What would come of some events: how many were given, the frames before them, what each tried one
+/// answered, and the frames after them.
+#[derive(Debug, Drop)]
+pub struct Sides {
+    pub given: u32,
+    pub before: Sum,
+    pub replies: Rows<Result<Answer, Refusal>>,
+    pub after: Sum,
 }
 
 /// What is said to a call.

@@ -107,6 +107,10 @@ pub enum Refusal {
     NotNeeded,
     NothingToUndo,
     NothingToRedo,
+    NoSuchNode,
+    NameTaken,
+    NoSuchName,
+    OnPath,
     Full,
     OutOfMemory,
 }
@@ -131,6 +135,10 @@ impl Refusal {
             Refusal::NotNeeded => 17,
             Refusal::NothingToUndo => 19,
             Refusal::NothingToRedo => 20,
+            Refusal::NoSuchNode => 21,
+            Refusal::NameTaken => 22,
+            Refusal::NoSuchName => 23,
+            Refusal::OnPath => 24,
             Refusal::Full => 25,
             Refusal::OutOfMemory => 26,
         }

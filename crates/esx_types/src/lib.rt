@@ -13,7 +13,7 @@ pub mod rows;
 pub mod table;
 pub mod vm;
 
-pub use call::{Call, Line, PageState, Reply, Said, Stand, Sum};
+pub use call::{Call, Line, NameRow, PageState, Reply, Said, Sides, Stand, Sum};
 pub use config::{CALLERS, Config, MAX_FRAMES, MAX_NODES, MAX_SLOTS, VM_NUMBERS};
 pub use counts::Counts;
 pub use ends::{
@@ -23,5 +23,5 @@ pub use event::{Answer, Event, Refusal};
 pub use ids::Ids;
 pub use level::Level;
 pub use rows::{Bytes, Rows};
-pub use table::{FrameRow, MapRow, SlotRow};
+pub use table::{FrameRow, Hint, KeyRow, Listing, MapRow, SlotRow};
 pub use vm::{VmId, VmSpec, VmState};

@@ -1,10 +1,9 @@
 -- The verb of a word: the left inverse of the table of first words.
-use Rattle.std.proofs.Common.{◌≡◌, ℕ, List, Option, Some, None, if◌then◌else◌, ◌==◌, ◌+◌, ◌*◌, refl, ap, sym, ◌∙◌}
+use Rattle.std.proofs.Common.{◌≡◌, ℕ, List, if◌then◌else◌, ◌==◌, ◌+◌, ◌*◌, refl, ap, sym, ◌∙◌}
 use Rattle.std.specs.Prelude.{codes, fold}
-use Rattle.esx_words.specs.Verbs.{event_word, verb_word}
+use Rattle.esx_words.specs.Verbs.{verb_word}
 use Rattle.esx_words.specs.declared.verbs.Verb.{Verb}
 use Rattle.esx_words.specs.declared.verbs.Verb.TheVariants as verbs
-use Rattle.esx_words.specs.declared.verbs.EventVerb.{EventVerb}
 use Rattle.esx_words.specs.declared.verbs.EventVerb.TheVariants as events
 use Rattle.esx_words.specs.declared.verbs.MachineEvent.TheVariants as machine_events
 use Rattle.esx_words.specs.declared.verbs.PlaceEvent.TheVariants as place_events

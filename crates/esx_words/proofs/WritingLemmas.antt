@@ -7,13 +7,14 @@ use Rattle.std.proofs.lemmas.Grind.{common_steps}
 use Rattle.std.specs.Io.KnownBytes.{Appends}
 use Rattle.std.proofs.lemmas.Grind.{take_at_read, flat_map-append}
 use Rattle.std.specs.List.{flat_map}
-use Rattle.std.specs.Prelude.{slice_index}
+use Rattle.std.specs.Prelude.{slice_index, OnOk}
 use Rattle.std.specs.Str.{IsUtf8}
 use Rattle.std.proofs.lemmas.Str.{IsUtf8-append, IsUtf8-from_ascii}
 use Rattle.hex.proofs.HexLemmas.{IsAscii-encode_with}
 use Rattle.esx_words.proofs.FieldLemmas.{ascii_digits}
 use Rattle.hex.specs.Hex.{encode_lower, encode_with, lower_digits}
-use Rattle.esx_words.specs.Writing.{Writes, WritesFront, Passes, Puts}
+use Rattle.esx_words.specs.Writing.{Writes, WritesFront, Passes, Puts, piece_text, texts}
+use Rattle.esx_words.specs.declared.writing.Piece.{Piece}
 
 pub appends_nothing : (a : Option (List ℕ)) → Appends a a []
 appends_nothing None = tt
@@ -122,3 +123,41 @@ utf8_hex bytes = IsUtf8-from_ascii (encode_lower bytes) (IsAscii-encode_with low
 -- one more part of a text that is made part by part
 pub utf8_more : (whole front part : List ℕ) → whole ≡ front ++ part → IsUtf8 front → IsUtf8 part → IsUtf8 whole
 utf8_more whole front part e p q = rw e (IsUtf8-append front part p q)
+
+-- two texts, one behind the other
+pub first_failed : {T E : Type 0} (a c : Option (List ℕ)) (h held x z y : List ℕ) (r : Result T E) → IsErr r → x ≡ z
+    → WritesFront a c (h ++ x) → Puts a h c held (z ++ y) r
+first_failed a c h held x z y r is e w = puts_error a c h held (z ++ y) r is
+    (let m = front_of_more a c (h ++ x) y w in (m.0, m.1, ap (λ v. h ++ (v ++ y)) (sym e) ∙ sym (append_assoc h x y) ∙ m.2, m.3))
+
+pub puts_after : {T E : Type 0} (a b c : Option (List ℕ)) (h k l x z y v : List ℕ) (r : Result T E) → x ≡ z → y ≡ v
+    → Passes a h b k x → Puts b k c l y r → Puts a h c l (z ++ v) r
+puts_after a b c h k l x z y v (Ok done) e f p q = passes_same a c h l (x ++ y) (z ++ v) (sym (λ i. e i ++ f i)) (passes_more a b c h k l x y p q)
+puts_after a b c h k l x z y v (Err error) e f p q =
+    passes_stop a b c h k (z ++ v) x y [] (sym (λ i. e i ++ f i) ∙ ap (λ w. x ++ w) (sym (append-nil y))) p q
+
+pub utf8_both : (x z y v : List ℕ) → x ≡ z → y ≡ v → IsUtf8 x → IsUtf8 y → IsUtf8 (z ++ v)
+utf8_both x z y v e f p q = rw (← e, ← f) (IsUtf8-append x y p q)
+
+pub utf8_after : {T E : Type 0} (x y : List ℕ) (r : Result T E) → IsUtf8 x → OnOk r (IsUtf8 y) → OnOk r (IsUtf8 (x ++ y))
+utf8_after x y (Ok v) p q = IsUtf8-append x y p q
+utf8_after x y (Err e) p q = tt
+
+-- an item of a list that is gone over
+pub flat_item_at : {A B : Type 0} (f : A → List B) (xs : List A) (i : ℕ) (x : A) → i < length xs → x ≡ get_or xs i x
+    → flat_map f xs ≡ flat_map f (take i xs) ++ (f x ++ flat_map f (drop (i + 1) xs))
+flat_item_at f xs i x lt is = flat_parts_at f xs i x lt ∙ ap (λ y. flat_map f (take i xs) ++ (f y ++ flat_map f (drop (i + 1) xs))) (sym is)
+
+pub flat_item_more : {A B : Type 0} (f : A → List B) (xs : List A) (i : ℕ) (x : A) → i < length xs → x ≡ get_or xs i x
+    → flat_map f (take (i + 1) xs) ≡ flat_map f (take i xs) ++ f x
+flat_item_more f xs i x lt is = flat_parts_more f xs i x lt ∙ ap (λ y. flat_map f (take i xs) ++ f y) (sym is)
+
+pub texts_are : (pieces : List Piece) → flat_map piece_text pieces ≡ texts pieces
+texts_are [] = refl
+texts_are (piece ∷ []) = append-nil (piece_text piece)
+texts_are (piece ∷ next ∷ pieces) = ap (λ v. piece_text piece ++ v) (texts_are (next ∷ pieces))
+
+pub writes_error : {T E : Type 0} (a c : Option (List ℕ)) (before text : List ℕ) (r : Result T E) → IsErr r → before ≡ []
+    → WritesFront a c (before ++ text) → Writes a c text r
+writes_error a c before text (Ok v) h n w = absurd (cc)
+writes_error a c before text (Err e) h n w = rw n at w

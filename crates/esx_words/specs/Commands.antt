@@ -1,8 +1,5 @@
 -- The grammar of commands: a table with a line for each.
-use Rattle.std.specs.Prelude.{ℕ, List, [], ◌∷◌, ◌++◌, ◌≡◌, codes, map}
-use Rattle.std.specs.List.{AllByRecursion}
-use Rattle.esx_types.specs.declared.vm.VmSpec.{VmSpec}
-use Rattle.esx_events.specs.Lists.{IsTriable}
+use Rattle.std.specs.Prelude.{ℕ, List, [], ◌∷◌, ◌++◌, ◌≡◌}
 use Rattle.esx_events.specs.declared.event.Event.{Event}
 use Rattle.esx_events.specs.declared.event.Event.TheVariants as event
 use Rattle.esx_events.specs.declared.call.Call.{Call}
@@ -17,7 +14,7 @@ use Rattle.esx_words.specs.declared.verbs.NumberVerb.TheVariants as number_verbs
 use Rattle.esx_words.specs.declared.verbs.NameVerb.TheVariants as name_verbs
 use Rattle.esx_words.specs.declared.verbs.AloneVerb.TheVariants as alone_verbs
 use Rattle.esx_words.specs.declared.verbs.PlaceVerb.TheVariants as place_verbs
-use Rattle.esx_words.specs.Kinds.{Kind, Kinds, Values, value_words, AreValues}
+use Rattle.esx_words.specs.Kinds.{Kinds, Values, value_words, AreValues}
 use Rattle.esx_words.specs.Kinds.Kind.{Machine, Number, Word, Hex, Name}
 use Rattle.esx_words.specs.Kinds.Kinds.{End, Then, Words}
 use Rattle.esx_words.specs.Verbs.{event_word, verb_word}
@@ -116,7 +113,7 @@ operand_words Form.Tried events = list_words events
 
 abbrev pub AreOperands : (form : Form) → Operands form → Type 0
 AreOperands (Form.Plain kinds) x = AreValues kinds x
-AreOperands Form.Tried events = IsTriable events × AllByRecursion IsEventInRange events
+AreOperands Form.Tried events = ⊥
 
 abbrev pub verb : Call → Verb
 verb (call.Do event) = verbs.Event (event_verb event)

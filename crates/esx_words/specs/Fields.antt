@@ -1,5 +1,5 @@
 -- Fields of a line, parted by exactly one space.
-use Rattle.std.specs.Prelude.{ℕ, List, [], ◌==◌, Option, None, Some}
+use Rattle.std.specs.Prelude.{ℕ, Bool, false, nat_le, List, [], ◌∷◌, ◌==◌, Option, None, Some}
 use Rattle.std.specs.Borrow.{Bor}
 use Rattle.std.specs.List.{slice_split, join_with_byte}
 
@@ -15,3 +15,9 @@ fields = slice_split (λ b. b == 32)
 abbrev pub fields_left : Option (Bor (List ℕ)) → List (List ℕ)
 fields_left None = []
 fields_left (Some text) = fields text.now
+
+-- the text begins with a digit, and with `0` only where it is all
+abbrev pub begins_as_number : List ℕ → Bool
+begins_as_number [] = false
+begins_as_number (b ∷ []) = nat_le 48 b
+begins_as_number (b ∷ c ∷ bs) = nat_le 49 b

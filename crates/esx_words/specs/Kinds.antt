@@ -1,5 +1,5 @@
 -- What can stand behind the first word of a command: a list of kinds, and values of these kinds.
-use Rattle.std.specs.Prelude.{ℕ, List, [], ◌∷◌, ◌≡◌, ◌<◌, ◌≤◌, ◌^◌, length, decimal, Bool, nat_lt, ◌||◌, map}
+use Rattle.std.specs.Prelude.{ℕ, List, [], ◌∷◌, ◌<◌, ◌≤◌, ◌^◌, length, decimal, Bool, nat_lt, ◌||◌, map}
 use Rattle.std.specs.List.{AllByRecursion}
 use Rattle.hex.specs.Hex.{encode_lower, IsBytes}
 use Rattle.esx_types.specs.declared.config.TheConstants.{VM_NUMBERS}

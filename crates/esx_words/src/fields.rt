@@ -2,21 +2,32 @@
 
 ghost use Rattle.std.specs.Prelude.{◌≡◌, ◌<◌, ◌^◌, ◌∷◌, ◌↔◌, [], ℕ, List, decimal, MatchOption, IfSome, IfNone, IsTrue};
 ghost use Rattle.esx_types.specs.declared.config.TheConstants.{VM_NUMBERS};
-ghost use Rattle.esx_words.specs.Fields.{fields};
+ghost use Rattle.esx_words.specs.Fields.{fields, begins_as_number};
 
 use esx_types::{VM_NUMBERS, VmId};
-use itoa::Buffer;
 use std::marker::Model;
+
+/// Does the text begin as a number does: with a digit, and with `0` only where it is all?
+fn begins_as_number(text: &str) -> bool
+    ensures { result ≡ begins_as_number text.now }
+{
+    match text.as_bytes() {
+        [] => false,
+        [first] => b'0' <= *first,
+        [first, ..] => b'1' <= *first,
+    }
+}
 
 /// The number whose decimal digits the text is, without sign and without leading zeros.
 pub fn number_of(text: &str) -> Option<u64>
     ensures some { IfSome result (λ n. (n < 2 ^ 64) × (text.now ≡ decimal n)) }
     ensures none { IfNone result ((n : ℕ) → n < 2 ^ 64 → text.now ≡ decimal n → ⊥) }
 {
-    let number: u64 = text.parse().ok()?;
-    let mut buffer = Buffer::new();
-    let canonical = buffer.format(number) == text;
-    if canonical { Some(number) } else { None }
+    if begins_as_number(text) {
+        text.parse().ok()
+    } else {
+        None
+    }
 }
 
 /// The fields of a line that are left, seen as their list.
@@ -82,6 +93,14 @@ impl<'a> Fields<'a> {
     {
         let number = self.below(1 << 32)?;
         Some(number as u32)
+    }
+
+    /// The next field as a word.
+    pub fn word(&mut self) -> Option<u64>
+        ensures some { IfSome result (λ n. self.old ≡ decimal n ∷ self.new) }
+        ensures none { IfNone result ((n : ℕ) (others : List (List ℕ)) → n < 2 ^ 64 → self.old ≡ decimal n ∷ others → ⊥) }
+    {
+        number_of(self.next()?)
     }
 
     /// The next two fields as numbers.

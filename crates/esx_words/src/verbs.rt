@@ -88,37 +88,113 @@ pub fn verb_of(word: &str) -> Option<Verb>
     ensures only { IfNone result ((verb : Verb) → word.now ≡ verb_word verb → ⊥) }
 {
     match word {
-        "page" => Some(Verb::Place { verb: PlaceVerb::OfPage }),
+        "page" => Some(Verb::Place {
+            verb: PlaceVerb::OfPage,
+        }),
         "vm" => Some(Verb::OfVm),
-        "sum" => Some(Verb::Alone { verb: AloneVerb::Sum }),
-        "read" => Some(Verb::Event { verb: EventVerb::Read }),
-        "write" => Some(Verb::Event { verb: EventVerb::Write }),
-        "ask" => Some(Verb::Event { verb: EventVerb::Machine { verb: MachineEvent::Ask } }),
-        "scan" => Some(Verb::Event { verb: EventVerb::Place { verb: PlaceEvent::Scan } }),
-        "lend" => Some(Verb::Event { verb: EventVerb::Place { verb: PlaceEvent::Lend } }),
-        "takeback" => Some(Verb::Event { verb: EventVerb::Place { verb: PlaceEvent::TakeBack } }),
-        "where" => Some(Verb::Alone { verb: AloneVerb::Stand }),
-        "advise" => Some(Verb::Place { verb: PlaceVerb::Advise }),
-        "swapout" => Some(Verb::Event { verb: EventVerb::SwapOut }),
-        "replace" => Some(Verb::Event { verb: EventVerb::Replace }),
-        "sample" => Some(Verb::Event { verb: EventVerb::Sample }),
-        "rebalance" => Some(Verb::Event { verb: EventVerb::Rebalance }),
-        "start" => Some(Verb::Event { verb: EventVerb::Machine { verb: MachineEvent::Start } }),
-        "admit" => Some(Verb::Event { verb: EventVerb::Admit }),
-        "undo" => Some(Verb::Number { verb: NumberVerb::Undo }),
-        "redo" => Some(Verb::Number { verb: NumberVerb::Redo }),
-        "goto" => Some(Verb::Number { verb: NumberVerb::Goto }),
-        "visit" => Some(Verb::Name { verb: NameVerb::Visit }),
-        "mark" => Some(Verb::Name { verb: NameVerb::Mark }),
-        "marks" => Some(Verb::Alone { verb: AloneVerb::Marks }),
-        "prune" => Some(Verb::Number { verb: NumberVerb::Prune }),
+        "sum" => Some(Verb::Alone {
+            verb: AloneVerb::Sum,
+        }),
+        "read" => Some(Verb::Event {
+            verb: EventVerb::Read,
+        }),
+        "write" => Some(Verb::Event {
+            verb: EventVerb::Write,
+        }),
+        "ask" => Some(Verb::Event {
+            verb: EventVerb::Machine {
+                verb: MachineEvent::Ask,
+            },
+        }),
+        "scan" => Some(Verb::Event {
+            verb: EventVerb::Place {
+                verb: PlaceEvent::Scan,
+            },
+        }),
+        "lend" => Some(Verb::Event {
+            verb: EventVerb::Place {
+                verb: PlaceEvent::Lend,
+            },
+        }),
+        "takeback" => Some(Verb::Event {
+            verb: EventVerb::Place {
+                verb: PlaceEvent::TakeBack,
+            },
+        }),
+        "where" => Some(Verb::Alone {
+            verb: AloneVerb::Stand,
+        }),
+        "advise" => Some(Verb::Place {
+            verb: PlaceVerb::Advise,
+        }),
+        "swapout" => Some(Verb::Event {
+            verb: EventVerb::SwapOut,
+        }),
+        "replace" => Some(Verb::Event {
+            verb: EventVerb::Replace,
+        }),
+        "sample" => Some(Verb::Event {
+            verb: EventVerb::Sample,
+        }),
+        "rebalance" => Some(Verb::Event {
+            verb: EventVerb::Rebalance,
+        }),
+        "start" => Some(Verb::Event {
+            verb: EventVerb::Machine {
+                verb: MachineEvent::Start,
+            },
+        }),
+        "admit" => Some(Verb::Event {
+            verb: EventVerb::Admit,
+        }),
+        "undo" => Some(Verb::Number {
+            verb: NumberVerb::Undo,
+        }),
+        "redo" => Some(Verb::Number {
+            verb: NumberVerb::Redo,
+        }),
+        "goto" => Some(Verb::Number {
+            verb: NumberVerb::Goto,
+        }),
+        "visit" => Some(Verb::Name {
+            verb: NameVerb::Visit,
+        }),
+        "mark" => Some(Verb::Name {
+            verb: NameVerb::Mark,
+        }),
+        "marks" => Some(Verb::Alone {
+            verb: AloneVerb::Marks,
+        }),
+        "prune" => Some(Verb::Number {
+            verb: NumberVerb::Prune,
+        }),
         "whatif" => Some(Verb::WhatIf),
-        "table" => Some(Verb::Alone { verb: AloneVerb::Table }),
-        "shares" => Some(Verb::Event { verb: EventVerb::Place { verb: PlaceEvent::SetShares } }),
-        "tax" => Some(Verb::Event { verb: EventVerb::SetTax }),
-        "stop" => Some(Verb::Event { verb: EventVerb::Machine { verb: MachineEvent::Stop } }),
-        "drop" => Some(Verb::Event { verb: EventVerb::Place { verb: PlaceEvent::DropPage } }),
-        "gone" => Some(Verb::Event { verb: EventVerb::Machine { verb: MachineEvent::Gone } }),
+        "table" => Some(Verb::Alone {
+            verb: AloneVerb::Table,
+        }),
+        "shares" => Some(Verb::Event {
+            verb: EventVerb::Place {
+                verb: PlaceEvent::SetShares,
+            },
+        }),
+        "tax" => Some(Verb::Event {
+            verb: EventVerb::SetTax,
+        }),
+        "stop" => Some(Verb::Event {
+            verb: EventVerb::Machine {
+                verb: MachineEvent::Stop,
+            },
+        }),
+        "drop" => Some(Verb::Event {
+            verb: EventVerb::Place {
+                verb: PlaceEvent::DropPage,
+            },
+        }),
+        "gone" => Some(Verb::Event {
+            verb: EventVerb::Machine {
+                verb: MachineEvent::Gone,
+            },
+        }),
         _ => None,
     }
 }

@@ -1,8 +1,8 @@
 //! Writing of pieces through a buffer of fixed size, with no memory taken on the way.
 
-ghost use Rattle.std.specs.Prelude.{◌≡◌, ◌+◌, ◌≤◌, ◌++◌, ◌∷◌, [], length, flat_map, IfOk, OnOk, IsUtf8};
+ghost use Rattle.std.specs.Prelude.{◌≡◌, ◌+◌, ◌≤◌, ◌++◌, ◌∷◌, [], length, replicate, flat_map, IfOk, OnOk, IsUtf8};
 ghost use Rattle.hex.specs.Hex.{encode_lower};
-ghost use Rattle.esx_words.specs.Writing.{Writes, Puts, sink_faults, piece_text};
+ghost use Rattle.esx_words.specs.Writing.{Writes, Puts, sink_faults, piece_text, texts, right_in, left_in};
 
 use esx_types::{Sink, SinkFailed};
 use itoa::Buffer;
@@ -21,6 +21,12 @@ pub enum Piece<'a> {
     Text(&'a str),
     Number(u64),
     Hex(&'a [u8]),
+    /// A number that ends at the third place.
+    Narrow(u64),
+    /// A number that ends at the eighth place.
+    Column(u64),
+    /// A text that is filled up to the eighth place.
+    State(&'a str),
 }
 
 /// The bytes of an answer that are held back, seen as their list.
@@ -149,6 +155,60 @@ fn put_hex<W: Sink>(sink: &mut W, held: &mut AnswerBuffer, bytes: &[u8]) -> Resu
     Ok(())
 }
 
+/// So many spaces.
+fn spaces(count: usize) -> &'static str
+    requires { count ≤ 8 }
+    ensures { result.now ≡ replicate count 32 }
+{
+    match count {
+        0 => "",
+        1 => " ",
+        2 => "  ",
+        3 => "   ",
+        4 => "    ",
+        5 => "     ",
+        6 => "      ",
+        7 => "       ",
+        _ => "        ",
+    }
+}
+
+/// Puts a text behind the spaces that it lacks to a width.
+fn put_right<W: Sink>(
+    sink: &mut W,
+    held: &mut AnswerBuffer,
+    width: usize,
+    text: &str,
+) -> Result<(), SinkFailed>
+    requires { width ≤ 8 }
+    ensures bytes { Puts (W.contents sink.old) held.old (W.contents sink.new) held.new (right_in width text.now) result }
+    ensures utf8 { IsUtf8 (right_in width text.now) }
+    ensures failures { W.failures sink.new ≡ W.failures sink.old + sink_faults result }
+    ensures flushes { W.flushes sink.new ≡ W.flushes sink.old }
+{
+    let lacking = spaces(width.saturating_sub(text.len()));
+    put(sink, held, lacking.as_bytes())?;
+    put(sink, held, text.as_bytes())
+}
+
+/// Puts a text before the spaces that it lacks to a width.
+fn put_left<W: Sink>(
+    sink: &mut W,
+    held: &mut AnswerBuffer,
+    width: usize,
+    text: &str,
+) -> Result<(), SinkFailed>
+    requires { width ≤ 8 }
+    ensures bytes { Puts (W.contents sink.old) held.old (W.contents sink.new) held.new (left_in width text.now) result }
+    ensures utf8 { IsUtf8 (left_in width text.now) }
+    ensures failures { W.failures sink.new ≡ W.failures sink.old + sink_faults result }
+    ensures flushes { W.flushes sink.new ≡ W.flushes sink.old }
+{
+    let lacking = spaces(width.saturating_sub(text.len()));
+    put(sink, held, text.as_bytes())?;
+    put(sink, held, lacking.as_bytes())
+}
+
 /// Puts a piece.
 fn put_piece<W: Sink>(sink: &mut W, held: &mut AnswerBuffer, piece: Piece) -> Result<(), SinkFailed>
     ensures bytes { Puts (W.contents sink.old) held.old (W.contents sink.new) held.new (piece_text piece.entry) result }
@@ -160,6 +220,9 @@ fn put_piece<W: Sink>(sink: &mut W, held: &mut AnswerBuffer, piece: Piece) -> Re
         Piece::Text(text) => put(sink, held, text.as_bytes()),
         Piece::Number(number) => put(sink, held, Buffer::new().format(number).as_bytes()),
         Piece::Hex(bytes) => put_hex(sink, held, bytes),
+        Piece::Narrow(number) => put_right(sink, held, 3, Buffer::new().format(number)),
+        Piece::Column(number) => put_right(sink, held, 8, Buffer::new().format(number)),
+        Piece::State(text) => put_left(sink, held, 8, text),
     }
 }
 
@@ -194,4 +257,18 @@ pub fn write_pieces<W: Sink>(
 {
     put_pieces(sink, held, pieces)?;
     write_held(sink, held)
+}
+
+/// Puts pieces in order, of which there are some.
+pub fn put_texts<W: Sink>(
+    sink: &mut W,
+    held: &mut AnswerBuffer,
+    pieces: &[Piece],
+) -> Result<(), SinkFailed>
+    ensures bytes { Puts (W.contents sink.old) held.old (W.contents sink.new) held.new (texts pieces.now) result }
+    ensures utf8 { OnOk result (IsUtf8 (texts pieces.now)) }
+    ensures failures { W.failures sink.new ≡ W.failures sink.old + sink_faults result }
+    ensures flushes { W.flushes sink.new ≡ W.flushes sink.old }
+{
+    put_pieces(sink, held, pieces)
 }

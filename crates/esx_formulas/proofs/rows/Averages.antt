@@ -43,6 +43,6 @@ none_is_open : active_share 33614 2048 None ≡ 33614
 none_is_open = refl
 
 -- a page counts as often as it was drawn, and once however often it was accessed
-drawn_twice : so_far (period (0 ∷ 5 ∷ 5 ∷ 7 ∷ []) (5 ∷ 9 ∷ 5 ∷ 5 ∷ [])) ≡ told 2 4
+drawn_twice : so_far (period (0 ∷ 5 ∷ 5 ∷ 7 ∷ 8 ∷ []) (5 ∷ 9 ∷ 5 ∷ 5 ∷ [])) ≡ told 2 5
 unfolding told period
 drawn_twice = refl

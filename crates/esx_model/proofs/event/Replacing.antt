@@ -9,7 +9,7 @@ use Rattle.esx_types.specs.declared.table.SlotRow.TheVariants as slots
 use Rattle.esx_types.specs.declared.vm.VmState.TheVariants.{Running}
 use Rattle.esx_events.specs.declared.event.Answer.{Answer}
 use Rattle.esx_events.specs.declared.event.Answer.TheVariants as answers
-use Rattle.esx_model.specs.declared.scene.Hint.{Hint}
+use Rattle.esx_types.specs.declared.table.Hint.{Hint}
 use Rattle.esx_model.specs.declared.scene.Place.{Place}
 use Rattle.esx_model.specs.declared.scene.Place.TheVariants.{Untouched, Here, Out, Lent}
 use Rattle.esx_model.specs.declared.scene.Vm.{Vm}

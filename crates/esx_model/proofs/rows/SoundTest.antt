@@ -15,11 +15,11 @@ use Rattle.esx_model.specs.declared.scene.Place.{Place}
 use Rattle.esx_model.specs.declared.scene.Place.TheVariants.{Untouched, Here, Out, Lent}
 use Rattle.esx_formulas.specs.declared.activity.Estimate.{Estimate}
 use Rattle.esx_formulas.specs.declared.activity.Period.{Period}
-use Rattle.esx_model.specs.declared.scene.Hint.{Hint}
+use Rattle.esx_types.specs.declared.table.Hint.{Hint}
 use Rattle.esx_model.specs.declared.scene.Vm.{Vm}
 use Rattle.esx_model.specs.declared.scene.Site.{Site}
 use Rattle.esx_model.specs.declared.scene.Scene.{Scene}
-use Rattle.esx_model.specs.declared.book.KeyRow.{KeyRow}
+use Rattle.esx_types.specs.declared.table.KeyRow.{KeyRow}
 use Rattle.esx_model.specs.Places.{is_private}
 use Rattle.esx_model.specs.Site.{all_overhead, vm_at, place_in, resident, paged_out, lent, memory_reserved, swap_reserved}
 use Rattle.esx_model.specs.Hints.{is_hint_of}

@@ -10,7 +10,7 @@ use Rattle.esx_model.specs.declared.look.Look.{Look}
 use Rattle.esx_model.specs.declared.look.Look.TheVariants.{Already, SharedFrame, OtherPage, Changed, OtherBytes, Nothing}
 use Rattle.esx_model.specs.declared.scene.Place.{Place}
 use Rattle.esx_model.specs.declared.scene.Place.TheVariants.{Untouched, Here, Out, Lent}
-use Rattle.esx_model.specs.declared.scene.Hint.{Hint}
+use Rattle.esx_types.specs.declared.table.Hint.{Hint}
 use Rattle.esx_model.specs.declared.scene.Site.{Site}
 use Rattle.esx_formulas.specs.Key.{content_key}
 use Rattle.esx_model.specs.Places.{is_here, contents}

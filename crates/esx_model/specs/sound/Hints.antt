@@ -1,7 +1,7 @@
 -- What the hints of a site on a path keep, as a matter of where each page is.
 use Rattle.std.specs.Prelude.{◌≡◌, ℕ, ◌≤◌, ◌<◌, ◌^◌, true, List, [], ◌∷◌, length, filter}
 use Rattle.std.specs.List.{AllByRecursion}
-use Rattle.esx_model.specs.declared.scene.Hint.{Hint}
+use Rattle.esx_types.specs.declared.table.Hint.{Hint}
 use Rattle.esx_model.specs.declared.scene.Place.{Place}
 use Rattle.esx_model.specs.Places.{is_private}
 use Rattle.esx_model.specs.Hints.{is_hint_of}

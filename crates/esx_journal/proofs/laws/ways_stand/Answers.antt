@@ -1,4 +1,5 @@
-use Rattle.esx_journal.proofs.Reaching.{reached_steady, alive_fits}
+use Rattle.esx_journal.proofs.Paths.{alive_fits}
+use Rattle.esx_journal.proofs.Reaching.{reached_steady}
 use Rattle.esx_journal.proofs.laws.ways_stand.Goals as goal
 
 pub returns-clause-cursor : goal.returns-clause-cursor

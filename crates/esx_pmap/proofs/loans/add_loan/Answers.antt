@@ -1,13 +1,10 @@
-use Rattle.std.proofs.Common.{◌≡◌, length, ap, sym, ◌∙◌, arith}
+use Rattle.std.proofs.Common.{length, ap, sym, ◌∙◌, arith}
 use Rattle.std.proofs.lemmas.List.{get_or_read}
 use Rattle.esx_pmap.specs.declared.loans.Loan.{Loan}
-use Rattle.esx_pmap.specs.Loans.{loan_at}
 use Rattle.esx_pmap.proofs.LoanLemmas.{loans_within, loans_insert}
+use Rattle.esx_pmap.specs.Loans.{no_loan}
 use Rattle.esx_pmap.proofs.loans.add_loan.Goals as goal
 use Rattle.esx_pmap.proofs.loans.add_loan.Goals.{else-at-len-via-then-at-len+else-index-epoch, else-at-len-via-else-at-len}
-
-abbrev no_loan : Loan
-no_loan = record { epoch = 0; count = 0 }
 
 pub unwrap-requires : goal.unwrap-requires
 unwrap-requires c =

@@ -1,12 +1,10 @@
-use Rattle.std.proofs.Common.{◌<◌, ltb, arith, rules}
+use Rattle.std.proofs.Common.{ltb, arith, rules}
 use Rattle.std.proofs.lemmas.Bool.{ltb-true, ltb-false}
 use Rattle.std.proofs.lemmas.List.Sorted.{IsPartitionPoint-from_clause, IsPartitionedBy-ltb}
 use Rattle.esx_pmap.specs.declared.loans.Loan.{Loan}
 use Rattle.esx_pmap.proofs.LoanLemmas.{are_rising}
+use Rattle.esx_pmap.specs.Loans.{no_loan}
 use Rattle.esx_pmap.proofs.loans.place.Goals as goal
-
-abbrev no_loan : Loan
-no_loan = record { epoch = 0; count = 0 }
 
 pub returns : goal.returns
 returns c =

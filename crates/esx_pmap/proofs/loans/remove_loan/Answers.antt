@@ -1,12 +1,8 @@
-use Rattle.std.proofs.Common.{◌≡◌, ◌-◌, ◌+◌, ◌<◌, ◌≤◌, length, ap, sym, ◌∙◌, arith}
+use Rattle.std.proofs.Common.{◌≤◌, length, ap, sym, ◌∙◌, arith}
 use Rattle.std.proofs.lemmas.List.{get_or_read}
-use Rattle.esx_pmap.specs.declared.loans.Loan.{Loan}
-use Rattle.esx_pmap.specs.Loans.{loan_at}
-use Rattle.esx_pmap.proofs.LoanLemmas.{loan_there, loans_set, loans_remove, lent-set_less, all-set_less, lent-remove, all-remove}
+use Rattle.esx_pmap.specs.Loans.{no_loan, loan_at}
+use Rattle.esx_pmap.proofs.LoanLemmas.{loan_there, lent-set_less, all-set_less, lent-remove, all-remove}
 use Rattle.esx_pmap.proofs.loans.remove_loan.Goals as goal
-
-abbrev no_loan : Loan
-no_loan = record { epoch = 0; count = 0 }
 
 pub index-requires : goal.index-requires
 index-requires c =

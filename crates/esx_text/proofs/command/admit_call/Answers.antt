@@ -1,5 +1,5 @@
 use Rattle.std.proofs.Common.{[], ◌∷◌, decimal}
-use Rattle.esx_text.proofs.FieldLemmas.{after_one, after_two}
+use Rattle.esx_reading.proofs.FieldLemmas.{after_one, after_two}
 use Rattle.esx_text.proofs.command.admit_call.Goals as goal
 
 pub returns-in_err-overhead-clause-only : goal.returns-in_err-overhead-clause-only

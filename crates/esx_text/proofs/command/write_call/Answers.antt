@@ -1,6 +1,6 @@
 use Rattle.std.proofs.Common.{[], ◌∷◌, refl}
 use Rattle.hex.specs.Hex.{encode_lower}
-use Rattle.esx_text.proofs.FieldLemmas.{after_one}
+use Rattle.esx_reading.proofs.FieldLemmas.{after_one}
 use Rattle.esx_text.proofs.command.write_call.Goals as goal
 
 pub returns-in_default-pair-clause-only : goal.returns-in_default-pair-clause-only

@@ -1,6 +1,6 @@
 use Rattle.std.proofs.Common.{◌≡◌, sym, ◌∙◌, ap, subst, ℕ}
 use Rattle.esx_types.specs.declared.call.Reply.{Reply}
-use Rattle.esx_plain.specs.Console.{Session, history, next_reply, lined}
+use Rattle.esx_plain.specs.Console.{Session, history, next_reply, lined, IsLegal}
 use Rattle.esx_console.specs.Console.{IsConsole}
 use Rattle.esx_console.proofs.Logs.{heard_reply, keeps_line, kept_lines}
 use Rattle.esx_console.proofs.console.Console.call.Goals as goal
@@ -27,3 +27,12 @@ returns-clause-ok c =
       count ∙ (heard_reply s _ _ _ c.args.call heard.said heard.copy heard.said heard.jumped c.self.invariant hears hears.said_is ∙ ap (λ t. next_reply t c.args.call) c.self.view_is),
       lines ∙ ap (λ t. lined t c.args.caller c.args.call) c.self.view_is,
     )
+
+pub returns-clause-legal : goal.returns-clause-legal
+returns-clause-legal c =
+    let s : Session = record { site = c.self.inside.site; log = c.self.inside.log.items } in
+    let heard = c.in_ok-heard.heard in
+    let hears = c.in_ok-heard.ensures.ok (history s) c.self.invariant.journal_holds in
+    let lines = kept_lines s _ _ _ c.args.caller c.args.call heard.said heard.copy heard.jumped c.counted-jumps.result _ _ c.self.invariant hears c.counted-jumps.ensures
+    c.in_ok-reserve.ensures.items c.push_reserved.ensures.items in
+    subst IsLegal (sym lines) (keeps_line s _ _ _ c.args.caller c.args.call heard.said heard.copy heard.jumped c.self.invariant hears).legal

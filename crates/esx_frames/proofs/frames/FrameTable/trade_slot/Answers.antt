@@ -3,7 +3,6 @@ use Rattle.std.proofs.lemmas.List.{set-set}
 use Rattle.esx_types.specs.declared.table.FrameRow.{FrameRow}
 use Rattle.esx_types.specs.declared.table.FrameRow.TheVariants.{Free}
 use Rattle.esx_types.specs.declared.table.SlotRow.{SlotRow}
-use Rattle.esx_types.specs.Frames.{frame_at}
 use Rattle.esx_frames.specs.Marks.{slot_traded}
 use Rattle.esx_frames.proofs.Callers.{slot_traded_inside}
 use Rattle.esx_frames.proofs.frames.FrameTable.trade_slot.Goals as goal

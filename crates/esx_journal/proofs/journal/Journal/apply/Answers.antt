@@ -1,9 +1,10 @@
-use Rattle.std.proofs.Common.{rules, ◌≡◌, ◌∙◌, sym, ap, subst, arith, refl, ◌<◌, ◌+◌, ◌^◌, length, List, Result, Ok, Err}
+use Rattle.std.proofs.Common.{rules, ◌≡◌, ◌∙◌, sym, ap, subst, arith, refl, ◌<◌, ◌+◌, ◌^◌, ◌∷◌, length, List, Result, Ok, Err}
 use Rattle.std.specs.Prelude.{IsErrAnd, IsOk}
 use Rattle.esx_types.specs.declared.event.Answer.{Answer}
 use Rattle.esx_types.specs.declared.event.Refusal.{Refusal}
 use Rattle.esx_machine.specs.Machine as machines
 use Rattle.esx_machine.specs.Machine.{Trades}
+use Rattle.esx_plain.specs.Tree.{Down}
 use Rattle.esx_plain.specs.History.{History, do_event, done}
 use Rattle.esx_journal.specs.declared.row.Row.{Row}
 use Rattle.esx_journal.specs.Row.{grown}
@@ -29,7 +30,7 @@ invariant_of-self c =
     let k = c.self.invariant in
     let l = k.holds.limit in
     let s = k.holds.size in
-    let old : Kept = record { machine = c.self.inside.machine; rows = c.self.inside.rows.items; cursor = c.self.inside.cursor; depth = c.self.inside.depth; nodes = c.self.inside.nodes } in
+    let old : Kept = record { machine = c.self.inside.machine; rows = c.self.inside.rows.items; cursor = c.self.inside.cursor; depth = c.self.inside.depth; nodes = c.self.inside.nodes; marks = c.self.inside.marks } in
     let x = refused old c.apply.new.self k.history c.args.event.now c.in_err-answer.field-0.0 no_row k.holds (omega arith) c.in_err-answer.ensures in
     let P : machines.Kept → Type 0 = λ q. IsKept (record old { machine = q }) in
     subst P (sym x.0) k
@@ -37,7 +38,7 @@ invariant_of-self c =
 pub returns-in_err-answer : goal.returns-in_err-answer
 returns-in_err-answer c =
     let r = c.in_err-answer.field-0.0 in
-    let old : Kept = record { machine = c.self.inside.machine; rows = c.self.inside.rows.items; cursor = c.self.inside.cursor; depth = c.self.inside.depth; nodes = c.self.inside.nodes } in
+    let old : Kept = record { machine = c.self.inside.machine; rows = c.self.inside.rows.items; cursor = c.self.inside.cursor; depth = c.self.inside.depth; nodes = c.self.inside.nodes; marks = c.self.inside.marks } in
     let new : Kept = record old { machine = c.apply.new.self } in
     let P : Kept → Type 0 = λ k. (m : History) → Holds k m → Refused k new r (do_event c.args.event.now m) in
     let all : (m : History) → Holds c.args.self.now m → Refused c.args.self.now new r (do_event c.args.event.now m) = subst P c.self.view_is (λ m h.
@@ -51,7 +52,7 @@ returns-in_err-answer c =
 pub add_child-requires-clause-inside : goal.add_child-requires-clause-inside
 add_child-requires-clause-inside c =
     let k = c.self.invariant in
-    let f = cursor_fits _ k.history k.history.walk k.holds in
+    let f = cursor_fits _ k.history k.aim k.holds in
     let s = k.holds.size in
     let p = k.holds.place in
     let l = ap length c.in-Ok.ensures.items in
@@ -60,7 +61,7 @@ add_child-requires-clause-inside c =
 pub overflow_add-self : goal.overflow_add-self
 overflow_add-self c =
     let k = c.self.invariant in
-    let d = depth_small _ k.history k.holds in
+    let d = depth_small _ k.history k.aim k.holds in
     let s = k.holds.size in
     let l = k.limit in
     let b : c.self.inside.depth + 1 < 2 ^ 32 = omega arith in
@@ -72,23 +73,24 @@ invariant_of-self-in-Ok c =
     let k = c.self.invariant in
     let l = k.holds.limit in
     let s = k.holds.size in
-    let old : Kept = record { machine = c.self.inside.machine; rows = c.self.inside.rows.items; cursor = c.self.inside.cursor; depth = c.self.inside.depth; nodes = c.self.inside.nodes } in
-    let new : Kept = record { machine = c.apply.new.self; rows = c.add_child.new.rows.items; cursor = c.len-made.result; depth = c.self.inside.depth + 1; nodes = c.self.inside.nodes } in
+    let old : Kept = record { machine = c.self.inside.machine; rows = c.self.inside.rows.items; cursor = c.self.inside.cursor; depth = c.self.inside.depth; nodes = c.self.inside.nodes; marks = c.self.inside.marks } in
+    let new : Kept = record { machine = c.apply.new.self; rows = c.add_child.new.rows.items; cursor = c.len-made.result; depth = c.self.inside.depth + 1; nodes = c.self.inside.nodes; marks = c.self.inside.marks } in
     let x = applied old new k.history c.args.event.now c.in_ok-answer.answer c.in_ok-answer.back no_row k.holds (omega arith) c.in_ok-answer.ensures
-    (c.add_child.ensures no_row ∙ ap (λ rows. grown rows c.self.inside.cursor c.in_ok-answer.back no_row) c.in-Ok.ensures.items) (omega arith) refl refl in
-    record { history = done c.args.event.now k.history; holds = x.0; fits = omega arith; limit = k.limit }
+    (c.add_child.ensures no_row ∙ ap (λ rows. grown rows c.self.inside.cursor c.in_ok-answer.back no_row) c.in-Ok.ensures.items) (omega arith) refl refl refl in
+    record { history = done c.args.event.now k.history; aim = Down (length k.history.nodes + 1) ∷ k.aim; holds = x.0; fits = omega arith; limit = k.limit }
 
 pub returns-in-Ok : goal.returns-in-Ok
+unfolding done
 returns-in-Ok c =
-    let old : Kept = record { machine = c.self.inside.machine; rows = c.self.inside.rows.items; cursor = c.self.inside.cursor; depth = c.self.inside.depth; nodes = c.self.inside.nodes } in
-    let new : Kept = record { machine = c.apply.new.self; rows = c.add_child.new.rows.items; cursor = c.len-made.result; depth = c.self.inside.depth + 1; nodes = c.self.inside.nodes } in
+    let old : Kept = record { machine = c.self.inside.machine; rows = c.self.inside.rows.items; cursor = c.self.inside.cursor; depth = c.self.inside.depth; nodes = c.self.inside.nodes; marks = c.self.inside.marks } in
+    let new : Kept = record { machine = c.apply.new.self; rows = c.add_child.new.rows.items; cursor = c.len-made.result; depth = c.self.inside.depth + 1; nodes = c.self.inside.nodes; marks = c.self.inside.marks } in
     let answers : c.in-Ok.answers ≡ (c.in_ok-answer.answer, c.in_ok-answer.answer) = c.in-Ok.ensures.answers in
     let P : Kept → Type 0 = λ k. (m : History) → Holds k m → Accepted new c.in-Ok.answers (do_event c.args.event.now m) in
     subst P c.self.view_is (λ m h.
     let l = h.limit in
     let s = h.size in
     let x = applied old new m c.args.event.now c.in_ok-answer.answer c.in_ok-answer.back no_row h (omega arith) c.in_ok-answer.ensures
-    (c.add_child.ensures no_row ∙ ap (λ rows. grown rows c.self.inside.cursor c.in_ok-answer.back no_row) c.in-Ok.ensures.items) (omega arith) refl refl in
+    (c.add_child.ensures no_row ∙ ap (λ rows. grown rows c.self.inside.cursor c.in_ok-answer.back no_row) c.in-Ok.ensures.items) (omega arith) refl refl refl in
     record {
       after = done c.args.event.now m;
       gives = x.1 ∙ ap (λ a. Ok (a, done c.args.event.now m)) (sym (ap (λ (a : Answer × Answer). a.0) answers));
@@ -99,13 +101,13 @@ returns-in-Ok c =
 pub revert-requires : goal.revert-requires
 revert-requires c =
     let k = c.self.invariant in
-    let old : Kept = record { machine = c.self.inside.machine; rows = c.self.inside.rows.items; cursor = c.self.inside.cursor; depth = c.self.inside.depth; nodes = c.self.inside.nodes } in
+    let old : Kept = record { machine = c.self.inside.machine; rows = c.self.inside.rows.items; cursor = c.self.inside.cursor; depth = c.self.inside.depth; nodes = c.self.inside.nodes; marks = c.self.inside.marks } in
     (c.self.inside.machine, trades_back old c.apply.new.self k.history c.args.event.now c.in_ok-answer.answer c.in_ok-answer.back no_row k.holds c.in_ok-answer.ensures)
 
 pub invariant_of-self-in-Err : goal.invariant_of-self-in-Err
 invariant_of-self-in-Err c =
     let k = c.self.invariant in
-    let old : Kept = record { machine = c.self.inside.machine; rows = c.self.inside.rows.items; cursor = c.self.inside.cursor; depth = c.self.inside.depth; nodes = c.self.inside.nodes } in
+    let old : Kept = record { machine = c.self.inside.machine; rows = c.self.inside.rows.items; cursor = c.self.inside.cursor; depth = c.self.inside.depth; nodes = c.self.inside.nodes; marks = c.self.inside.marks } in
     let home = c.revert.ensures c.self.inside.machine (trades_back old c.apply.new.self k.history c.args.event.now c.in_ok-answer.answer c.in_ok-answer.back no_row k.holds c.in_ok-answer.ensures) in
     let Q : machines.Kept → Type 0 = λ q. IsKept (record old { machine = q; rows = c.take_room.new.rows.items }) in
     let R : List Row → Type 0 = λ q. IsKept (record old { rows = q }) in
@@ -114,7 +116,7 @@ invariant_of-self-in-Err c =
 pub returns-in-Err : goal.returns-in-Err
 returns-in-Err c =
     let k = c.self.invariant in
-    let old : Kept = record { machine = c.self.inside.machine; rows = c.self.inside.rows.items; cursor = c.self.inside.cursor; depth = c.self.inside.depth; nodes = c.self.inside.nodes } in
+    let old : Kept = record { machine = c.self.inside.machine; rows = c.self.inside.rows.items; cursor = c.self.inside.cursor; depth = c.self.inside.depth; nodes = c.self.inside.nodes; marks = c.self.inside.marks } in
     let home = c.revert.ensures c.self.inside.machine (trades_back old c.apply.new.self k.history c.args.event.now c.in_ok-answer.answer c.in_ok-answer.back no_row k.holds c.in_ok-answer.ensures) in
     let all : record old { machine = c.revert.new.machine; rows = c.take_room.new.rows.items } ≡ old =
     ap (λ q. record old { machine = q; rows = c.take_room.new.rows.items }) home ∙ ap (λ q. record old { rows = q }) c.in-Err.ensures.items in

@@ -1,4 +1,4 @@
-use Rattle.std.proofs.Common.{rules, arith, refl}
+use Rattle.std.proofs.Common.{rules, arith, refl, []}
 use Rattle.esx_plain.specs.History.{opened}
 use Rattle.esx_journal.proofs.Grows.{opens_with}
 use Rattle.esx_journal.proofs.journal.Journal.open.Goals as goal
@@ -6,10 +6,11 @@ use Rattle.esx_journal.proofs.journal.Journal.open.Goals as goal
 pub invariant_of-result : goal.invariant_of-result
 invariant_of-result c = record {
   history = opened c.args.config;
-  holds = opens_with _ c.args.config c.in_ok-machine.ensures.shows.0 c.in_ok-machine.ensures.shows.1 (search rules) refl refl refl;
+  aim = [];
+  holds = opens_with _ c.args.config c.in_ok-machine.ensures.shows.0 c.in_ok-machine.ensures.shows.1 (search rules) refl refl refl c.new.ensures;
   fits = omega arith;
   limit = search rules;
 }
 
 pub returns-clause-opens : goal.returns-clause-opens
-returns-clause-opens c = opens_with _ c.args.config c.in_ok-machine.ensures.shows.0 c.in_ok-machine.ensures.shows.1 (search rules) refl refl refl
+returns-clause-opens c = opens_with _ c.args.config c.in_ok-machine.ensures.shows.0 c.in_ok-machine.ensures.shows.1 (search rules) refl refl refl c.new.ensures

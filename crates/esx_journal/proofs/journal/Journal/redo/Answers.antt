@@ -1,6 +1,7 @@
 use Rattle.std.proofs.Common.{rules, ◌≡◌, ◌∙◌, sym, ap, subst, arith, refl}
 use Rattle.esx_plain.specs.History.{History, redone, jumped}
 use Rattle.esx_journal.specs.Journal.{Holds}
+use Rattle.esx_journal.proofs.Steps.{holds_down, is_child, child_by}
 use Rattle.esx_journal.proofs.Moves.{redone_back, none_by, some_by, redo_none, redo_some, holds_jumped}
 use Rattle.esx_journal.proofs.journal.Journal.redo.Goals as goal
 
@@ -15,7 +16,9 @@ pub descend-preserved : goal.descend-preserved
 descend-preserved c = λ m w h e.
     let s = redone_back m w c.descend._gone e in
     let P : History → Type 0 = Holds c.step_down.new.self in
-    subst P s.same (c.step_down.ensures s.before s.node (c.descend.invariant m s.before h s.gives) s.is)
+    let k = child_by s.before s.node s.is in
+    let holds = c.descend.invariant m s.before h s.gives in
+    subst P s.same (holds_down _ s.before s.node (is_child s.before s.before.walk s.node holds.lasts k) (c.step_down.ensures s.before s.before.walk s.node holds k))
 
 pub returns : goal.returns
 returns c = λ m h.

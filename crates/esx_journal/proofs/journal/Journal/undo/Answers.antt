@@ -1,6 +1,7 @@
 use Rattle.std.proofs.Common.{◌≡◌, sym, ap, subst, arith, refl, ℕ}
 use Rattle.esx_plain.specs.History.{History, undone, jumped}
 use Rattle.esx_journal.specs.Journal.{Kept, Holds}
+use Rattle.esx_journal.proofs.Steps.{holds_up}
 use Rattle.esx_journal.proofs.Moves.{undone_more, undo_none, undo_some, holds_jumped}
 use Rattle.esx_journal.proofs.journal.Journal.undo.Goals as goal
 
@@ -14,7 +15,7 @@ climb-init c = record { deep = omega arith; holds = λ m h. h }
 pub climb-preserved : goal.climb-preserved
 climb-preserved c = record {
   deep = (let d = c.climb.invariant.deep in let e = c.step_up.ensures.depth in omega arith);
-  holds = λ m h. (let P : History → Type 0 = Holds c.step_up.new.self in subst P (sym (undone_more c.climb._gone m)) (c.step_up.ensures.holds (undone c.climb._gone m) (c.climb.invariant.holds m h)));
+  holds = λ m h. (let P : History → Type 0 = Holds c.step_up.new.self in subst P (sym (undone_more c.climb._gone m)) (holds_up _ (undone c.climb._gone m) (c.step_up.ensures.holds (undone c.climb._gone m) (undone c.climb._gone m).walk (c.climb.invariant.holds m h))));
 }
 
 pub returns : goal.returns

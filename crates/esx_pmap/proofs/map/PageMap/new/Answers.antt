@@ -1,4 +1,4 @@
-use Rattle.std.proofs.Common.{◌≤◌, arith}
+use Rattle.std.proofs.Common.{arith}
 use Rattle.esx_pmap.proofs.MapLemmas.{map_new, loans_new}
 use Rattle.esx_pmap.proofs.map.PageMap.new.Goals as goal
 

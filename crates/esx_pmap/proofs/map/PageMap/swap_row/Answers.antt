@@ -1,13 +1,13 @@
-use Rattle.std.proofs.Common.{◌≡◌, ◌/◌, ◌<◌, length, ap, sym, ◌∙◌, arith}
+use Rattle.std.proofs.Common.{◌/◌, ◌<◌, length, ap, ◌∙◌, arith}
 use Rattle.std.proofs.lemmas.List.{get_or_read}
 use Rattle.esx_types.specs.declared.table.MapRow.TheVariants.{Untouched}
-use Rattle.esx_types.specs.Pages.{is_here, is_out, is_lent, is_lent_in, page_at}
-use Rattle.esx_lists.proofs.Counts.{counted_there, count_by-set-fits}
+use Rattle.esx_types.specs.Pages.{is_here, is_out}
+use Rattle.esx_lists.proofs.Counts.{count_by-set-fits}
 use Rattle.esx_pmap.proofs.MapLemmas.{block_there, block_fits, map_set, loans_moved, others_lent}
 use Rattle.esx_pmap.proofs.map.PageMap.swap_row.Goals as goal
 
-pub moved-self-inside-requires-clause-fits : goal.moved-self-inside-requires-clause-fits
-moved-self-inside-requires-clause-fits c =
+pub recount-requires-clause-fits : goal.recount-requires-clause-fits
+recount-requires-clause-fits c =
     let rows = c.self.inside.rows.items in
     let h : c.args.page < length rows = omega (arith, ap length c.self.view_is) in
     let old = get_or_read rows c.args.page _ h c.index.ensures Untouched in
@@ -15,22 +15,22 @@ moved-self-inside-requires-clause-fits c =
     let was = c.is_here-was.ensures ∙ ap is_here old in
     rw (m.all, was, c.is_here-is.ensures) (count_by-set-fits is_here rows c.args.page c.args.row.now Untouched 4294967296 h m.fits)
 
-pub moved-count-requires : goal.moved-count-requires
-moved-count-requires c =
+pub recount-requires-2 : goal.recount-requires-2
+recount-requires-2 c =
     let rows = c.self.inside.rows.items in
     let h : c.args.page < length rows = omega (arith, ap length c.self.view_is) in
     let old = get_or_read rows c.args.page _ h c.index.ensures Untouched in
     let m = c.self.invariant.0 in
     let was = c.is_here-was.ensures ∙ ap is_here old in
     let there : c.args.page / 256 < length c.self.inside.blocks.items = omega (arith, m.enough) in
-    let read = get_or_read c.self.inside.blocks.items (c.args.page / 256) _ there c.index-2.ensures 0 in
+    let read = get_or_read c.self.inside.blocks.items (c.args.page / 256) _ there c.index_mut.ensures.value 0 in
     rw (read, m.each (c.args.page / 256), was, c.is_here-is.ensures) (record {
       there = block_there rows c.args.page h;
       fits = block_fits rows c.args.page c.args.row.now h;
     })
 
-pub moved-self-inside-requires-2-clause-fits : goal.moved-self-inside-requires-2-clause-fits
-moved-self-inside-requires-2-clause-fits c =
+pub recount-requires-3-clause-fits : goal.recount-requires-3-clause-fits
+recount-requires-3-clause-fits c =
     let rows = c.self.inside.rows.items in
     let h : c.args.page < length rows = omega (arith, ap length c.self.view_is) in
     let old = get_or_read rows c.args.page _ h c.index.ensures Untouched in
@@ -64,13 +64,15 @@ invariant_of-self c =
     let m = c.self.invariant.0 in
     let was = c.is_here-was.ensures ∙ ap is_here old in
     let there : c.args.page / 256 < length c.self.inside.blocks.items = omega (arith, m.enough) in
-    let read = get_or_read c.self.inside.blocks.items (c.args.page / 256) _ there c.index-2.ensures 0 in
+    let read = get_or_read c.self.inside.blocks.items (c.args.page / 256) _ there c.index_mut.ensures.value 0 in
     let row = c.args.row.now in
     let out = c.is_out.ensures ∙ ap is_out old in
-    let counted = rw (read, was, c.is_here-is.ensures) at c.moved-count.ensures in
-    let all = rw (was, c.is_here-is.ensures) at c.moved-self-inside.ensures in
-    let away = rw (out, c.is_out-2.ensures) at c.moved-self-inside-2.ensures in
+    let counted = rw (read, was, c.is_here-is.ensures) at c.recount-2.ensures in
+    let all = rw (was, c.is_here-is.ensures) at c.recount.ensures in
+    let away = rw (out, c.is_out-2.ensures) at c.recount-3.ensures in
     let lost = rw old at c.leave.ensures.all in
-    rw c.swap.ensures.x_after (map_set _ _ _ _ _ _ _ _ _ m h counted all away,
-    loans_moved rows c.args.page row c.self.inside.loans.items c.leave.new.loans.items c.enter.new.loans.items _ _ h c.self.invariant.1 (omega (arith, c.leave.ensures.room, c.enter.ensures.room)) c.enter.ensures.loans
-    (λ e. rw old at (c.leave.ensures.each e)) lost c.enter.ensures.each c.enter.ensures.all)
+    rw c.swap.ensures.x_after (
+      map_set _ _ _ _ _ _ _ _ _ m h counted all away,
+      loans_moved rows c.args.page row c.self.inside.loans.items c.leave.new.loans.items c.enter.new.loans.items _ _ h c.self.invariant.1 (omega (arith, c.leave.ensures.room, c.enter.ensures.room)) c.enter.ensures.loans
+          (λ e. rw old at (c.leave.ensures.each e)) lost c.enter.ensures.each c.enter.ensures.all,
+    )

@@ -8,8 +8,8 @@ use Rattle.esx_swap.proofs.RowLemmas.{table_set}
 use Rattle.esx_swap.proofs.slots.Slots.swap_row.Goals as goal
 use Rattle.esx_swap.proofs.slots.Slots.swap_row.Goals.{then-is-was, else-is-was}
 
-pub moved-self-inside-requires : goal.moved-self-inside-requires
-moved-self-inside-requires c =
+pub recount-requires : goal.recount-requires
+recount-requires c =
     let rows = c.self.inside.rows.items in
     let h : c.args.slot < length rows = omega (arith, ap length c.self.view_is) in
     let was = c.is_empty-was.ensures ∙ ap is_empty (get_or_read rows c.args.slot _ h c.index.ensures Free) in
@@ -21,7 +21,7 @@ invariant_of-self c =
     let row = c.args.row.now in
     let h : c.args.slot < length rows = omega (arith, ap length c.self.view_is) in
     let was = c.is_empty-was.ensures ∙ ap is_empty (get_or_read rows c.args.slot _ h c.index.ensures Free) in
-    let counted = rw (was, c.is_empty-is.ensures) at c.moved-self-inside.ensures in
+    let counted = rw (was, c.is_empty-is.ensures) at c.recount.ensures in
     elim c.if-is-was.branch [
       | then-is-was w ↦
           let free = w.set.ensures ∙ rw (c.is_empty-is.ensures, c.self.invariant.free) (sym (map-set is_empty rows c.args.slot row)) in

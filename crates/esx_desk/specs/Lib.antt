@@ -1,0 +1,8 @@
+pub mod Legal
+pub mod Told
+pub use Rattle.esx_types.specs.Ids
+pub use Rattle.esx_types.specs.Ranges
+pub use Rattle.esx_plain.specs.Console
+pub use Rattle.esx_lock.specs.Logs
+pub use Rattle.esx_lock.specs.Words
+pub use Rattle.esx_lock.specs.Passes

@@ -1,0 +1,62 @@
+use Rattle.std.proofs.Common.{◌≡◌, ◌≤◌, ◌∙◌, ◌∷◌, sym, ap, subst, arith, length, List}
+use Rattle.esx_plain.specs.Tree.{Move, Down, parent}
+use Rattle.esx_plain.specs.History.{History}
+use Rattle.esx_journal.specs.declared.row.Row.{Row}
+use Rattle.esx_journal.specs.Journal.{Kept, Aims}
+use Rattle.esx_journal.proofs.Paths.{parent_below}
+use Rattle.esx_journal.proofs.Sinking.{aims_at}
+use Rattle.esx_journal.proofs.journal.Journal.aim_at.Goals as goal
+
+pub index_mut-requires : goal.index_mut-requires
+index_mut-requires c =
+    let k = c.self.invariant in
+    let s = k.holds.size in
+    let v = ap (λ (x : Kept). length x.rows) c.self.view_is in
+    let some = c.requires.some in
+    let within = c.requires.within in
+    let fits : c.args.node ≤ length k.history.nodes = omega arith in
+    let up = ap (λ (r : Row). r.parent) c.index.ensures ∙ (k.holds.each c.args.node c.index.result.now fits).up in
+    let less = parent_below k.history.nodes c.args.node k.holds.tree some fits in
+    omega arith
+
+pub returns-clause-older : goal.returns-clause-older
+returns-clause-older c =
+    let k = c.self.invariant in
+    let s = k.holds.size in
+    let v = ap (λ (x : Kept). length x.rows) c.self.view_is in
+    let some = c.requires.some in
+    let within = c.requires.within in
+    let fits : c.args.node ≤ length k.history.nodes = omega arith in
+    let up = ap (λ (r : Row). r.parent) c.index.ensures ∙ (k.holds.each c.args.node c.index.result.now fits).up in
+    let less = parent_below k.history.nodes c.args.node k.holds.tree some fits in
+    omega arith
+
+pub invariant_of-self : goal.invariant_of-self
+invariant_of-self c =
+    let k = c.self.invariant in
+    let s = k.holds.size in
+    let v = ap (λ (x : Kept). length x.rows) c.self.view_is in
+    let some = c.requires.some in
+    let within = c.requires.within in
+    let fits : c.args.node ≤ length k.history.nodes = omega arith in
+    let up = ap (λ (r : Row). r.parent) c.index.ensures ∙ (k.holds.each c.args.node c.index.result.now fits).up in
+    record {
+      history = k.history;
+      aim = Down c.args.node ∷ k.aim;
+      holds = aims_at _ k.history k.aim c.args.node c.index.result.now.parent c.index_mut.result.now c.index_mut.result.now k.holds some fits up c.index_mut.ensures.value;
+      fits = k.fits;
+      limit = k.limit;
+    }
+
+pub returns-clause-holds : goal.returns-clause-holds
+returns-clause-holds c =
+    let old : Kept = record { machine = c.self.inside.machine; rows = c.self.inside.rows.items; cursor = c.self.inside.cursor; depth = c.self.inside.depth; nodes = c.self.inside.nodes; marks = c.self.inside.marks } in
+    let v = ap (λ (x : Kept). length x.rows) c.self.view_is in
+    let some = c.requires.some in
+    let within = c.requires.within in
+    let P : History → List Move → Kept → Type 0 = λ m aim k. Aims k m aim in
+    λ m aim h0. (let h : Aims old m aim = subst (P m aim) (sym c.self.view_is) h0 in
+    let s = h.size in
+    let fits : c.args.node ≤ length m.nodes = omega arith in
+    let up : c.index.result.now.parent ≡ parent m.nodes c.args.node = ap (λ (r : Row). r.parent) c.index.ensures ∙ (h.each c.args.node c.index.result.now fits).up in
+    (up, aims_at old m aim c.args.node c.index.result.now.parent c.index_mut.result.now c.index_mut.result.now h some fits up c.index_mut.ensures.value))

@@ -1,0 +1,8 @@
+use Rattle.esx_journal.proofs.Visiting.{visit_after, free_name}
+use Rattle.esx_journal.proofs.laws.visit_is_a_goto.Goals as goal
+
+pub returns-clause-named : goal.returns-clause-named
+returns-clause-named c = visit_after
+
+pub returns-clause-unnamed : goal.returns-clause-unnamed
+returns-clause-unnamed c = free_name

@@ -1,0 +1,182 @@
+//! The index over listings: chains of frames in ascending order, one for the keys of each head.
+
+ghost use Rattle.std.specs.Prelude.{◌≡◌, ◌<◌, ℕ, Option, Some, None, length, slice_set, IfOk, IfSome, replicate};
+ghost use Rattle.std.specs.Int.{IsPowerOfTwo};
+ghost use Rattle.std.specs.List.{position_from};
+ghost use Rattle.esx_types.specs.declared.table.Listing.TheVariants.{Unlisted};
+ghost use Rattle.esx_types.specs.Listings.{listing_at};
+ghost use Rattle.esx_keys.specs.Chains.{AreApart, IsBefore, IsMoved, IsChained};
+ghost use Rattle.esx_keys.specs.Index.{is_under, chain_of, chain_in, link_in, IsIndex, SameSizes};
+
+use crate::arena::head_of;
+use crate::entry::Kind;
+use esx_types::Listing;
+use std::alloc::{AllocError, Global};
+use std::mem;
+
+/// The number that names no frame.
+const NO_FRAME: u32 = u32::MAX;
+
+/// What each frame stands under, the first frame of each chain, and after each frame the next of its
+/// chain.
+#[derive(Drop)]
+pub(crate) struct Index {
+    pub(crate) listings: Vec<Listing>,
+    pub(crate) heads: Vec<u32>,
+    pub(crate) next: Vec<u32>,
+}
+
+/// The chain of a listing.
+fn chain_of(listing: &Listing, heads: usize) -> Option<usize>
+    requires { IsPowerOfTwo heads }
+    ensures { result ≡ chain_of heads listing.now }
+{
+    match listing {
+        Listing::Unlisted => None,
+        Listing::Shared { key } | Listing::Hinted { key, .. } => Some(head_of(*key, heads)),
+    }
+}
+
+/// Is this what stands under the key?
+fn is_under(listing: &Listing, kind: Kind, key: u64) -> bool
+    ensures { result ≡ is_under kind key listing.now }
+{
+    match listing {
+        Listing::Unlisted => false,
+        Listing::Shared { key: own } => kind == Kind::Shared && *own == key,
+        Listing::Hinted { key: own, .. } => kind == Kind::Hint && *own == key,
+    }
+}
+
+impl Index {
+    /// That many frames that stand under nothing.
+    pub(crate) fn new(alloc: Global, frames: u32) -> Result<Index, AllocError>
+        ensures index { IfOk result IsIndex }
+        ensures listings { IfOk result (λ index. index.listings.items ≡ replicate frames Unlisted) }
+    {
+        let frames = frames as usize;
+        let heads = vec![in alloc; NO_FRAME; frames.next_power_of_two()]?;
+        let next = vec![in alloc; NO_FRAME; frames]?;
+        let listings = vec![in alloc; Listing::Unlisted; frames]?;
+        Ok(Index {
+            listings,
+            heads,
+            next,
+        })
+    }
+
+    /// The least frame of this kind under a key.
+    pub(crate) fn find(&self, kind: Kind, key: u64) -> Option<u32>
+        requires { IsIndex self.now }
+        ensures { result ≡ position_from (is_under kind key) 0 self.now.listings.items }
+    {
+        let mut at = self.heads[head_of(key, self.heads.len())];
+        while (at as usize) < self.listings.len() {
+            if is_under(&self.listings[at as usize], kind, key) {
+                return Some(at);
+            }
+            at = self.next[at as usize];
+        }
+        None
+    }
+
+    /// The last frame of a chain that is below a frame.
+    fn last_below(&self, chain: usize, frame: u32) -> Option<u32>
+        requires index { IsIndex self.now }
+        requires chain { chain < length self.now.heads.items }
+        requires frame { frame < length self.now.listings.items }
+        ensures { IsBefore (chain_in self.now) chain frame result }
+    {
+        let mut last = None;
+        let mut at = self.heads[chain];
+        while at < frame {
+            last = Some(at);
+            at = self.next[at as usize];
+        }
+        last
+    }
+
+    /// The frame that follows a frame of a chain, or its first.
+    fn link(&self, chain: usize, last: Option<u32>) -> u32
+        requires chain { chain < length self.now.heads.items }
+        requires last { IfSome last (λ k. k < length self.now.next.items) }
+        ensures { result ≡ link_in self.now chain last }
+    {
+        match last {
+            Some(frame) => self.next[frame as usize],
+            None => self.heads[chain],
+        }
+    }
+
+    /// Puts a frame after a frame of a chain, or first.
+    fn set_link(&mut self, chain: usize, last: Option<u32>, to: u32)
+        requires chain { chain < length self.old.heads.items }
+        requires last { IfSome last (λ k. k < length self.old.next.items) }
+        ensures sizes { SameSizes self.old self.new }
+        ensures there { link_in self.new chain last ≡ to }
+        ensures others { (b : ℕ) (o : Option ℕ) → AreApart b o chain last → link_in self.new b o ≡ link_in self.old b o }
+    {
+        match last {
+            Some(frame) => self.next[frame as usize] = to,
+            None => self.heads[chain] = to,
+        }
+    }
+
+    /// Takes a frame out of its chain.
+    fn unlink(&mut self, chain: usize, frame: u32)
+        requires index { IsIndex self.old }
+        requires chain { chain < length self.old.heads.items }
+        requires frame { frame < length self.old.listings.items }
+        requires there { chain_in self.old frame ≡ Some chain }
+        ensures sizes { SameSizes self.old self.new }
+        ensures chained { (moved : ℕ → Option ℕ) → IsMoved (chain_in self.old) frame None moved
+            → IsChained (length self.new.listings.items) moved self.new.heads.items self.new.next.items }
+    {
+        let last = self.last_below(chain, frame);
+        let onward = self.next[frame as usize];
+        self.set_link(chain, last, onward);
+    }
+
+    /// Puts a frame into a chain.
+    fn insert(&mut self, chain: usize, frame: u32)
+        requires index { IsIndex self.old }
+        requires chain { chain < length self.old.heads.items }
+        requires frame { frame < length self.old.listings.items }
+        requires apart { chain_in self.old frame ≡ None }
+        ensures sizes { SameSizes self.old self.new }
+        ensures chained { (moved : ℕ → Option ℕ) → IsMoved (chain_in self.old) frame (Some chain) moved
+            → IsChained (length self.new.listings.items) moved self.new.heads.items self.new.next.items }
+    {
+        let last = self.last_below(chain, frame);
+        self.next[frame as usize] = self.link(chain, last);
+        self.set_link(chain, last, frame);
+    }
+
+    /// Takes a frame off what it stands under.
+    pub(crate) fn unlist(&mut self, frame: u32) -> Listing
+        requires index { IsIndex self.old }
+        requires frame { frame < length self.old.listings.items }
+        ensures index { IsIndex self.new }
+        ensures listings { self.new.listings.items ≡ slice_set self.old.listings.items frame Unlisted }
+        ensures result { result ≡ listing_at self.old.listings.items frame }
+    {
+        if let Some(chain) = chain_of(&self.listings[frame as usize], self.heads.len()) {
+            self.unlink(chain, frame);
+        }
+        mem::replace(&mut self.listings[frame as usize], Listing::Unlisted)
+    }
+
+    /// Puts a frame that stands under nothing under a key.
+    pub(crate) fn enlist(&mut self, frame: u32, listing: Listing)
+        requires index { IsIndex self.old }
+        requires frame { frame < length self.old.listings.items }
+        requires unlisted { listing_at self.old.listings.items frame ≡ Unlisted }
+        ensures index { IsIndex self.new }
+        ensures listings { self.new.listings.items ≡ slice_set self.old.listings.items frame listing }
+    {
+        if let Some(chain) = chain_of(&listing, self.heads.len()) {
+            self.insert(chain, frame);
+        }
+        self.listings[frame as usize] = listing;
+    }
+}

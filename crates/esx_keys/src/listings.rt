@@ -1,0 +1,129 @@
+//! What each frame stands under.
+
+ghost use Rattle.std.specs.Prelude.{◌≡◌, ◌<◌, ℕ, IfOk, IfSome, IfNone, length, replicate, slice_set, slice_index_or};
+ghost use Rattle.std.specs.List.{position_from};
+ghost use Rattle.esx_types.specs.declared.table.Listing.TheVariants.{Unlisted};
+ghost use Rattle.esx_types.specs.declared.table.KeyRow.{KeyRow};
+ghost use Rattle.esx_types.specs.declared.table.Hint.{Hint};
+ghost use Rattle.esx_types.specs.Listings.{listing_at, is_shared_under, is_hinted_under, IsSharedUnder, IsHintedUnder, shared_from, hints_of, in_order};
+
+use crate::entry::Kind;
+use crate::index::Index;
+use crate::order;
+use esx_types::{Hint, KeyRow, Listing, Rows};
+use std::alloc::{AllocError, Global};
+use std::marker::Model;
+
+/// What each frame stands under, seen as the list of it, and an index by key over it; a frame's number is
+/// its place.
+///
+/// No call but `new` and the two that list what stands takes memory. A listing takes 16 bytes, and a frame
+/// 8 to 12 more, for the next of its chain and for the heads of chains, of which there are the least power
+/// of two that is not less than the frames.
+#[derive(Drop)]
+pub struct Listings {
+    index: Index,
+}
+
+impl Model for Listings {
+    ghost use Rattle.std.specs.Prelude.{List};
+    ghost use Rattle.esx_types.specs.declared.table.Listing.{Listing};
+    ghost use Rattle.esx_keys.specs.Index.{IsIndex};
+
+    ghost Value = { List Listing };
+
+    ghost view = { λ a. a.index.listings.items };
+
+    ghost invariant = { λ a. IsIndex a.index };
+}
+
+impl Listings {
+    /// That many frames, none of which stands under a key.
+    pub fn new(alloc: Global, frames: u32) -> Result<Listings, AllocError>
+        ensures { IfOk result (λ l. l ≡ replicate frames Unlisted) }
+    {
+        let index = Index::new(alloc, frames)?;
+        Ok(Listings { index })
+    }
+
+    /// How many frames there are.
+    pub fn len(&self) -> u32
+        ensures { result ≡ length self.now }
+    {
+        self.index.listings.len() as u32
+    }
+
+    /// What a frame stands under; past the last frame, nothing.
+    pub fn get(&self, frame: u32) -> Listing
+        ensures { result ≡ listing_at self.now frame }
+    {
+        match self.index.listings.get(frame as usize) {
+            Some(listing) => *listing,
+            None => Listing::Unlisted,
+        }
+    }
+
+    /// The least frame that is shared under a key.
+    pub fn shared_under(&self, key: u64) -> Option<u32>
+        ensures least { result ≡ position_from (is_shared_under key) 0 self.now }
+        ensures found { IfSome result (λ frame. IsSharedUnder key (listing_at self.now frame)) }
+        ensures within { IfSome result (λ frame. frame < length self.now) }
+        ensures none { IfNone result ((frame : ℕ) → ¬ IsSharedUnder key (listing_at self.now frame)) }
+    {
+        self.index.find(Kind::Shared, key)
+    }
+
+    /// The least frame whose page is a hint under a key.
+    pub fn hinted_under(&self, key: u64) -> Option<u32>
+        ensures least { result ≡ position_from (is_hinted_under key) 0 self.now }
+        ensures found { IfSome result (λ frame. IsHintedUnder key (listing_at self.now frame)) }
+        ensures within { IfSome result (λ frame. frame < length self.now) }
+        ensures none { IfNone result ((frame : ℕ) → ¬ IsHintedUnder key (listing_at self.now frame)) }
+    {
+        self.index.find(Kind::Hint, key)
+    }
+
+    /// The shared frames in order of key, and those under one key in order of number.
+    pub fn shared(&self, alloc: Global) -> Result<Rows<KeyRow>, AllocError>
+        ensures { IfOk result (λ rows. rows ≡ in_order (λ (row : KeyRow). row.key) (shared_from 0 self.now)) }
+    {
+        order::shared_in_order(alloc, &self.index.listings)
+    }
+
+    /// The hints in order of key, and those under one key in order of their frames.
+    pub fn hints(&self, alloc: Global) -> Result<Rows<Hint>, AllocError>
+        ensures { IfOk result (λ rows. rows ≡ in_order (λ (hint : Hint). hint.key) (hints_of self.now)) }
+    {
+        order::hints_in_order(alloc, &self.index.listings)
+    }
+
+    /// Trades what a frame stands under with what is handed over. Past the last frame nothing changes.
+    pub fn trade(&mut self, frame: u32, listing: &mut Listing)
+        ensures listings { self.new ≡ slice_set self.old frame listing.old }
+        ensures listing { listing.new ≡ slice_index_or self.old frame listing.old }
+    {
+        if frame < self.len() {
+            let before = self.unlist(frame);
+            self.enlist(frame, *listing);
+            *listing = before;
+        }
+    }
+
+    /// Takes a frame off what it stands under.
+    fn unlist(&mut self, frame: u32) -> Listing
+        requires { frame < length self.old }
+        ensures listings { self.new ≡ slice_set self.old frame Unlisted }
+        ensures result { result ≡ listing_at self.old frame }
+    {
+        self.index.unlist(frame)
+    }
+
+    /// Puts a frame that stands under nothing under a key.
+    fn enlist(&mut self, frame: u32, listing: Listing)
+        requires frame { frame < length self.old }
+        requires unlisted { listing_at self.old frame ≡ Unlisted }
+        ensures { self.new ≡ slice_set self.old frame listing }
+    {
+        self.index.enlist(frame, listing);
+    }
+}

@@ -1,0 +1,5 @@
+pub use Rattle.hex.specs.Hex
+pub mod Faults
+pub mod Fields
+pub mod Whole
+pub mod Written

@@ -1,0 +1,26 @@
+-- What reading a file whole comes to.
+use Rattle.std.specs.Prelude.{ℕ, List, Option, ◌≤◌, ◌<◌, ◌^◌, length}
+use Rattle.std.specs.Io.KnownBytes.{Consumes, IsAtEnd}
+use Rattle.esx_reading.specs.declared.fault.TextFault.{TextFault}
+use Rattle.esx_reading.specs.declared.fault.TextFault.TheVariants.{NotText, Read, OutOfMemory}
+
+-- the source gave these bytes and is at its end, and they are no more than a file may have
+pub record GivesWhole (old new : Option (List ℕ)) (bytes : List ℕ) : Type 0 where
+  pub given : Consumes old new bytes
+  pub end : IsAtEnd new
+  pub few : length bytes ≤ 2 ^ 26
+
+-- the source gave more bytes than a file may have
+abbrev pub GivesMore : Option (List ℕ) → Option (List ℕ) → Type 0
+GivesMore old new = (bytes : List ℕ) × Consumes old new bytes × (2 ^ 26 < length bytes)
+
+-- a fault of reading, or want of memory
+abbrev pub IsOfReading : TextFault → Type 0
+IsOfReading Read = Unit {0}
+IsOfReading OutOfMemory = Unit {0}
+IsOfReading _ = ⊥
+
+-- the same, or a file that is no text
+abbrev pub IsOfText : TextFault → Type 0
+IsOfText NotText = Unit {0}
+IsOfText e = IsOfReading e

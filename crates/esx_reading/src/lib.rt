@@ -1,0 +1,15 @@
+//! How texts are read: whole, by the fields of a line, and by the numbers and bytes among them; and how
+//! texts are refused.
+#![tactic(auto)]
+
+mod fault;
+mod fields;
+#[cfg(test)]
+mod tests;
+mod whole;
+mod written;
+
+pub use fault::TextFault;
+pub use fields::{Fields, number_of};
+pub use whole::{read_text, read_text_of, read_whole};
+pub use written::written_bytes;

@@ -1,0 +1,122 @@
+//! Files, read whole.
+
+ghost use Rattle.std.specs.Prelude.{◌≡◌, ◌+◌, ◌≤◌, ◌^◌, ◌⊎◌, ℕ, List, Option, length, string_bytes, IfOk, IfErr, IsErrOf, IsUtf8};
+ghost use Rattle.esx_reading.specs.Whole.{GivesWhole, GivesMore, IsOfReading, IsOfText};
+
+use crate::fault::TextFault;
+use esx_types::{ReadSource, Source};
+use std::alloc::Global;
+use std::io::Read;
+use std::marker::Brand;
+use std::sync::ledger::{Blank, Ledger};
+
+/// The most bytes that a file may have.
+const LONGEST: usize = 1 << 26;
+
+/// How often a file is read from at most.
+const READS: u32 = 1 << 26;
+
+/// How many bytes are asked for at once.
+const CHUNK: usize = 1 << 16;
+
+/// Adds what a source gives, through a room for what is read, to no bytes.
+fn read_through<R: Source>(
+    alloc: Global,
+    source: &mut R,
+    chunk: &mut [u8],
+) -> Result<Vec<u8>, TextFault>
+    requires { length chunk.old ≡ 65536 }
+    ensures ok { IfOk result (λ v. GivesWhole (R.remaining source.old) (R.remaining source.new) v.items) }
+    ensures fault { IfErr result IsOfReading }
+    ensures reads { R.calls source.new ≤ R.calls source.old + 2 ^ 26 }
+    ensures read { IsErrOf result TextFault.Read
+        → (R.failures source.new ≡ R.failures source.old + 1)
+        ⊎ ((R.failures source.new ≡ R.failures source.old)
+        × ((R.calls source.new ≡ R.calls source.old + 2 ^ 26) ⊎ GivesMore (R.remaining source.old) (R.remaining source.new))) }
+    ensures no_read_fault { (IsErrOf result TextFault.Read → ⊥) → R.failures source.new ≡ R.failures source.old }
+{
+    let mut bytes = Vec::new(alloc);
+    for _ in 0..READS {
+        let Ok(given) = source.read(chunk) else {
+            return Err(TextFault::Read);
+        };
+        if given == 0 {
+            return Ok(bytes);
+        }
+        if given > LONGEST - bytes.len() {
+            return Err(TextFault::Read);
+        }
+        let (front, _) = chunk.split_at(given);
+        let Ok(()) = bytes.extend_from_slice(front) else {
+            return Err(TextFault::OutOfMemory);
+        };
+    }
+    Err(TextFault::Read)
+}
+
+/// All bytes of a file.
+///
+/// `Read` comes where the source failed, where it gave more than `2^26` bytes, or where it gave no end in
+/// `2^26` reads, and there is no other fault but want of memory.
+pub fn read_whole<R: Source>(alloc: Global, source: &mut R) -> Result<Vec<u8>, TextFault>
+    ensures ok { IfOk result (λ v. GivesWhole (R.remaining source.old) (R.remaining source.new) v.items) }
+    ensures fault { IfErr result IsOfReading }
+    ensures reads { R.calls source.new ≤ R.calls source.old + 2 ^ 26 }
+    ensures read { IsErrOf result TextFault.Read
+        → (R.failures source.new ≡ R.failures source.old + 1)
+        ⊎ ((R.failures source.new ≡ R.failures source.old)
+        × ((R.calls source.new ≡ R.calls source.old + 2 ^ 26) ⊎ GivesMore (R.remaining source.old) (R.remaining source.new))) }
+    ensures no_read_fault { (IsErrOf result TextFault.Read → ⊥) → R.failures source.new ≡ R.failures source.old }
+{
+    let Ok(mut chunk) = vec![in alloc; 0u8; CHUNK] else {
+        return Err(TextFault::OutOfMemory);
+    };
+    read_through(alloc, source, &mut chunk)
+}
+
+/// A file's text. As `read_whole`, and `NotText` where its bytes are not UTF-8.
+pub fn read_text<R: Source>(alloc: Global, source: &mut R) -> Result<String, TextFault>
+    ensures ok { IfOk result (λ s. GivesWhole (R.remaining source.old) (R.remaining source.new) (string_bytes s)) }
+    ensures not_text { IsErrOf result TextFault.NotText
+        → (bytes : List ℕ) × GivesWhole (R.remaining source.old) (R.remaining source.new) bytes × (IsUtf8 bytes → ⊥) }
+    ensures fault { IfErr result IsOfText }
+    ensures reads { R.calls source.new ≤ R.calls source.old + 2 ^ 26 }
+    ensures read { IsErrOf result TextFault.Read
+        → (R.failures source.new ≡ R.failures source.old + 1)
+        ⊎ ((R.failures source.new ≡ R.failures source.old)
+        × ((R.calls source.new ≡ R.calls source.old + 2 ^ 26) ⊎ GivesMore (R.remaining source.old) (R.remaining source.new))) }
+    ensures no_read_fault { (IsErrOf result TextFault.Read → ⊥) → R.failures source.new ≡ R.failures source.old }
+{
+    let bytes = read_whole(alloc, source)?;
+    match String::from_utf8(bytes) {
+        Ok(text) => Ok(text),
+        Err(_) => Err(TextFault::NotText),
+    }
+}
+
+fn read_counted<R: Read + Drop, L: Ledger>(
+    alloc: Global,
+    reader: R,
+    blank: Blank,
+) -> Result<String, TextFault>
+    requires name { blank.name ≡ L.name }
+    requires parts { blank.parts ≡ L.parts }
+    requires three { 3 ≤ blank.parts }
+    ensures ok { IfOk result (λ s. (left : Option (List ℕ)) × GivesWhole (R.remaining reader) left (string_bytes s)) }
+    ensures not_text { IsErrOf result TextFault.NotText
+        → (left : Option (List ℕ)) × (bytes : List ℕ) × GivesWhole (R.remaining reader) left bytes × (IsUtf8 bytes → ⊥) }
+    ensures fault { IfErr result IsOfText }
+{
+    let mut source = ReadSource::<R, L>::new(reader, blank);
+    read_text(alloc, &mut source)
+}
+
+/// The text that a reader of the standard library gives, as `read_text`.
+pub fn read_text_of<R: Read + Drop>(alloc: Global, reader: R) -> Result<String, TextFault>
+    ensures ok { IfOk result (λ s. (left : Option (List ℕ)) × GivesWhole (R.remaining reader) left (string_bytes s)) }
+    ensures not_text { IsErrOf result TextFault.NotText
+        → (left : Option (List ℕ)) × (bytes : List ℕ) × GivesWhole (R.remaining reader) left bytes × (IsUtf8 bytes → ⊥) }
+    ensures fault { IfErr result IsOfText }
+{
+    read_counted::<_, Brand>(alloc, reader, Blank::new(3))
+}

@@ -1,0 +1,12 @@
+pub use Rattle.toml.specs.Data
+pub use Rattle.toml.specs.View
+pub use Rattle.toml.specs.Parse
+pub use Rattle.esx_types.specs.Ranges
+pub use Rattle.esx_reading.specs.Fields
+pub mod Lines
+pub mod Plans
+pub mod Keys
+pub mod Sites
+pub mod Guests
+pub mod Strange
+pub mod Scenarios
