@@ -29,6 +29,7 @@ pub use Rattle.esx_model.proofs.OtherShown.{start_shown, given_back_shown, admit
 pub use Rattle.esx_model.proofs.EventShown.{left_put, joined_put, put_twice, access_shown, access_in_place_shown, traded_shown}
 -- Rows that are free, counts, and the book's sums.
 pub use Rattle.esx_model.proofs.Counts.{free_row, free_rows, count_in_frame, frames_counted}
+pub use Rattle.esx_model.proofs.Books.{book_read}
 -- Rows of tables, and states.
 pub use Rattle.esx_model.proofs.Lists.{row_in_rows, some_below}
 pub use Rattle.esx_model.proofs.Counts.{counts_same}

@@ -112,7 +112,7 @@ below_or_same a b h other = grind (arith, nat_tests)
 above : (a b : ℕ) → nat_le a b ≡ false → b < a
 above a b h = grind (arith, nat_tests)
 
-in_order_ordered : (new : Hint) (hints : List Hint) → AreOrdered hints → AllByRecursion (λ (h : Hint). h.key ≢ new.key) hints → AreOrdered (in_order new hints)
+pub in_order_ordered : (new : Hint) (hints : List Hint) → AreOrdered hints → AllByRecursion (λ (h : Hint). h.key ≢ new.key) hints → AreOrdered (in_order new hints)
 in_order_ordered new [] h others = (tt, tt)
 in_order_ordered new (x ∷ xs) h others = of (nat_le new.key x.key) refl (in_order_ordered new xs h.1 others.1)
   where
