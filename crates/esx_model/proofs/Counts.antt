@@ -1,20 +1,20 @@
 -- How many rows of frames there are of each kind.
-use Rattle.std.proofs.Common.{suc, zero, ◌≡◌, ℕ, ◌+◌, ◌<◌, Bool, true, false, ◌||◌, not, List, [], ◌∷◌, ◌++◌, length, get_or, map, count_by, refl, sym, ap, ◌∙◌, cond, arith, Option, Some, None, ◌==◌}
-use Rattle.std.specs.List.{filter, flat_map, list_any, range_with_len}
+use Rattle.std.proofs.Common.{◌≡◌, ℕ, ◌+◌, Bool, true, false, ◌||◌, not, List, [], ◌∷◌, ◌++◌, length, map, count_by, refl, sym, ap, ◌∙◌, cond, arith, Option, Some, None, ◌==◌}
+use Rattle.std.specs.List.{flat_map, list_any, range_with_len}
 use Rattle.std.proofs.lemmas.List.Sums.{sum_by-cons}
 use Rattle.std.proofs.lemmas.List.Folds.{list_any-append}
 use Rattle.std.proofs.lemmas.List.FromFn.{length-map-range_with_len, get_or-map-range_with_len}
 use Rattle.esx_types.specs.declared.config.Config.{Config}
 use Rattle.esx_types.specs.declared.table.FrameRow.{FrameRow}
 use Rattle.esx_types.specs.declared.table.FrameRow.TheVariants as frame_is
-use Rattle.esx_types.specs.Frames.{is_overhead, is_private, is_shared, is_free, frame_at}
+use Rattle.esx_types.specs.Frames.{is_overhead, is_private, is_shared, is_free}
 use Rattle.esx_model.specs.declared.scene.Place.{Place}
 use Rattle.esx_model.specs.declared.scene.Place.TheVariants.{Untouched, Here, Out, Lent}
 use Rattle.esx_model.specs.declared.scene.Vm.{Vm}
 use Rattle.esx_model.specs.declared.scene.Site.{Site}
 use Rattle.esx_model.specs.declared.scene.Scene.{Scene}
 use Rattle.esx_model.specs.Places.{is_here_at}
-use Rattle.esx_model.specs.Site.{vm_names, is_named, vm_places, vm_overhead, all_places, all_overhead, pages_at, free_count, least_free}
+use Rattle.esx_model.specs.Site.{vm_names, is_named, vm_places, vm_overhead, all_places, all_overhead, pages_at, free_count}
 use Rattle.esx_model.specs.Show.{is_listed, in_frame, pages_in, frame_row, frame_rows, row_of, shown}
 use Rattle.esx_model.specs.Readings.{sum_of, AddUpTo}
 use Rattle.esx_model.specs.Laws.{AreFramesCounted}
@@ -45,7 +45,7 @@ frames_add_up c t = kinds_add_up (frame_rows c.frames t.site) ∙ length-map-ran
 
 -- Free rows are those of the frames that nobody has taken.
 
-counts_same : {X Y : Type 0} (p : Y → Bool) (q : X → Bool) (h : X → Y) → ((x : X) → p (h x) ≡ q x) → (xs : List X) → count_by p (map h xs) ≡ count_by q xs
+pub counts_same : {X Y : Type 0} (p : Y → Bool) (q : X → Bool) (h : X → Y) → ((x : X) → p (h x) ≡ q x) → (xs : List X) → count_by p (map h xs) ≡ count_by q xs
 counts_same p q h same [] = refl
 counts_same p q h same (x ∷ xs) =
     let a = sum_by-cons (λ y. one (p y)) (h x) (map h xs) in

@@ -1,5 +1,5 @@
 -- Every event keeps a site sound, and every path leads to a sound site.
-use Rattle.std.proofs.Common.{zero, suc, ◌≡◌, ◌≢◌, ℕ, ◌+◌, ◌≤◌, ◌<◌, List, [], ◌∷◌, get_or, replicate, refl, sym, ap, ◌∙◌, subst, arith, Option, Some, None, Result, Ok, Err}
+use Rattle.std.proofs.Common.{zero, suc, ◌≡◌, ℕ, ◌+◌, List, [], ◌∷◌, get_or, replicate, refl, ap, subst, arith, Some, None, Result, Ok, Err}
 use Rattle.std.specs.List.{AllByRecursion}
 use Rattle.esx_types.specs.declared.config.Config.{Config}
 use Rattle.esx_types.specs.Ranges.{IsConfig}
@@ -28,6 +28,7 @@ use Rattle.esx_model.proofs.event.Paging.{swap_out_sound}
 use Rattle.esx_model.proofs.event.Replacing.{replace_sound}
 use Rattle.esx_model.proofs.event.Leaving.{stop_sound, drop_page_sound}
 use Rattle.esx_model.proofs.event.Gone.{gone_sound}
+use Rattle.esx_model.specs.Laws.{AreWithinReserves}
 
 pub every_step_sound : (c : Config) (s : Site) (level : Level) (e : Event) (r : Answer × Site) → IsSound c s → NamesVm e → step c s level e ≡ Ok r → IsSound c r.1
 every_step_sound c s level (Admit n spec) r sound named h = admit_sound c s n spec r sound named h
@@ -106,3 +107,11 @@ opening_sound c fine = record {
 
 pub every_run_sound : (c : Config) (es : List Event) (t : Scene) → IsConfig c → AllByRecursion NamesVm es → run c es ≡ Ok t → IsSound c t.site
 every_run_sound c es t fine named h = every_run_sound_from c 0 es (opening c) t (opening_sound c fine) named h
+
+pub every_run_within : (c : Config) (es : List Event) (t : Scene) → IsConfig c → AllByRecursion NamesVm es → run c es ≡ Ok t → AreWithinReserves c t
+every_run_within c es t fine named h = let sound = every_run_sound c es t fine named h in record {
+  least = λ n v there. (sound.each n v there).least_target;
+  most = λ n v there. (sound.each n v there).most_target;
+  out = λ n v there. (sound.each n v there).out;
+  hints = sound.hints;
+}

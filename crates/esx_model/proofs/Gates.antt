@@ -1,5 +1,5 @@
 -- What an accepted event tells: its machine is there, and its gate passed.
-use Rattle.std.proofs.Common.{◌≡◌, Bool, true, false, not, List, [], ◌∷◌, cond, refl, sym, ap, ◌∙◌, subst, Option, Some, None, Result, Ok, Err}
+use Rattle.std.proofs.Common.{◌≡◌, Bool, true, false, not, [], ◌∷◌, cond, refl, ap, subst, Option, Some, None, Result, Ok}
 use Rattle.esx_types.specs.declared.config.Config.{Config}
 use Rattle.esx_types.specs.declared.vm.VmState.{VmState}
 use Rattle.esx_types.specs.declared.vm.VmState.TheVariants.{Starting, Running, Stopping}

@@ -1,6 +1,6 @@
 -- What the hints of a site keep.
-use Rattle.std.proofs.Common.{◌≡◌, ◌≢◌, ℕ, zero, suc, ◌+◌, ◌*◌, ◌<◌, ◌≤◌, ◌^◌, Bool, true, false, not, ◌&&◌, ◌||◌, nat_le, List, [], ◌∷◌, ◌++◌, length, take, refl, sym, ap, ◌∙◌, subst, arith, cond, Option, Some, None, ◌==◌}
-use Rattle.std.specs.List.{filter, find, fold, AllByRecursion}
+use Rattle.std.proofs.Common.{◌≡◌, ◌≢◌, ℕ, ◌+◌, ◌<◌, ◌≤◌, ◌^◌, Bool, true, false, not, ◌&&◌, ◌||◌, nat_le, List, [], ◌∷◌, length, refl, sym, ap, ◌∙◌, subst, arith, cond, Some, ◌==◌}
+use Rattle.std.specs.List.{filter, AllByRecursion}
 use Rattle.std.proofs.lemmas.Bool.Decides.{nat_tests}
 use Rattle.esx_types.specs.declared.table.Hint.{Hint}
 use Rattle.esx_model.specs.declared.scene.Place.{Place}
@@ -112,7 +112,7 @@ below_or_same a b h other = grind (arith, nat_tests)
 above : (a b : ℕ) → nat_le a b ≡ false → b < a
 above a b h = grind (arith, nat_tests)
 
-in_order_ordered : (new : Hint) (hints : List Hint) → AreOrdered hints → AllByRecursion (λ (h : Hint). h.key ≢ new.key) hints → AreOrdered (in_order new hints)
+pub in_order_ordered : (new : Hint) (hints : List Hint) → AreOrdered hints → AllByRecursion (λ (h : Hint). h.key ≢ new.key) hints → AreOrdered (in_order new hints)
 in_order_ordered new [] h others = (tt, tt)
 in_order_ordered new (x ∷ xs) h others = of (nat_le new.key x.key) refl (in_order_ordered new xs h.1 others.1)
   where

@@ -1,8 +1,8 @@
 -- A key is a number of 64 bits.
-use Rattle.std.proofs.Common.{zero, suc, ◌≡◌, ℕ, ◌+◌, ◌*◌, ◌<◌, ◌≤◌, ◌^◌, List, [], ◌∷◌, ◌++◌, take, refl, arith, w32, slice_index}
+use Rattle.std.proofs.Common.{zero, suc, ℕ, ◌+◌, ◌*◌, ◌<◌, ◌≤◌, ◌^◌, List, [], ◌∷◌, take, arith, w32, slice_index}
 use Rattle.std.specs.List.{fold, AllByRecursion}
 use Rattle.std.specs.Int.{to_be_bytes}
-use Rattle.esx_formulas.specs.Key.{content_key, from_bytes}
+use Rattle.esx_formulas.specs.Key.{content_key}
 use Rattle.sha2.specs.Sha256.{digest_bytes, sha256}
 use Rattle.esx_model.proofs.Lists.{all_append}
 

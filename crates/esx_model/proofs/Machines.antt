@@ -1,5 +1,5 @@
 -- What a machine keeps where one of its pages goes to another place.
-use Rattle.std.proofs.Common.{zero, [], ◌≡◌, ◌≢◌, ℕ, ◌+◌, ◌-◌, ◌≤◌, ◌<◌, Bool, true, false, length, set, count_by, sum_by, refl, sym, ap, ◌∙◌, arith, cond, None, subst, List, ◌∷◌, get_or, slice_get, Some, suc, ◌%◌}
+use Rattle.std.proofs.Common.{zero, [], ◌≡◌, ◌≢◌, ℕ, ◌+◌, ◌-◌, ◌≤◌, ◌<◌, Bool, true, false, length, count_by, refl, sym, ap, ◌∙◌, arith, cond, subst, List, ◌∷◌, get_or, slice_get, Some, suc, ◌%◌}
 use Rattle.std.proofs.lemmas.List.{length-set}
 use Rattle.std.proofs.lemmas.List.Sums.{sum_by-set, sum_by-cons}
 use Rattle.esx_types.specs.declared.config.Config.{Config}

@@ -1,11 +1,9 @@
 -- The tables of a site after a page went from where it is to another place, and after it was written where it is.
-use Rattle.std.proofs.Common.{zero, suc, ◌≡◌, ◌≢◌, ℕ, ◌+◌, ◌-◌, ◌<◌, ◌≤◌, Bool, true, false, not, List, [], ◌∷◌, ◌++◌, length, get_or, set, map, refl, sym, ap, ◌∙◌, subst, arith, cond, Option, Some, None, inl, inr, ◌==◌, length-append}
-use Rattle.std.specs.List.{filter, find, range_with_len, AllByRecursion}
-use Rattle.std.proofs.lemmas.List.{get_or-set_same, get_or-set_other, length-set}
+use Rattle.std.proofs.Common.{◌≡◌, ◌≢◌, ℕ, ◌<◌, ◌≤◌, Bool, true, false, not, List, [], ◌∷◌, ◌++◌, length, set, refl, sym, ap, ◌∙◌, subst, arith, cond, Option, Some, inl, inr, length-append}
+use Rattle.std.specs.List.{filter, find, AllByRecursion}
+use Rattle.std.proofs.lemmas.List.{get_or-set_same, length-set}
 use Rattle.std.proofs.lemmas.Bool.{cases_eq}
-use Rattle.std.proofs.lemmas.Bool.Decides.{nat_tests}
 use Rattle.esx_types.specs.declared.config.Config.{Config}
-use Rattle.esx_types.specs.declared.table.FrameRow.{FrameRow}
 use Rattle.esx_types.specs.declared.table.FrameRow.TheVariants as frames
 use Rattle.esx_types.specs.declared.vm.VmState.TheVariants.{Starting}
 use Rattle.esx_types.specs.declared.table.Hint.{Hint}
@@ -15,21 +13,21 @@ use Rattle.esx_model.specs.declared.scene.Vm.{Vm}
 use Rattle.esx_model.specs.declared.scene.Site.{Site}
 use Rattle.esx_model.specs.declared.book.VmRow.{VmRow}
 use Rattle.esx_model.specs.declared.tables.Tables.{Tables}
-use Rattle.esx_model.specs.Places.{is_here_at, is_out_at, is_private}
-use Rattle.esx_model.specs.Site.{vm_at, with_vm, place_at, place_in, place_of, all_places, all_overhead, paged_out, lent}
+use Rattle.esx_model.specs.Places.{is_here_at, is_private}
+use Rattle.esx_model.specs.Site.{vm_at, place_at, place_in, place_of, all_places, all_overhead}
 use Rattle.esx_model.specs.Hints.{is_hint_of, without_hint, hints_at, with_place, placed}
-use Rattle.esx_model.specs.Show.{in_frame, in_slot, pages_in, pages_out, is_listed, row_of, frame_row, slot_row, frame_rows, slot_rows}
+use Rattle.esx_model.specs.Show.{pages_in, is_listed, row_of, frame_row, frame_rows, slot_rows}
 use Rattle.esx_model.specs.Tables.{vm_table, is_hint_in, hint_listing, listing_by, listing_row, listing_rows, tables_of}
 use Rattle.esx_model.specs.Moved.{put_vm, left, joined}
 use Rattle.esx_model.specs.sound.Machines.{IsPlace}
 use Rattle.esx_model.specs.sound.Frames.{AreFrames}
 use Rattle.esx_model.specs.sound.Sound.{IsSound}
-use Rattle.esx_model.proofs.Lists.{Changed, rows_same, rows_move, set_again, some_below, filter_before, filter_neither, filter_stays, eqb_same}
-use Rattle.esx_model.proofs.FramesKept.{untouched_nowhere, FitsIn, between, one_left}
+use Rattle.esx_model.proofs.Lists.{Changed, rows_same, rows_move, set_again, filter_before, filter_neither, filter_stays, eqb_same}
+use Rattle.esx_model.proofs.FramesKept.{untouched_nowhere, FitsIn}
 use Rattle.esx_model.proofs.HintsKept.{no_hint, filter_all}
 use Rattle.esx_model.proofs.Machines.{not_out, not_lent, old_place}
-use Rattle.esx_model.proofs.Kept.{placed_is, placed_at, placed_changed, placed_overhead, placed_sound, vm_placed_there, page_is_in}
-use Rattle.esx_model.proofs.Rooms.{Room, IsIn, room_nowhere, is_in_changed, row_here, private_alone}
+use Rattle.esx_model.proofs.Kept.{placed_is, placed_at, placed_changed, placed_overhead, placed_sound, vm_placed_there}
+use Rattle.esx_model.proofs.Rooms.{Room, room_nowhere, is_in_changed, row_here, private_alone}
 use Rattle.esx_model.proofs.Shown.{Moves, leaves, joins, find_same, row_same, row_clear, listing_is, shown_placed, slots_stay, own_hint, old_at, new_at, others_at, placed_hints, other_frame}
 
 passes_one : {X : Type 0} (p : X → Bool) (x : X) (xs : List X) → AllByRecursion (λ x. p x ≡ true) (filter p xs) → (b : Bool) → p x ≡ b → AllByRecursion (λ x. p x ≡ true) (cond b (x ∷ filter p xs) (filter p xs))

@@ -1,11 +1,10 @@
 -- That a page which is to go out finds a slot, and that there is one to draw.
-use Rattle.std.proofs.Common.{◌≡◌, ◌≢◌, ℕ, ◌+◌, ◌-◌, ◌≤◌, ◌<◌, Bool, true, false, not, ◌||◌, nat_le, nat_lt, List, [], ◌∷◌, length, refl, sym, ap, ◌∙◌, subst, arith, cond, Option, Some, None, Result, Ok, Err, ◌⊎◌, inl, inr}
+use Rattle.std.proofs.Common.{◌≡◌, ◌≢◌, ℕ, ◌-◌, ◌<◌, Bool, true, false, not, ◌||◌, nat_le, nat_lt, List, [], length, refl, sym, ap, ◌∙◌, arith, cond, Option, Some, None, Err}
 use Rattle.std.specs.List.{list_any}
 use Rattle.esx_types.specs.declared.config.Config.{Config}
 use Rattle.esx_types.specs.declared.level.Level.{Level}
-use Rattle.esx_events.specs.declared.event.Answer.{Answer}
 use Rattle.esx_events.specs.declared.event.Refusal.{Refusal}
-use Rattle.esx_events.specs.declared.event.Refusal.TheVariants.{NoVm, NotRunning, OutOfRange, Short, NotNow, AtTarget, NotNeeded}
+use Rattle.esx_events.specs.declared.event.Refusal.TheVariants.{NotRunning, OutOfRange, Short, NotNow, AtTarget, NotNeeded}
 use Rattle.esx_model.specs.declared.look.Look.{Look}
 use Rattle.esx_model.specs.declared.look.Look.TheVariants.{Already, SharedFrame, OtherPage, Changed, OtherBytes, Nothing}
 use Rattle.esx_model.specs.declared.scene.Place.{Place}
@@ -14,7 +13,7 @@ use Rattle.esx_model.specs.declared.scene.Vm.{Vm}
 use Rattle.esx_model.specs.declared.scene.Site.{Site}
 use Rattle.esx_model.specs.Places.{is_here, is_out, contents}
 use Rattle.esx_model.specs.Site.{vm_at, place_at, resident, paged_out, least_slot, free_count}
-use Rattle.esx_model.specs.event.Outcome.{Outcome, Gate, Passes, at_vm, unless, first, or_else, standing, is_running}
+use Rattle.esx_model.specs.event.Outcome.{at_vm, unless, or_else, standing, is_running}
 use Rattle.esx_model.specs.event.Sharing.{look}
 use Rattle.esx_model.specs.event.Paging.{victim, is_too_early, swap_out_gate, to_slot, leave_by, leave, swap_out, is_above_min, replace_gate, freed_slot, trade, trade_for, replace}
 use Rattle.esx_model.specs.Laws.{AreReservesKept}

@@ -1,5 +1,5 @@
 -- Where a page may go: free frames and slots, its own frame, and frames that are shared with its bytes.
-use Rattle.std.proofs.Common.{zero, suc, ◌≡◌, ◌≢◌, ℕ, ◌+◌, ◌≤◌, ◌<◌, Bool, true, false, ◌||◌, not, List, [], ◌∷◌, ◌++◌, length, replicate, refl, sym, ap, ◌∙◌, subst, arith, cond, Option, Some, None, ◌==◌, sum_by, ◌-◌, length-append, nat_lt}
+use Rattle.std.proofs.Common.{zero, suc, ◌≡◌, ◌≢◌, ℕ, ◌≤◌, ◌<◌, Bool, true, false, ◌||◌, not, List, [], ◌∷◌, ◌++◌, length, replicate, refl, sym, ap, ◌∙◌, subst, arith, cond, Option, Some, None, ◌==◌, sum_by, ◌-◌, length-append, nat_lt}
 use Rattle.std.specs.List.{flat_map, filter, list_any, range_with_len}
 use Rattle.std.proofs.lemmas.List.Folds.{list_any-append}
 use Rattle.std.proofs.lemmas.List.Elements.{filter-append}
@@ -18,8 +18,8 @@ use Rattle.esx_model.specs.Places.{is_here_at, is_out_at}
 use Rattle.esx_model.specs.Site.{vm_names, is_named, vm_holds, is_held, vm_places, vm_overhead, least_free, least_slot, all_places, all_overhead, pages_of, pages_at}
 use Rattle.esx_model.specs.Show.{in_frame, in_slot, pages_in, pages_out, is_listed, row_of, slot_of}
 use Rattle.esx_model.specs.sound.Frames.{AreFrames, pages_for, key_of_row}
-use Rattle.esx_model.proofs.Lists.{Changed, chosen, or_false, not_true, find_passes, find_in_range, any_none, not_none, filter_before, eqb_same, eqb_other}
-use Rattle.esx_model.proofs.FramesKept.{FitsIn, FitsFrame, between, clear_where, none_on_the_way, no_slot_on_the_way, alone_on_the_way, others_on_the_way, fits_free, fits_new_share, fits_share, frame_left, goes_off, untouched_nowhere}
+use Rattle.esx_model.proofs.Lists.{Changed, or_false, not_true, find_passes, find_in_range, any_none, not_none, eqb_same}
+use Rattle.esx_model.proofs.FramesKept.{FitsIn, between, clear_where, none_on_the_way, no_slot_on_the_way, alone_on_the_way, others_on_the_way, fits_free, fits_new_share, fits_share, frame_left, goes_off, untouched_nowhere}
 use Rattle.esx_model.specs.Moved.{FitsRow, less}
 
 -- a page at p of the site has room at q, once it left
@@ -185,6 +185,16 @@ private_alone n ps os bytes f fine i = of (row_of (in_frame f ps)) (row_here n p
     of frames.Free h e = absurd h
     of frames.Overhead h e = absurd h
     of (frames.Private kept) h e = (let d : length (in_frame f ps) ≡ 1 = ap length e in omega arith)
+    of (frames.Shared count kept) h e = absurd (false≢true h.0)
+
+-- the row of a private page's frame
+pub private_row : (n : ℕ) (ps : List Place) (os : List ℕ) (bytes : List ℕ) (f : ℕ) → AreFrames n ps os → IsIn ps (Here bytes f false) → row_of (in_frame f ps) ≡ frames.Private bytes
+private_row n ps os bytes f fine i = of (row_of (in_frame f ps)) (row_here n ps os bytes f false fine i).0 refl
+  where
+    of : (row : FrameRow) → IsRowOf bytes false row → row_of (in_frame f ps) ≡ row → row_of (in_frame f ps) ≡ frames.Private bytes
+    of frames.Free h e = absurd h
+    of frames.Overhead h e = absurd h
+    of (frames.Private kept) h e = e ∙ ap frames.Private h.1
     of (frames.Shared count kept) h e = absurd (false≢true h.0)
 
 -- the row of a shared page's frame

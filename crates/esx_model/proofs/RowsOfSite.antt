@@ -1,5 +1,5 @@
 -- The rows that targets are made from, of a sound site, are rows in order.
-use Rattle.std.proofs.Common.{zero, suc, ◌≡◌, ℕ, ◌+◌, ◌*◌, ◌/◌, ◌≤◌, ◌<◌, max, List, [], ◌∷◌, length, get_or, refl, sym, ap, ◌∙◌, arith, Option, Some, None}
+use Rattle.std.proofs.Common.{zero, suc, ◌≡◌, ℕ, ◌+◌, ◌≤◌, ◌<◌, List, [], ◌∷◌, length, get_or, refl, arith, Option, Some, None}
 use Rattle.std.specs.Option.{option_map}
 use Rattle.std.specs.List.{fold, AllByRecursion}
 use Rattle.std.proofs.lemmas.List.Sums.{count_by-le-length}
@@ -7,8 +7,7 @@ use Rattle.esx_types.specs.declared.config.Config.{Config}
 use Rattle.esx_types.specs.declared.config.TheConstants.{VM_NUMBERS}
 use Rattle.esx_formulas.specs.declared.activity.Estimate.{Estimate}
 use Rattle.esx_formulas.specs.declared.activity.Period.{Period}
-use Rattle.esx_formulas.specs.declared.targets.Row.{Row}
-use Rattle.esx_formulas.specs.Average.{touched_share, slower, faster, slow_average, fast_average, is_touched, so_far, open_average, active_share}
+use Rattle.esx_formulas.specs.Average.{touched_share, slower, faster, slow_average, fast_average, is_touched, so_far, open_average}
 use Rattle.esx_formulas.specs.Estimates.{IsEstimate}
 use Rattle.esx_formulas.specs.Ratio.{IsRow, AreRows, row_at}
 use Rattle.esx_formulas.proofs.Revoking.{worked_out, only_worked_out}

@@ -1,18 +1,16 @@
 -- The tables of a site after a page went to another place, and after a machine changed in its row alone.
-use Rattle.std.proofs.Common.{zero, suc, ◌≡◌, ◌≢◌, ℕ, ◌+◌, ◌-◌, ◌<◌, ◌≤◌, Bool, true, false, not, List, [], ◌∷◌, ◌++◌, length, get_or, set, map, refl, sym, ap, ◌∙◌, subst, arith, cond, Option, Some, None, inl, inr, ◌==◌, nat_lt}
+use Rattle.std.proofs.Common.{zero, suc, ◌≡◌, ◌≢◌, ℕ, ◌-◌, ◌<◌, Bool, true, false, not, List, [], ◌∷◌, length, get_or, set, map, refl, sym, ap, ◌∙◌, subst, arith, cond, Option, Some, None, ◌==◌, nat_lt}
 use Rattle.std.specs.Option.{option_map}
-use Rattle.std.specs.List.{filter, find, range_with_len, AllByRecursion}
-use Rattle.std.proofs.lemmas.List.{map-set, get_or-set_same, get_or-set_other, length-set}
-use Rattle.std.proofs.lemmas.Bool.{cases_eq, false≢true}
+use Rattle.std.specs.List.{filter, find, AllByRecursion}
+use Rattle.std.proofs.lemmas.List.{map-set, get_or-set_same, get_or-set_other}
+use Rattle.std.proofs.lemmas.Bool.{false≢true}
 use Rattle.std.proofs.lemmas.Bool.Decides.{nat_tests}
 use Rattle.esx_types.specs.declared.config.Config.{Config}
 use Rattle.esx_types.specs.declared.table.FrameRow.{FrameRow}
 use Rattle.esx_types.specs.declared.table.FrameRow.TheVariants as frames
 use Rattle.esx_types.specs.declared.table.SlotRow.{SlotRow}
 use Rattle.esx_types.specs.declared.table.SlotRow.TheVariants as slots
-use Rattle.esx_types.specs.declared.vm.VmState.TheVariants.{Starting}
 use Rattle.esx_types.specs.Frames.{frame_at}
-use Rattle.esx_types.specs.Slots.{slot_at}
 use Rattle.esx_formulas.specs.Key.{content_key}
 use Rattle.esx_types.specs.declared.table.Hint.{Hint}
 use Rattle.esx_model.specs.declared.scene.Place.{Place}
@@ -21,22 +19,22 @@ use Rattle.esx_model.specs.declared.scene.Vm.{Vm}
 use Rattle.esx_model.specs.declared.scene.Site.{Site}
 use Rattle.esx_types.specs.declared.table.Listing.{Listing}
 use Rattle.esx_types.specs.declared.table.Listing.TheVariants as listings
-use Rattle.esx_model.specs.declared.book.VmRow.{VmRow}
 use Rattle.esx_model.specs.declared.tables.Tables.{Tables}
 use Rattle.esx_model.specs.Places.{is_here_at, is_out_at, is_private}
-use Rattle.esx_model.specs.Site.{vm_at, with_vm, place_at, place_in, place_of, all_places, all_overhead, paged_out, lent}
+use Rattle.esx_model.specs.Site.{vm_at, with_vm, place_at, place_in, place_of, all_places, all_overhead}
 use Rattle.esx_model.specs.Hints.{is_hint_of, without_hint, hints_at, with_place, placed}
 use Rattle.esx_model.specs.Show.{in_frame, in_slot, pages_in, pages_out, is_listed, row_of, slot_of, frame_row, slot_row, frame_rows, slot_rows}
 use Rattle.esx_model.specs.Tables.{vm_table, is_hint_in, hint_listing, listing_by, listing_row, listing_rows, tables_of}
-use Rattle.esx_model.specs.Moved.{less, more, FitsRow, listing_after, listing_for, listing_at, put_vm, put_frame, put_slot, left, joined}
+use Rattle.esx_types.specs.Listings.{listing_at}
+use Rattle.esx_model.specs.Moved.{less, more, FitsRow, listing_after, listing_for, put_vm, left, joined}
 use Rattle.esx_model.specs.sound.Machines.{IsPlace}
 use Rattle.esx_model.specs.sound.Sound.{IsSound}
-use Rattle.esx_model.proofs.Lists.{Changed, rows_same, rows_move, row_in_rows, set_again, some_below, all_map, filter_neither, not_none}
-use Rattle.esx_model.proofs.FramesKept.{IsNowhere, untouched_nowhere, FrameMoves, SlotMoves, FitsIn, frame_left, slot_left, frame_joined, slot_joined, between}
-use Rattle.esx_model.proofs.HintsKept.{no_hint, filter_all}
-use Rattle.esx_model.proofs.Machines.{not_out, not_lent, old_place}
-use Rattle.esx_model.proofs.Kept.{placed_is, placed_changed, placed_overhead, placed_sound, site_with, place_changed, places_same, overhead_same, vm_placed_there, page_is_in}
-use Rattle.esx_model.proofs.Rooms.{Room, IsIn, room_nowhere, is_in_changed, row_here, frame_with}
+use Rattle.esx_model.proofs.Lists.{Changed, rows_same, rows_move, row_in_rows, all_map, filter_neither, not_none}
+use Rattle.esx_model.proofs.FramesKept.{IsNowhere, untouched_nowhere, FitsIn, frame_left, slot_left, frame_joined, slot_joined}
+use Rattle.esx_model.proofs.HintsKept.{no_hint}
+use Rattle.esx_model.proofs.Machines.{old_place}
+use Rattle.esx_model.proofs.Kept.{placed_is, placed_changed, placed_overhead, site_with, place_changed, places_same, overhead_same, vm_placed_there, page_is_in}
+use Rattle.esx_model.proofs.Rooms.{IsIn, is_in_changed, row_here, frame_with}
 use Rattle.esx_model.specs.sound.Frames.{pages_for}
 
 -- Searches.
@@ -295,7 +293,7 @@ listing_beside c s n page v p q g off f other row =
     ∙ ap (listing_by (frame_row s f)) (found_same c s n page v p q g f (off.here f) other) ∙ sym (listing_is s f)
 
 -- no hint is in a frame that no page is in
-within_places : (ps : List Place) (k : ℕ) (bytes : List ℕ) (g : ℕ) (shared : Bool) → get_or ps k Untouched ≡ Here bytes g shared → k < length ps
+pub within_places : (ps : List Place) (k : ℕ) (bytes : List ℕ) (g : ℕ) (shared : Bool) → get_or ps k Untouched ≡ Here bytes g shared → k < length ps
 within_places [] k bytes g shared h = cc
 within_places (p ∷ ps) zero bytes g shared h = omega arith
 within_places (p ∷ ps) (suc k) bytes g shared h = (let rest = within_places ps k bytes g shared h in omega (arith, rest))

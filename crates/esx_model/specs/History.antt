@@ -1,19 +1,16 @@
 -- What a list of calls means: the events, the walk of the cursor, and what the cursor's path leads to.
-use Rattle.std.specs.Prelude.{ℕ, zero, suc, ◌+◌, ◌≤◌, ◌<◌, ◌≡◌, ◌==◌, ◌||◌, Bool, true, false, if◌then◌else◌, List, [], ◌∷◌, ◌++◌, length, map, reverse, drop, replicate, not, ◌-◌, ◌&&◌, bytes_eq, find, Option, Some, None, option_map, nat_lt, nat_le, Result, Ok, Err}
-use Rattle.std.specs.List.{common_prefix_len, list_any}
+use Rattle.std.specs.Prelude.{ℕ, zero, suc, ◌+◌, true, if◌then◌else◌, List, [], ◌∷◌, length, Option, Some, None, option_map, nat_lt, nat_le, Result, Ok, Err}
 use Rattle.esx_types.specs.declared.config.Config.{Config}
 use Rattle.esx_events.specs.declared.event.Event.{Event}
 use Rattle.esx_events.specs.declared.event.Answer.{Answer}
 use Rattle.esx_events.specs.declared.event.Refusal.{Refusal}
-use Rattle.esx_events.specs.declared.event.Refusal.TheVariants.{NoSuchNode, NameTaken, NoSuchName, OnPath, Full}
+use Rattle.esx_events.specs.declared.event.Refusal.TheVariants.{Full}
 use Rattle.esx_events.specs.declared.call.NameRow.{NameRow}
-use Rattle.esx_events.specs.declared.call.Sides.{Sides}
 use Rattle.esx_model.specs.declared.scene.Scene.{Scene}
 use Rattle.esx_model.specs.declared.book.Book.{Book}
 use Rattle.esx_model.specs.Show.{shown}
-use Rattle.esx_model.specs.Readings.{sum_of}
 use Rattle.esx_model.specs.Replay.{opening, next, run}
-use Rattle.esx_model.specs.Tree.{Node, parent, alive, path, Move, Up, Down, at, last_descent}
+use Rattle.esx_model.specs.Tree.{Node, alive, path, Move, Up, Down, at, last_descent}
 
 -- The site as it was opened, the events, the walk, the count of jumps, and the names that were given to nodes, the oldest first.
 pub record History : Type 0 where

@@ -1,5 +1,5 @@
 -- Laws of the model.
-use Rattle.std.specs.Prelude.{◌≡◌, ◌≢◌, ◌↔◌, ℕ, ◌<◌, ◌≤◌, ◌-◌, true, false, List, length, count_by, Option, Some, Ok, Err}
+use Rattle.std.specs.Prelude.{◌≡◌, ◌≢◌, ◌↔◌, ℕ, ◌<◌, ◌≤◌, false, List, length, Some, Ok, Err, ◌-◌}
 use Rattle.std.specs.List.{AllByRecursion, list_any}
 use Rattle.esx_types.specs.declared.config.Config.{Config}
 use Rattle.esx_types.specs.Ranges.{IsConfig}
@@ -15,13 +15,15 @@ use Rattle.esx_model.specs.declared.scene.Vm.{Vm}
 use Rattle.esx_model.specs.declared.scene.Site.{Site}
 use Rattle.esx_model.specs.declared.scene.Scene.{Scene}
 use Rattle.esx_model.specs.Places.{is_here, contents}
-use Rattle.esx_model.specs.Site.{vm_at, place_at, place_of, resident, pages_at, free_count}
-use Rattle.esx_model.specs.Show.{pages_in, shown}
+use Rattle.esx_model.specs.Site.{vm_at, place_at, place_of, resident, paged_out, pages_at, free_count}
+use Rattle.esx_model.specs.Show.{pages_in, book_of, shown}
+use Rattle.esx_model.specs.Tables.{tables_of, book_from}
 use Rattle.esx_model.specs.Readings.{sum_of, AddUpTo}
 use Rattle.esx_model.specs.event.Access.{read}
 use Rattle.esx_model.specs.event.Rebalancing.{min_of, rows_of}
 use Rattle.esx_model.specs.event.Paging.{is_above_min, swap_out, replace}
 use Rattle.esx_model.specs.Replay.{opening, next, run}
+use Rattle.esx_model.specs.sound.Hints.{AreHints}
 use Rattle.esx_model.specs.sound.Sound.{IsSound, NamesVm}
 
 -- a path begins at a sound site
@@ -76,3 +78,17 @@ pub record AreFramesCounted (c : Config) (t : Scene) : Type 0 where
 
 abbrev pub AreAllFramesCounted : Type 0
 AreAllFramesCounted = (c : Config) (t : Scene) → AreFramesCounted c t
+
+-- the book of a sound site is read from its tables
+abbrev pub IsBookRead : Type 0
+IsBookRead = (c : Config) (s : Site) (level : Level) → IsSound c s → book_from (tables_of c s) level ≡ book_of c s level
+
+-- what each path keeps: targets in their range, pages out within what is reserved for them, and hints of private pages, one under a key and one of a page
+pub record AreWithinReserves (c : Config) (t : Scene) : Type 0 where
+  pub least : (n : ℕ) (v : Vm) → vm_at t.site n ≡ Some v → v.spec.min ≤ v.target
+  pub most : (n : ℕ) (v : Vm) → vm_at t.site n ≡ Some v → v.target ≤ v.spec.max
+  pub out : (n : ℕ) (v : Vm) → vm_at t.site n ≡ Some v → paged_out v ≤ v.spec.max - v.spec.min
+  pub hints : AreHints (place_of t.site) t.site.hints
+
+abbrev pub IsEachPathWithinReserves : Type 0
+IsEachPathWithinReserves = (c : Config) (es : List Event) (t : Scene) → IsConfig c → AllByRecursion NamesVm es → run c es ≡ Ok t → AreWithinReserves c t

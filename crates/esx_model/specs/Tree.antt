@@ -1,18 +1,7 @@
 -- A tree of numbered events, and the walk of a cursor on it.
-use Rattle.std.specs.Prelude.{ℕ, zero, suc, ◌+◌, ◌≤◌, ◌<◌, ◌≡◌, ◌==◌, ◌||◌, Bool, true, false, if◌then◌else◌, List, [], ◌∷◌, ◌++◌, length, map, reverse, drop, replicate, not, ◌-◌, ◌&&◌, bytes_eq, find, Option, Some, None, option_map, nat_lt, nat_le, Result, Ok, Err}
-use Rattle.std.specs.List.{common_prefix_len, list_any}
-use Rattle.esx_types.specs.declared.config.Config.{Config}
+use Rattle.std.specs.Prelude.{ℕ, ◌+◌, ◌≤◌, ◌<◌, ◌≡◌, ◌==◌, ◌||◌, Bool, false, if◌then◌else◌, List, [], ◌∷◌, ◌++◌, length, map, reverse, drop, replicate, ◌-◌, Option, Some, None}
+use Rattle.std.specs.List.{common_prefix_len}
 use Rattle.esx_events.specs.declared.event.Event.{Event}
-use Rattle.esx_events.specs.declared.event.Answer.{Answer}
-use Rattle.esx_events.specs.declared.event.Refusal.{Refusal}
-use Rattle.esx_events.specs.declared.event.Refusal.TheVariants.{NoSuchNode, NameTaken, NoSuchName, OnPath, Full}
-use Rattle.esx_events.specs.declared.call.NameRow.{NameRow}
-use Rattle.esx_events.specs.declared.call.Sides.{Sides}
-use Rattle.esx_model.specs.declared.scene.Scene.{Scene}
-use Rattle.esx_model.specs.declared.book.Book.{Book}
-use Rattle.esx_model.specs.Show.{shown}
-use Rattle.esx_model.specs.Readings.{sum_of}
-use Rattle.esx_model.specs.Replay.{opening, next, run}
 
 -- An accepted event. Its number is the length of the list that it heads.
 pub record Node : Type 0 where

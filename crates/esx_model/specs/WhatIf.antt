@@ -1,18 +1,14 @@
 -- What would come of events, before they are made.
-use Rattle.std.specs.Prelude.{ℕ, zero, suc, ◌+◌, ◌≤◌, ◌<◌, ◌≡◌, ◌==◌, ◌||◌, Bool, true, false, if◌then◌else◌, List, [], ◌∷◌, ◌++◌, length, map, reverse, drop, replicate, not, ◌-◌, ◌&&◌, bytes_eq, find, Option, Some, None, option_map, nat_lt, nat_le, Result, Ok, Err}
-use Rattle.std.specs.List.{common_prefix_len, list_any}
+use Rattle.std.specs.Prelude.{List, [], ◌∷◌, length, Result, Ok, Err}
 use Rattle.esx_types.specs.declared.config.Config.{Config}
 use Rattle.esx_events.specs.declared.event.Event.{Event}
 use Rattle.esx_events.specs.declared.event.Answer.{Answer}
 use Rattle.esx_events.specs.declared.event.Refusal.{Refusal}
-use Rattle.esx_events.specs.declared.event.Refusal.TheVariants.{NoSuchNode, NameTaken, NoSuchName, OnPath, Full}
-use Rattle.esx_events.specs.declared.call.NameRow.{NameRow}
 use Rattle.esx_events.specs.declared.call.Sides.{Sides}
 use Rattle.esx_model.specs.declared.scene.Scene.{Scene}
-use Rattle.esx_model.specs.declared.book.Book.{Book}
 use Rattle.esx_model.specs.Show.{shown}
 use Rattle.esx_model.specs.Readings.{sum_of}
-use Rattle.esx_model.specs.Replay.{opening, next, run}
+use Rattle.esx_model.specs.Replay.{next}
 use Rattle.esx_model.specs.History.{History, scene_at, book_at}
 
 abbrev pub tried : Result (Answer × Scene) Refusal → (Scene → List (Result Answer Refusal)) → List (Result Answer Refusal)

@@ -1,6 +1,6 @@
 //! Laws of the model.
 
-ghost use Rattle.esx_model.specs.Laws.{IsOpeningSound, IsEachEventSound, IsEachPathSound, IsEachReserveKept, IsEachPressedSiteFull, IsReadHarmless, HaveSitesTargets, AreAllFramesCounted};
+ghost use Rattle.esx_model.specs.Laws.{IsOpeningSound, IsEachEventSound, IsEachPathSound, IsEachReserveKept, IsEachPressedSiteFull, IsReadHarmless, HaveSitesTargets, AreAllFramesCounted, IsBookRead, IsEachPathWithinReserves};
 
 /// A path begins at a sound site.
 pub fn opening_is_sound()
@@ -40,4 +40,14 @@ pub fn sites_have_targets()
 /// The frames of all kinds add up, and counts are numbers of pages.
 pub fn frames_are_counted()
     ensures { AreAllFramesCounted }
+{}
+
+/// The book of a sound site is read from its tables.
+pub fn book_is_read()
+    ensures { IsBookRead }
+{}
+
+/// Each path keeps targets, pages out and hints within their bounds.
+pub fn each_path_is_within_reserves()
+    ensures { IsEachPathWithinReserves }
 {}

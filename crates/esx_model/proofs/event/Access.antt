@@ -1,5 +1,5 @@
 -- Reads and writes keep a site sound.
-use Rattle.std.proofs.Common.{◌≡◌, ◌≢◌, ℕ, ◌+◌, ◌-◌, ◌≤◌, ◌<◌, Bool, true, false, not, ◌&&◌, ◌||◌, nat_le, nat_lt, List, [], ◌∷◌, ◌++◌, length, take, drop, refl, sym, ap, ◌∙◌, subst, arith, cond, Option, Some, None, Ok, ◌⊎◌, inl, inr, ◌==◌}
+use Rattle.std.proofs.Common.{◌≡◌, ℕ, ◌+◌, ◌≤◌, ◌<◌, Bool, true, false, ◌&&◌, nat_le, nat_lt, List, length, take, drop, refl, sym, subst, arith, Option, Some, None, Ok, inl, inr, ◌==◌}
 use Rattle.std.proofs.lemmas.List.{length-replicate}
 use Rattle.std.proofs.lemmas.Bool.Decides.{nat_tests}
 use Rattle.std.proofs.lemmas.Grind.{common_steps}
@@ -12,7 +12,7 @@ use Rattle.esx_model.specs.declared.scene.Place.{Place}
 use Rattle.esx_model.specs.declared.scene.Place.TheVariants.{Untouched, Here, Out, Lent}
 use Rattle.esx_model.specs.declared.scene.Vm.{Vm}
 use Rattle.esx_model.specs.declared.scene.Site.{Site}
-use Rattle.esx_model.specs.Places.{is_shared, is_out, is_lent_in, contents, zeros}
+use Rattle.esx_model.specs.Places.{is_shared, contents, zeros}
 use Rattle.esx_model.specs.Site.{vm_at, with_vm, place_at, pages_at, least_free, all_places, all_overhead}
 use Rattle.esx_model.specs.Show.{pages_in}
 use Rattle.esx_model.specs.Hints.{with_place, with_change, placed}
@@ -20,7 +20,7 @@ use Rattle.esx_model.specs.event.Outcome.{standing}
 use Rattle.esx_model.specs.event.Balloon.{popped}
 use Rattle.esx_model.specs.event.Sampling.{counted}
 use Rattle.esx_model.specs.event.Access.{access_gate, overwritten, read_frame, write_frame, after_access, settle, read, write}
-use Rattle.esx_model.specs.sound.Machines.{IsVm, IsPlace}
+use Rattle.esx_model.specs.sound.Machines.{IsPlace}
 use Rattle.esx_model.specs.sound.Sound.{IsSound}
 use Rattle.esx_model.proofs.Lists.{chosen, or_false}
 use Rattle.esx_model.proofs.Machines.{not_out, not_lent, old_place}
@@ -67,7 +67,7 @@ whole_page c e (Lent d) h = length-replicate c.page 0
 some_is : (f g : ℕ) → Some f ≡ Some g → f ≡ g
 some_is f g h = cc
 
-read_room : (c : Config) (s : Site) (n page : ℕ) (v : Vm) (p : Place) (f : ℕ) → IsSound c s → vm_at s n ≡ Some v → page < length v.places → place_at v page ≡ p → read_frame c s p ≡ Some f
+pub read_room : (c : Config) (s : Site) (n page : ℕ) (v : Vm) (p : Place) (f : ℕ) → IsSound c s → vm_at s n ≡ Some v → page < length v.places → place_at v page ≡ p → read_frame c s p ≡ Some f
     → (f < c.frames) × Room c s p (Here (contents c p) f (is_shared p))
 read_room c s n page v Untouched f sound there within was found = ((least_unused c.frames s f found).below, room_free c s Untouched (zeros c) f found)
 read_room c s n page v (Out bytes i) f sound there within was found = ((least_unused c.frames s f found).below, room_free c s (Out bytes i) bytes f found)
@@ -111,7 +111,7 @@ alone_or_few : (c : Config) (s : Site) (bytes : List ℕ) (g : ℕ) (shared : Bo
 alone_or_few c s bytes g false sound i h = private_alone c.frames (all_places s) (all_overhead s) bytes g sound.frames i
 alone_or_few c s bytes g true sound i h = (let few = one_at_most (pages_at g s) h in let same = pages_at_is g s in omega arith)
 
-write_room : (c : Config) (s : Site) (n page : ℕ) (v : Vm) (p : Place) (new : List ℕ) (f : ℕ) → IsSound c s → vm_at s n ≡ Some v → page < length v.places → place_at v page ≡ p → write_frame c s p ≡ Some f
+pub write_room : (c : Config) (s : Site) (n page : ℕ) (v : Vm) (p : Place) (new : List ℕ) (f : ℕ) → IsSound c s → vm_at s n ≡ Some v → page < length v.places → place_at v page ≡ p → write_frame c s p ≡ Some f
     → (f < c.frames) × Room c s p (Here new f false)
 write_room c s n page v Untouched new f sound there within was found = ((least_unused c.frames s f found).below, room_free c s Untouched new f found)
 write_room c s n page v (Out bytes i) new f sound there within was found = ((least_unused c.frames s f found).below, room_free c s (Out bytes i) new f found)

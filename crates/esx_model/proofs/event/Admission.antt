@@ -1,5 +1,5 @@
 -- A machine that comes keeps a site sound.
-use Rattle.std.proofs.Common.{◌≡◌, ◌≢◌, ℕ, zero, suc, ◌+◌, ◌-◌, ◌≤◌, ◌<◌, Bool, true, false, not, nat_lt, List, [], ◌∷◌, length, get_or, set, replicate, count_by, sum_by, refl, sym, ap, ◌∙◌, subst, arith, Option, Some, None, Ok, inl, inr}
+use Rattle.std.proofs.Common.{◌≡◌, ℕ, zero, suc, ◌+◌, ◌≤◌, ◌<◌, Bool, true, false, nat_lt, List, [], length, get_or, set, replicate, count_by, sum_by, refl, sym, ap, ◌∙◌, subst, arith, Option, Some, None, Ok, inl, inr}
 use Rattle.std.specs.Prelude.{is_some}
 use Rattle.std.specs.List.{filter, AllByRecursion}
 use Rattle.std.proofs.lemmas.List.{length-replicate, length-set, get_or-set_same, get_or-set_other}
@@ -19,7 +19,6 @@ use Rattle.esx_model.specs.declared.scene.Vm.{Vm}
 use Rattle.esx_model.specs.declared.scene.Site.{Site}
 use Rattle.esx_model.specs.Places.{is_here_at, is_out_at, is_here, is_out, is_lent_in}
 use Rattle.esx_model.specs.Site.{vm_at, with_vm, place_in, place_of, vm_places, vm_overhead, all_places, all_overhead, memory_reserve, swap_reserve}
-use Rattle.esx_model.specs.Show.{in_frame, in_slot}
 use Rattle.esx_model.specs.event.Admission.{admit_gate, memory_with, swap_with, admitted, admit}
 use Rattle.esx_model.specs.sound.Machines.{IsVm, IsPlace}
 use Rattle.esx_model.specs.sound.Frames.{AreFrames}
@@ -80,16 +79,16 @@ no_vm (Some v) h = cc
 most : (most n : ℕ) → nat_lt most n ≡ false → n ≤ most
 most m n h = grind (arith, nat_tests)
 
-places_more : (s : Site) (n : ℕ) (spec : VmSpec) (q : Place → Bool) → n < length s.vms → vm_at s n ≡ None → q Untouched ≡ false → filter q (all_places (with_vm s n (admitted spec))) ≡ filter q (all_places s)
+pub places_more : (s : Site) (n : ℕ) (spec : VmSpec) (q : Place → Bool) → n < length s.vms → vm_at s n ≡ None → q Untouched ≡ false → filter q (all_places (with_vm s n (admitted spec))) ≡ filter q (all_places s)
 unfolding all_places
 places_more s n spec q below there e =
     filter_inside q vm_places None (Some (admitted spec)) s.vms (set s.vms n (Some (admitted spec))) (vm_changed s n None (admitted spec) below there) (sym (none_untouched q spec.max e))
 
-overhead_more : (s : Site) (n : ℕ) (spec : VmSpec) → n < length s.vms → vm_at s n ≡ None → all_overhead (with_vm s n (admitted spec)) ≡ all_overhead s
+pub overhead_more : (s : Site) (n : ℕ) (spec : VmSpec) → n < length s.vms → vm_at s n ≡ None → all_overhead (with_vm s n (admitted spec)) ≡ all_overhead s
 unfolding all_overhead
 overhead_more s n spec below there = same_inside vm_overhead None (Some (admitted spec)) s.vms (set s.vms n (Some (admitted spec))) (vm_changed s n None (admitted spec) below there) refl
 
-place_kept : (s : Site) (n m k : ℕ) (spec : VmSpec) → n < length s.vms → vm_at s n ≡ None → place_of (with_vm s n (admitted spec)) m k ≡ place_of s m k
+pub place_kept : (s : Site) (n m k : ℕ) (spec : VmSpec) → n < length s.vms → vm_at s n ≡ None → place_of (with_vm s n (admitted spec)) m k ≡ place_of s m k
 place_kept s n m k spec below there = elim (cases_eq m n) [
   | inl e ↦ ap (λ j. place_in (get_or (set s.vms n (Some (admitted spec))) j None) k) e ∙ ap (λ o. place_in o k) (get_or-set_same s.vms n (Some (admitted spec)) None below)
       ∙ untouched_at spec.max k ∙ ap (λ o. place_in o k) (sym there) ∙ ap (λ j. place_of s j k) (sym e)

@@ -1,10 +1,10 @@
 -- The balloon keeps a site sound.
-use Rattle.std.proofs.Common.{◌≡◌, ◌≢◌, ℕ, ◌+◌, ◌≤◌, ◌<◌, Bool, true, false, ◌||◌, not, nat_le, List, [], ◌∷◌, length, count_by, refl, sym, ap, ◌∙◌, subst, arith, cond, Option, Some, None, Ok, ◌⊎◌, inl, inr, ◌-◌}
+use Rattle.std.proofs.Common.{◌≡◌, ◌≢◌, ℕ, ◌+◌, ◌≤◌, ◌<◌, false, nat_le, List, [], ◌∷◌, length, count_by, refl, sym, ap, ◌∙◌, arith, cond, Some, Ok, inl, inr, ◌-◌}
 use Rattle.std.specs.List.{AllByRecursion}
 use Rattle.std.proofs.lemmas.List.Sums.{sum_by-cons}
 use Rattle.std.proofs.lemmas.Bool.Decides.{nat_tests}
 use Rattle.esx_types.specs.declared.config.Config.{Config}
-use Rattle.esx_types.specs.declared.vm.VmState.TheVariants.{Starting, Running, Stopping}
+use Rattle.esx_types.specs.declared.vm.VmState.TheVariants.{Starting, Running}
 use Rattle.esx_events.specs.declared.event.Answer.{Answer}
 use Rattle.esx_events.specs.declared.event.Answer.TheVariants as answers
 use Rattle.esx_model.specs.declared.scene.Place.{Place}

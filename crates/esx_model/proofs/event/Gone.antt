@@ -1,5 +1,5 @@
 -- A machine that gives back its overhead frames and goes keeps a site sound.
-use Rattle.std.proofs.Common.{◌≡◌, ◌≢◌, ℕ, zero, suc, ◌+◌, ◌-◌, ◌≤◌, ◌<◌, Bool, true, false, not, nat_lt, List, [], ◌∷◌, ◌++◌, length, get_or, set, take, count_by, sum_by, refl, sym, ap, ◌∙◌, subst, arith, cond, Option, Some, None, Ok, inl, inr}
+use Rattle.std.proofs.Common.{◌≡◌, ℕ, zero, suc, ◌+◌, ◌-◌, ◌≤◌, ◌<◌, Bool, true, false, nat_lt, List, [], ◌∷◌, ◌++◌, length, get_or, set, take, count_by, sum_by, refl, sym, ap, ◌∙◌, subst, arith, cond, Option, Some, None, Ok, inl, inr}
 use Rattle.std.specs.List.{filter}
 use Rattle.std.proofs.lemmas.List.{length-set, get_or-set_same, get_or-set_other}
 use Rattle.std.proofs.lemmas.List.Sums.{sum_by-set, sum_by-cons}
@@ -16,9 +16,9 @@ use Rattle.esx_model.specs.declared.scene.Place.TheVariants.{Untouched, Here, Ou
 use Rattle.esx_model.specs.declared.scene.Vm.{Vm}
 use Rattle.esx_model.specs.declared.scene.Site.{Site}
 use Rattle.esx_model.specs.Places.{is_here_at, is_out_at, is_here, is_out, is_private}
-use Rattle.esx_model.specs.Site.{vm_at, with_vm, place_at, place_in, place_of, vm_places, vm_overhead, all_places, all_overhead, memory_reserve, swap_reserve, resident, paged_out}
+use Rattle.esx_model.specs.Site.{vm_at, with_vm, place_in, place_of, vm_places, vm_overhead, all_places, all_overhead, memory_reserve, swap_reserve, resident, paged_out}
 use Rattle.esx_model.specs.event.Outcome.{standing}
-use Rattle.esx_model.specs.event.Leaving.{gone_gate, without_last, give_back, gone}
+use Rattle.esx_model.specs.event.Leaving.{gone_gate, without_last, gone}
 use Rattle.esx_model.specs.sound.Machines.{IsVm, FitsState}
 use Rattle.esx_model.specs.sound.Frames.{AreFrames}
 use Rattle.esx_model.specs.sound.Sound.{IsSound}
@@ -56,7 +56,7 @@ fewer_becomes c v fine stopping =
       swap = refl;
     }
 
-last_inserted : (s : Site) (n : ℕ) (v : Vm) → vm_at s n ≡ Some v → 0 < length v.overhead → Inserted (get_or v.overhead (length v.overhead - 1) 0) (all_overhead (with_vm s n (without_last v))) (all_overhead s)
+pub last_inserted : (s : Site) (n : ℕ) (v : Vm) → vm_at s n ≡ Some v → 0 < length v.overhead → Inserted (get_or v.overhead (length v.overhead - 1) 0) (all_overhead (with_vm s n (without_last v))) (all_overhead s)
 unfolding all_overhead
 last_inserted s n v there some =
     inserted_inside vm_overhead (Some (without_last v)) (Some v) (set s.vms n (Some (without_last v))) s.vms (get_or v.overhead (length v.overhead - 1) 0)
@@ -72,33 +72,33 @@ fewer_sound c s n v sound there stopping some =
 
 -- The machine goes.
 
-abbrev without_vm : Site → ℕ → Site
+abbrev pub without_vm : Site → ℕ → Site
 without_vm s n = record s { vms = set s.vms n None }
 
 none_changed : (s : Site) (n : ℕ) (v : Vm) → vm_at s n ≡ Some v → Changed (Some v) None s.vms (set s.vms n None)
 none_changed s n v there = let P : Option Vm → Type 0 = λ x. Changed x None s.vms (set s.vms n None) in subst P there (changed_by_set s.vms n None None (some_below s.vms n v there))
 
-in_frame_here : (f : ℕ) (p : Place) → is_here_at f p ≡ true → is_here p ≡ true
+pub in_frame_here : (f : ℕ) (p : Place) → is_here_at f p ≡ true → is_here p ≡ true
 in_frame_here f Untouched h = cc
 in_frame_here f (Here bytes g shared) h = refl
 in_frame_here f (Out bytes i) h = cc
 in_frame_here f (Lent e) h = cc
 
-in_slot_out : (i : ℕ) (p : Place) → is_out_at i p ≡ true → is_out p ≡ true
+pub in_slot_out : (i : ℕ) (p : Place) → is_out_at i p ≡ true → is_out p ≡ true
 in_slot_out i Untouched h = cc
 in_slot_out i (Here bytes g shared) h = cc
 in_slot_out i (Out bytes j) h = refl
 in_slot_out i (Lent e) h = cc
 
-places_fewer : (s : Site) (n : ℕ) (v : Vm) (p q : Place → Bool) → vm_at s n ≡ Some v → ((x : Place) → q x ≡ true → p x ≡ true) → count_by p v.places ≡ 0 → filter q (all_places (without_vm s n)) ≡ filter q (all_places s)
+pub places_fewer : (s : Site) (n : ℕ) (v : Vm) (p q : Place → Bool) → vm_at s n ≡ Some v → ((x : Place) → q x ≡ true → p x ≡ true) → count_by p v.places ≡ 0 → filter q (all_places (without_vm s n)) ≡ filter q (all_places s)
 unfolding all_places
 places_fewer s n v p q there within none = filter_inside q vm_places (Some v) None s.vms (set s.vms n None) (none_changed s n v there) (none_counted p q v.places within none)
 
-overhead_gone : (s : Site) (n : ℕ) (v : Vm) → vm_at s n ≡ Some v → v.overhead ≡ [] → all_overhead (without_vm s n) ≡ all_overhead s
+pub overhead_gone : (s : Site) (n : ℕ) (v : Vm) → vm_at s n ≡ Some v → v.overhead ≡ [] → all_overhead (without_vm s n) ≡ all_overhead s
 unfolding all_overhead
 overhead_gone s n v there none = same_inside vm_overhead (Some v) None s.vms (set s.vms n None) (none_changed s n v there) none
 
-overhead_last : (s : Site) (n f : ℕ) (v : Vm) → vm_at s n ≡ Some v → v.overhead ≡ f ∷ [] → Inserted f (all_overhead (without_vm s n)) (all_overhead s)
+pub overhead_last : (s : Site) (n f : ℕ) (v : Vm) → vm_at s n ≡ Some v → v.overhead ≡ f ∷ [] → Inserted f (all_overhead (without_vm s n)) (all_overhead s)
 unfolding all_overhead
 overhead_last s n f v there is =
     inserted_inside vm_overhead None (Some v) (set s.vms n None) s.vms f (flipped (Some v) None s.vms (set s.vms n None) (none_changed s n v there)) is
@@ -131,7 +131,7 @@ vm_left s n m x below h = elim (cases_eq m n) [
   | inr other ↦ sym (get_or-set_other s.vms n m None None other) ∙ h
 ]
 
-place_left : (s : Site) (n m k : ℕ) (v : Vm) → vm_at s n ≡ Some v → resident v ≡ 0 → is_private (place_of s m k) ≡ true → place_of (without_vm s n) m k ≡ place_of s m k
+pub place_left : (s : Site) (n m k : ℕ) (v : Vm) → vm_at s n ≡ Some v → resident v ≡ 0 → is_private (place_of s m k) ≡ true → place_of (without_vm s n) m k ≡ place_of s m k
 place_left s n m k v there none h = elim (cases_eq m n) [
   | inl e ↦ absurd (none_private v.places k none (ap (λ o. is_private (place_in o k)) (sym there) ∙ ap (λ j. is_private (place_of s j k)) (sym e) ∙ h))
   | inr other ↦ ap (λ o. place_in o k) (get_or-set_other s.vms n m None None other)

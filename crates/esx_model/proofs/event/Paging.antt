@@ -1,36 +1,27 @@
 -- Pages that go out, and pages that take the place of others, keep a site sound.
-use Rattle.std.proofs.Common.{◌≡◌, ◌≢◌, ℕ, zero, suc, ◌+◌, ◌-◌, ◌≤◌, ◌<◌, Bool, true, false, not, ◌||◌, nat_le, nat_lt, List, [], ◌∷◌, ◌++◌, length, get_or, set, count_by, refl, sym, ap, ◌∙◌, subst, arith, cond, Option, Some, None, Ok, inl, inr, ◌==◌}
-use Rattle.std.specs.List.{filter, list_any}
-use Rattle.std.proofs.lemmas.List.{get_or-set_same, get_or-set_other, length-set, set_comm}
-use Rattle.std.proofs.lemmas.Bool.{cases_eq}
-use Rattle.std.proofs.lemmas.Bool.Decides.{nat_tests}
+use Rattle.std.proofs.Common.{◌≡◌, ℕ, ◌-◌, ◌≤◌, ◌<◌, true, false, List, length, refl, arith, Option, Some, None, Ok}
 use Rattle.esx_types.specs.declared.config.Config.{Config}
 use Rattle.esx_types.specs.declared.level.Level.{Level}
-use Rattle.esx_types.specs.declared.vm.VmState.TheVariants.{Starting, Running, Stopping}
 use Rattle.esx_events.specs.declared.event.Answer.{Answer}
 use Rattle.esx_events.specs.declared.event.Answer.TheVariants as answers
 use Rattle.esx_model.specs.declared.look.Look.{Look}
 use Rattle.esx_model.specs.declared.look.Look.TheVariants.{Already, SharedFrame, OtherPage, Changed, OtherBytes, Nothing}
-use Rattle.esx_types.specs.declared.table.Hint.{Hint}
 use Rattle.esx_model.specs.declared.scene.Place.{Place}
 use Rattle.esx_model.specs.declared.scene.Place.TheVariants.{Untouched, Here, Out, Lent}
 use Rattle.esx_model.specs.declared.scene.Vm.{Vm}
 use Rattle.esx_model.specs.declared.scene.Site.{Site}
-use Rattle.esx_model.specs.Places.{is_here, is_here_at, is_out, is_out_at, is_private, contents}
-use Rattle.esx_model.specs.Site.{vm_at, with_vm, place_at, place_in, place_of, all_places, all_overhead, resident, paged_out, least_slot, free_count}
-use Rattle.esx_model.specs.Show.{pages_in, pages_out, in_slot, slot_of}
-use Rattle.esx_model.specs.Hints.{with_place, with_change, without_hint, placed}
+use Rattle.esx_model.specs.Places.{is_here, is_out, contents}
+use Rattle.esx_model.specs.Site.{vm_at, place_at, resident, paged_out, least_slot}
+use Rattle.esx_model.specs.Hints.{with_place, placed}
 use Rattle.esx_model.specs.event.Outcome.{standing}
-use Rattle.esx_model.specs.event.Balloon.{popped}
 use Rattle.esx_model.specs.event.Sharing.{look, after_look}
-use Rattle.esx_model.specs.event.Paging.{victim, swap_out_gate, to_slot, leave_by, leave, swap_out, is_above_min, replace_gate, freed_slot, trade, trade_for, replace}
+use Rattle.esx_model.specs.event.Paging.{victim, swap_out_gate, to_slot, leave_by, leave, swap_out}
 use Rattle.esx_model.specs.sound.Machines.{IsVm, IsPlace}
 use Rattle.esx_model.specs.sound.Sound.{IsSound}
-use Rattle.esx_model.proofs.Lists.{some_below, one}
 use Rattle.esx_model.proofs.Machines.{not_lent, old_place, out_placed, apart_counts, drawn_is_here}
 use Rattle.esx_model.proofs.Kept.{placed_sound}
 use Rattle.esx_model.proofs.Rooms.{slot_unused, room_slot}
-use Rattle.esx_model.proofs.Gates.{of_vm, passed, gives, accepted, not_not, runs}
+use Rattle.esx_model.proofs.Gates.{of_vm, passed, gives}
 use Rattle.esx_model.proofs.event.Balloon.{below_max}
 use Rattle.esx_model.proofs.event.Sharing.{here_past, look_sound}
 

@@ -1,5 +1,5 @@
 -- Targets, shares and the tax keep a site sound.
-use Rattle.std.proofs.Common.{zero, suc, ◌≡◌, ◌≢◌, ℕ, ◌++◌, length, map, get_or, sum_by, min, slice_index, ◌+◌, ◌≤◌, ◌<◌, Bool, true, false, not, ◌&&◌, nat_le, nat_lt, List, [], ◌∷◌, refl, sym, ap, ◌∙◌, subst, arith, Option, Some, None, Ok}
+use Rattle.std.proofs.Common.{zero, suc, ◌≡◌, ℕ, ◌++◌, length, map, get_or, sum_by, min, slice_index, ◌+◌, ◌≤◌, ◌<◌, true, false, ◌&&◌, nat_le, nat_lt, List, [], ◌∷◌, refl, sym, ap, ◌∙◌, subst, arith, Option, Some, None, Ok}
 use Rattle.std.specs.Option.{option_map}
 use Rattle.std.specs.List.{flat_map}
 use Rattle.std.proofs.lemmas.Bool.Decides.{nat_tests}
@@ -138,7 +138,7 @@ flat_retargeted {X = X} h blind (None ∷ os) ts = ap (λ (m : List X). h None +
 flat_retargeted {X = X} h blind (Some v ∷ os) [] = ap (λ (m : List X). h (Some v) ++ m) (flat_retargeted h blind os [])
 flat_retargeted {X = X} h blind (Some v ∷ os) (t ∷ ts) = ap (λ (m : List X). m ++ flat_map h (with_targets os ts)) (blind v t) ∙ ap (λ (m : List X). h (Some v) ++ m) (flat_retargeted h blind os ts)
 
-place_retargeted : (os : List (Option Vm)) (ts : List ℕ) (m k : ℕ) → place_in (get_or (with_targets os ts) m None) k ≡ place_in (get_or os m None) k
+pub place_retargeted : (os : List (Option Vm)) (ts : List ℕ) (m k : ℕ) → place_in (get_or (with_targets os ts) m None) k ≡ place_in (get_or os m None) k
 place_retargeted [] ts m k = refl
 place_retargeted (None ∷ os) ts zero k = refl
 place_retargeted (None ∷ os) ts (suc m) k = place_retargeted os ts m k
@@ -160,14 +160,14 @@ each_retargeted c (Some v ∷ os) [] each bounds (suc n) x h = each_retargeted c
 each_retargeted c (Some v ∷ os) (t ∷ ts) each bounds zero x h = fine_same c (record v { target = t }) x h (target_fine c v t (each zero v refl) bounds.0 bounds.1)
 each_retargeted c (Some v ∷ os) (t ∷ ts) each bounds (suc n) x h = each_retargeted c os ts (λ k v e. each (suc k) v e) bounds.2 n x h
 
-abbrev retargeted : Site → List ℕ → Site
+abbrev pub retargeted : Site → List ℕ → Site
 retargeted s ts = record s { vms = with_targets s.vms ts }
 
-places_retargeted : (s : Site) (ts : List ℕ) → all_places (retargeted s ts) ≡ all_places s
+pub places_retargeted : (s : Site) (ts : List ℕ) → all_places (retargeted s ts) ≡ all_places s
 unfolding all_places
 places_retargeted s ts = flat_retargeted vm_places (λ v t. refl) s.vms ts
 
-overhead_retargeted : (s : Site) (ts : List ℕ) → all_overhead (retargeted s ts) ≡ all_overhead s
+pub overhead_retargeted : (s : Site) (ts : List ℕ) → all_overhead (retargeted s ts) ≡ all_overhead s
 unfolding all_overhead
 overhead_retargeted s ts = flat_retargeted vm_overhead (λ v t. refl) s.vms ts
 

@@ -1,12 +1,12 @@
 -- A page that takes the place of another of its machine keeps a site sound.
-use Rattle.std.proofs.Common.{◌≡◌, ◌≢◌, ℕ, zero, suc, ◌+◌, ◌-◌, ◌≤◌, ◌<◌, Bool, true, false, not, ◌||◌, nat_le, nat_lt, List, [], ◌∷◌, ◌++◌, length, get_or, set, count_by, refl, sym, ap, ◌∙◌, subst, arith, cond, Option, Some, None, Ok, inl, inr, ◌==◌}
+use Rattle.std.proofs.Common.{◌≡◌, ◌≢◌, ℕ, ◌-◌, ◌≤◌, ◌<◌, Bool, true, false, nat_lt, List, [], ◌∷◌, ◌++◌, length, set, refl, sym, ap, ◌∙◌, subst, arith, cond, Option, Some, None, Ok, inl, inr, ◌==◌}
 use Rattle.std.specs.List.{filter, list_any}
 use Rattle.std.proofs.lemmas.List.{get_or-set_same, get_or-set_other, length-set, set_comm}
 use Rattle.std.proofs.lemmas.Bool.Decides.{nat_tests}
 use Rattle.esx_types.specs.declared.config.Config.{Config}
 use Rattle.esx_types.specs.declared.table.SlotRow.{SlotRow}
 use Rattle.esx_types.specs.declared.table.SlotRow.TheVariants as slots
-use Rattle.esx_types.specs.declared.vm.VmState.TheVariants.{Starting, Running, Stopping}
+use Rattle.esx_types.specs.declared.vm.VmState.TheVariants.{Running}
 use Rattle.esx_events.specs.declared.event.Answer.{Answer}
 use Rattle.esx_events.specs.declared.event.Answer.TheVariants as answers
 use Rattle.esx_types.specs.declared.table.Hint.{Hint}
@@ -15,21 +15,21 @@ use Rattle.esx_model.specs.declared.scene.Place.TheVariants.{Untouched, Here, Ou
 use Rattle.esx_model.specs.declared.scene.Vm.{Vm}
 use Rattle.esx_model.specs.declared.scene.Site.{Site}
 use Rattle.esx_model.specs.Places.{is_here, is_here_at, is_out, is_out_at, is_private, contents}
-use Rattle.esx_model.specs.Site.{vm_at, with_vm, place_at, place_in, place_of, all_places, all_overhead, resident, paged_out, least_slot, free_count}
+use Rattle.esx_model.specs.Site.{vm_at, with_vm, place_at, place_in, place_of, all_places, all_overhead, resident, paged_out, free_count}
 use Rattle.esx_model.specs.Show.{pages_in, pages_out, in_frame, in_slot, slot_of, is_listed}
 use Rattle.esx_model.specs.Hints.{with_place, with_change, without_hint, hints_at, placed}
 use Rattle.esx_model.specs.event.Outcome.{standing}
 use Rattle.esx_model.specs.event.Balloon.{popped}
 use Rattle.esx_model.specs.event.Paging.{victim, is_above_min, replace_gate, freed_slot, trade, trade_for, replace}
-use Rattle.esx_model.specs.sound.Machines.{IsVm, IsPlace}
+use Rattle.esx_model.specs.sound.Machines.{IsPlace}
 use Rattle.esx_model.specs.sound.Frames.{AreFrames, pages_out_for}
 use Rattle.esx_model.specs.sound.Sound.{IsSound}
 use Rattle.esx_model.proofs.Lists.{Changed, filter_before, filter_after, filter_neither, eqb_same, one, or_false, set_again, some_below}
 use Rattle.esx_model.proofs.FramesKept.{one_left}
 use Rattle.esx_model.proofs.HintsKept.{no_hint}
 use Rattle.esx_model.proofs.Machines.{not_out, not_lent, old_place, out_placed, here_placed, apart_counts, drawn_is_here}
-use Rattle.esx_model.proofs.Kept.{row_only, placed_sound, placed_is, placed_changed, placed_overhead, placed_at, site_at, places_same, overhead_same, vm_there, vm_placed_there, with_change_is, page_is_in, vm_after}
-use Rattle.esx_model.proofs.Rooms.{IsIn, slot_unused, room_nowhere, room_empty, room_unused, row_here}
+use Rattle.esx_model.proofs.Kept.{row_only, placed_sound, placed_is, placed_changed, placed_overhead, placed_at, site_at, places_same, vm_there, vm_placed_there, with_change_is, page_is_in, vm_after}
+use Rattle.esx_model.proofs.Rooms.{Room, IsIn, slot_unused, room_nowhere, room_empty, room_unused, row_here}
 use Rattle.esx_model.specs.Laws.{IsFull}
 use Rattle.esx_model.proofs.Counting.{full_site}
 use Rattle.esx_model.proofs.Gates.{of_vm, passed, gives, not_not, runs}
@@ -80,24 +80,36 @@ left_frame ps qs bytes others f i shared ch few =
     filter_after (is_here_at f) p (Out others i) ps qs ch ∙ one_left fs bs p (subst P before few)
 
 -- What is known where page q of machine n makes room for its page `page`.
-record Trades (c : Config) (s : Site) (n page q : ℕ) (v : Vm) (bytes : List ℕ) (f : ℕ) (shared : Bool) (i : ℕ) : Type 0 where
-  sound : IsSound c s
-  there : vm_at s n ≡ Some v
-  running : v.state ≡ Running
-  below : page < v.spec.max
-  away : is_here (place_at v page) ≡ false
-  within : q < length v.places
-  was : place_at v q ≡ Here bytes f shared
-  full : IsFull c s
-  slot : i < c.slots
-  clear : IsClear (all_places s) (place_at v page) i
+pub record Trades (c : Config) (s : Site) (n page q : ℕ) (v : Vm) (bytes : List ℕ) (f : ℕ) (shared : Bool) (i : ℕ) : Type 0 where
+  pub sound : IsSound c s
+  pub there : vm_at s n ≡ Some v
+  pub running : v.state ≡ Running
+  pub below : page < v.spec.max
+  pub away : is_here (place_at v page) ≡ false
+  pub within : q < length v.places
+  pub was : place_at v q ≡ Here bytes f shared
+  pub full : IsFull c s
+  pub slot : i < c.slots
+  pub clear : IsClear (all_places s) (place_at v page) i
 
-other_pages : (c : Config) (s : Site) (n page q : ℕ) (v : Vm) (bytes : List ℕ) (f : ℕ) (shared : Bool) (i : ℕ) → Trades c s n page q v bytes f shared i → q ≢ page
+pub other_pages : (c : Config) (s : Site) (n page q : ℕ) (v : Vm) (bytes : List ℕ) (f : ℕ) (shared : Bool) (i : ℕ) → Trades c s n page q v bytes f shared i → q ≢ page
 other_pages c s n page q v bytes f shared i t e = (let d : is_here (place_at v q) ≡ false = ap (λ k. is_here (place_at v k)) e ∙ t.away in let k = ap is_here t.was in let no = sym k ∙ d in cc)
 
--- The wanted page is nowhere first, then its fellow goes out, then it comes.
-by_steps : (c : Config) (s : Site) (n page q : ℕ) (v : Vm) (bytes : List ℕ) (f : ℕ) (shared : Bool) (i : ℕ) (new : List ℕ) → Trades c s n page q v bytes f shared i → length new ≡ c.page
-    → IsSound c (placed (placed (placed s n page Untouched) n q (Out bytes i)) n page (Here new f false))
+-- The wanted page is nowhere first, then its fellow goes out, then it comes: each time to a sound site, and to a place that has room.
+pub record IsTraded (c : Config) (s : Site) (n page q : ℕ) (v : Vm) (bytes : List ℕ) (f i : ℕ) (new : List ℕ) : Type 0 where
+  pub left_sound : IsSound c (placed s n page Untouched)
+  pub left_there : vm_at (placed s n page Untouched) n ≡ Some (with_place page Untouched v)
+  pub out_place : (i < c.slots) × (length bytes ≡ c.page)
+  pub out_room : Room c (placed s n page Untouched) (place_at (with_place page Untouched v) q) (Out bytes i)
+  pub out_sound : IsSound c (placed (placed s n page Untouched) n q (Out bytes i))
+  pub out_there : vm_at (placed (placed s n page Untouched) n q (Out bytes i)) n ≡ Some (with_place q (Out bytes i) (with_place page Untouched v))
+  pub nowhere : place_at (with_place q (Out bytes i) (with_place page Untouched v)) page ≡ Untouched
+  pub in_place : (f < c.frames) × (length new ≡ c.page)
+  pub in_room : Room c (placed (placed s n page Untouched) n q (Out bytes i)) (place_at (with_place q (Out bytes i) (with_place page Untouched v)) page) (Here new f false)
+  pub in_sound : IsSound c (placed (placed (placed s n page Untouched) n q (Out bytes i)) n page (Here new f false))
+
+pub by_steps : (c : Config) (s : Site) (n page q : ℕ) (v : Vm) (bytes : List ℕ) (f : ℕ) (shared : Bool) (i : ℕ) (new : List ℕ) → Trades c s n page q v bytes f shared i → length new ≡ c.page
+    → IsTraded c s n page q v bytes f i new
 by_steps c s n page q v bytes f shared i new t whole =
     let fine = t.sound.each n v t.there in
     let within : page < length v.places = (let b = t.below in omega (arith, fine.pages, b)) in
@@ -150,11 +162,23 @@ by_steps c s n page q v bytes f shared i new t whole =
     let clear_a = (row_here c.frames (all_places a) (all_overhead a) bytes f shared sound_a.frames (subst In at_q (page_is_in a n q va there_a within_a))).1 in
     let clear_b : is_listed f (all_overhead b) ≡ false = ap (is_listed f) (placed_overhead a n q va o there_a) ∙ clear_a in
     -- and it comes
-    placed_sound c b n page vb (Here new f false) sound_b there_b t.below past (place.0, whole) (not_out c vb page (Here new f false) fine_b within_b refl) (not_lent c vb page (Here new f false) fine_b within_b refl)
-    (room_unused c b (place_at vb page) new f none clear_b)
+    let out_room = room_empty c a (place_at va q) bytes i empty in
+    let in_room = room_unused c b (place_at vb page) new f none clear_b in
+    record {
+      left_sound = sound_a;
+      left_there = there_a;
+      out_place = (t.slot, place.1);
+      out_room = out_room;
+      out_sound = sound_b;
+      out_there = there_b;
+      nowhere = at_page;
+      in_place = (place.0, whole);
+      in_room = in_room;
+      in_sound = placed_sound c b n page vb (Here new f false) sound_b there_b t.below past (place.0, whole) (not_out c vb page (Here new f false) fine_b within_b refl) (not_lent c vb page (Here new f false) fine_b within_b refl) in_room;
+    }
 
 -- it is the same as without the step to nowhere
-steps_same : (s : Site) (n page q : ℕ) (v : Vm) (o h : Place) → vm_at s n ≡ Some v → page ≢ q → is_private h ≡ true → without_hint n page s.hints ≡ s.hints
+pub steps_same : (s : Site) (n page q : ℕ) (v : Vm) (o h : Place) → vm_at s n ≡ Some v → page ≢ q → is_private h ≡ true → without_hint n page s.hints ≡ s.hints
     → placed (placed (placed s n page Untouched) n q o) n page h ≡ placed (placed s n q o) n page h
 steps_same s n page q v o h there apart private none =
     let ps = v.places in
@@ -170,22 +194,22 @@ steps_same s n page q v o h there apart private none =
     ∙ ap (λ (hints : List Hint). site_at s n v (set (set ps q o) page h) (hints_at n page h (hints_at n q o hints))) none
     ∙ sym short
 
-private_is_here : (p : Place) → is_here p ≡ false → is_private p ≡ false
+pub private_is_here : (p : Place) → is_here p ≡ false → is_private p ≡ false
 private_is_here Untouched h = refl
 private_is_here (Here bytes f shared) h = cc
 private_is_here (Out bytes i) h = refl
 private_is_here (Lent e) h = refl
 
-traded : (c : Config) (s : Site) (n page q : ℕ) (v : Vm) (bytes : List ℕ) (f : ℕ) (shared : Bool) (i : ℕ) (new : List ℕ) → Trades c s n page q v bytes f shared i → length new ≡ c.page
+pub traded : (c : Config) (s : Site) (n page q : ℕ) (v : Vm) (bytes : List ℕ) (f : ℕ) (shared : Bool) (i : ℕ) (new : List ℕ) → Trades c s n page q v bytes f shared i → length new ≡ c.page
     → IsSound c (placed (placed s n q (Out bytes i)) n page (Here new f false))
 traded c s n page q v bytes f shared i new t whole =
     let P : Site → Type 0 = IsSound c in
     let gone : is_private (place_of s n page) ≡ false = ap (λ o. is_private (place_in o page)) t.there ∙ private_is_here (place_at v page) t.away in
     subst P (steps_same s n page q v (Out bytes i) (Here new f false) t.there (λ e. other_pages c s n page q v bytes f shared i t (sym e)) refl (no_hint (place_of s) n page s.hints t.sound.hints gone))
-    (by_steps c s n page q v bytes f shared i new t whole)
+    (by_steps c s n page q v bytes f shared i new t whole).in_sound
 
 -- the slot that is taken
-slot_taken : (c : Config) (s : Site) (e : ℕ) (p : Place) (i : ℕ) → IsPlace c e p → is_here p ≡ false → freed_slot c s p ≡ Some i → (i < c.slots) × IsClear (all_places s) p i
+pub slot_taken : (c : Config) (s : Site) (e : ℕ) (p : Place) (i : ℕ) → IsPlace c e p → is_here p ≡ false → freed_slot c s p ≡ Some i → (i < c.slots) × IsClear (all_places s) p i
 slot_taken c s e Untouched i place away found = slot_unused c.slots s i found
 slot_taken c s e (Here bytes f shared) i place away found = cc
 slot_taken c s e (Out bytes j) i place away found = (let same : j ≡ i = cc in let P : ℕ → Type 0 = λ k. k < c.slots in (subst P same place.0, same))

@@ -1,5 +1,5 @@
 -- Sample periods keep a site sound.
-use Rattle.std.proofs.Common.{◌≡◌, ◌≢◌, ℕ, ◌+◌, ◌%◌, ◌≤◌, ◌<◌, Bool, true, false, not, ◌&&◌, nat_le, nat_lt, List, [], ◌∷◌, ◌++◌, length, length-append, map, count_by, refl, sym, ap, ◌∙◌, subst, arith, cond, Option, Some, None, Ok}
+use Rattle.std.proofs.Common.{◌≡◌, ℕ, ◌%◌, ◌≤◌, ◌<◌, Bool, true, false, nat_lt, List, [], ◌∷◌, ◌++◌, length, map, refl, arith, cond, Option, Some, None, Ok}
 use Rattle.std.specs.List.{AllByRecursion}
 use Rattle.std.specs.Prelude.{is_some}
 use Rattle.std.proofs.lemmas.List.{length-map}
@@ -17,7 +17,7 @@ use Rattle.esx_model.specs.declared.scene.Vm.{Vm}
 use Rattle.esx_model.specs.declared.scene.Site.{Site}
 use Rattle.esx_model.specs.Site.{vm_at, with_vm}
 use Rattle.esx_model.specs.event.Outcome.{standing}
-use Rattle.esx_model.specs.event.Sampling.{are_good_words, sample_gate, opened_period, sample, with_period, counted_in, counted}
+use Rattle.esx_model.specs.event.Sampling.{are_good_words, sample_gate, opened_period, sample, counted_in, counted}
 use Rattle.esx_model.specs.sound.Machines.{IsVm, IsPeriod, IsPeriodOrNone}
 use Rattle.esx_model.specs.sound.Sound.{IsSound}
 use Rattle.esx_model.proofs.Lists.{all_append}

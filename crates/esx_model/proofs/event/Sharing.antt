@@ -1,5 +1,5 @@
 -- Pages that come to share one frame keep a site sound.
-use Rattle.std.proofs.Common.{◌≡◌, ◌≢◌, ℕ, zero, suc, ◌+◌, ◌-◌, ◌≤◌, ◌<◌, ◌^◌, Bool, true, false, not, nat_le, List, [], ◌∷◌, ◌++◌, length, get_or, set, count_by, refl, sym, ap, ◌∙◌, subst, arith, cond, Option, Some, None, Ok, inl, inr, ◌==◌}
+use Rattle.std.proofs.Common.{◌≡◌, ◌≢◌, ℕ, zero, suc, ◌<◌, Bool, true, false, not, List, [], ◌∷◌, length, get_or, count_by, refl, sym, ap, ◌∙◌, subst, arith, cond, Option, Some, None, Ok, inl, inr, ◌==◌}
 use Rattle.std.specs.Prelude.{bytes_eq}
 use Rattle.std.specs.List.{filter, find, flat_map, AllByRecursion}
 use Rattle.std.proofs.lemmas.List.{get_or-set_same, get_or-set_other, length-set}
@@ -8,10 +8,8 @@ use Rattle.std.proofs.lemmas.Bool.{cases_eq}
 use Rattle.std.proofs.lemmas.Bool.Decides.{nat_tests}
 use Rattle.std.proofs.lemmas.Slice.Eq.{bytes_eq-Decides}
 use Rattle.esx_types.specs.declared.config.Config.{Config}
-use Rattle.esx_types.specs.declared.table.FrameRow.{FrameRow}
-use Rattle.esx_types.specs.declared.table.FrameRow.TheVariants as frames
 use Rattle.esx_types.specs.declared.vm.VmState.{VmState}
-use Rattle.esx_types.specs.declared.vm.VmState.TheVariants.{Starting, Running, Stopping}
+use Rattle.esx_types.specs.declared.vm.VmState.TheVariants.{Starting}
 use Rattle.esx_events.specs.declared.event.Answer.{Answer}
 use Rattle.esx_events.specs.declared.event.Answer.TheVariants as answers
 use Rattle.esx_formulas.specs.Key.{content_key}
@@ -23,23 +21,22 @@ use Rattle.esx_model.specs.declared.scene.Place.TheVariants.{Untouched, Here, Ou
 use Rattle.esx_model.specs.declared.scene.Vm.{Vm}
 use Rattle.esx_model.specs.declared.scene.Site.{Site}
 use Rattle.esx_model.specs.Places.{is_here, is_here_at, is_private, contents}
-use Rattle.esx_model.specs.Site.{vm_at, with_vm, place_at, place_in, place_of, vm_places, all_places, all_overhead, resident}
-use Rattle.esx_model.specs.Show.{pages_in, in_frame, row_of}
-use Rattle.esx_model.specs.Hints.{hint_key, is_hint_of, other_hint, with_hint, with_place, placed}
+use Rattle.esx_model.specs.Site.{vm_at, place_at, place_in, place_of, vm_places, all_places, all_overhead}
+use Rattle.esx_model.specs.Show.{pages_in, row_of}
+use Rattle.esx_model.specs.Hints.{hint_key, is_hint_of, other_hint, with_place, placed}
 use Rattle.esx_model.specs.event.Outcome.{standing}
-use Rattle.esx_model.specs.event.Sharing.{is_shared_under, shared_under, look_at_shared, look_at_hinted, look_at_hint, look_private, look, hinted, after_look, said_of, looked, scan_gate, scan_place, scan}
+use Rattle.esx_model.specs.event.Sharing.{is_shared_under, shared_under, look_at_shared, look_at_hinted, look_at_hint, look_private, look, hinted, after_look, said_of, scan_gate, scan}
 use Rattle.esx_model.specs.sound.Machines.{IsVm, IsPlace, FitsState}
-use Rattle.esx_model.specs.sound.Frames.{AreFrames, key_of_row}
-use Rattle.esx_model.specs.sound.Hints.{AreHints}
+use Rattle.esx_model.specs.sound.Frames.{key_of_row}
 use Rattle.esx_model.specs.sound.Sound.{IsSound}
-use Rattle.esx_model.proofs.Lists.{all_append, all_middle, chosen, some_below, one, find_passes, find_in, all_map}
+use Rattle.esx_model.proofs.Lists.{all_append, all_middle, chosen, one, find_passes, find_in, all_map}
 use Rattle.esx_model.proofs.Machines.{not_out, not_lent, old_place}
 use Rattle.esx_model.proofs.HintsKept.{hints_more, other_hint_private}
 use Rattle.esx_model.proofs.Keys.{key_small}
 use Rattle.esx_model.proofs.Kept.{placed_sound, placed_is, page_is_in, vm_placed_there}
 use Rattle.esx_model.proofs.Rooms.{Room, IsIn, room_to_share, room_shared, private_alone, row_here, shared_row, apart_frames}
-use Rattle.esx_model.proofs.Gates.{of_vm, passed, gives, accepted, not_not, runs}
-use Rattle.esx_model.proofs.event.Balloon.{past_start, below_max}
+use Rattle.esx_model.proofs.Gates.{of_vm, passed, gives, not_not}
+use Rattle.esx_model.proofs.event.Balloon.{below_max}
 use Rattle.esx_types.specs.declared.vm.VmSpec.{VmSpec}
 
 -- What is found among the pages of a site.

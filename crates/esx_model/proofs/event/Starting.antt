@@ -1,5 +1,5 @@
 -- A machine that takes an overhead frame keeps a site sound.
-use Rattle.std.proofs.Common.{◌≡◌, ◌≢◌, ℕ, ◌+◌, ◌≤◌, ◌<◌, Bool, true, false, not, nat_lt, List, [], ◌∷◌, ◌++◌, length, length-append, set, refl, sym, ap, ◌∙◌, subst, arith, cond, Option, Some, None, Ok}
+use Rattle.std.proofs.Common.{◌≡◌, ℕ, ◌+◌, ◌≤◌, ◌<◌, Bool, true, false, not, nat_lt, List, [], ◌∷◌, length, length-append, set, refl, sym, subst, arith, cond, Option, Some, None, Ok}
 use Rattle.std.proofs.lemmas.Bool.Decides.{nat_tests}
 use Rattle.esx_types.specs.declared.config.Config.{Config}
 use Rattle.esx_types.specs.declared.vm.VmState.{VmState}
@@ -7,7 +7,6 @@ use Rattle.esx_types.specs.declared.vm.VmState.TheVariants.{Starting, Running, S
 use Rattle.esx_events.specs.declared.event.Answer.{Answer}
 use Rattle.esx_events.specs.declared.event.Answer.TheVariants as answers
 use Rattle.esx_model.specs.declared.scene.Place.{Place}
-use Rattle.esx_model.specs.declared.scene.Place.TheVariants.{Untouched}
 use Rattle.esx_model.specs.declared.scene.Vm.{Vm}
 use Rattle.esx_model.specs.declared.scene.Site.{Site}
 use Rattle.esx_model.specs.Site.{vm_at, with_vm, place_of, vm_overhead, all_places, all_overhead, least_free}
@@ -19,11 +18,11 @@ use Rattle.esx_model.specs.sound.Sound.{IsSound}
 use Rattle.esx_model.proofs.Lists.{Inserted, inserted_inside, some_below}
 use Rattle.esx_model.proofs.FramesKept.{frames_more}
 use Rattle.esx_model.proofs.HintsKept.{hints_stay}
-use Rattle.esx_model.proofs.Kept.{Becomes, conclude, site_with, vm_changed, places_same, place_changed}
+use Rattle.esx_model.proofs.Kept.{Becomes, conclude, vm_changed, places_same, place_changed}
 use Rattle.esx_model.proofs.Rooms.{least_unused}
-use Rattle.esx_model.proofs.Gates.{of_vm, passed, gives, accepted}
+use Rattle.esx_model.proofs.Gates.{of_vm, passed, gives}
 
-starts : (state : VmState) → is_running state ≡ false → is_stopping state ≡ false → state ≡ Starting
+pub starts : (state : VmState) → is_running state ≡ false → is_stopping state ≡ false → state ≡ Starting
 starts Starting h k = refl
 starts Running h k = cc
 starts Stopping h k = cc
@@ -59,7 +58,7 @@ overhead_becomes c v f fine starting =
       swap = refl;
     }
 
-overhead_inserted : (s : Site) (n f : ℕ) (v : Vm) → vm_at s n ≡ Some v → Inserted f (all_overhead s) (all_overhead (with_vm s n (with_overhead v f)))
+pub overhead_inserted : (s : Site) (n f : ℕ) (v : Vm) → vm_at s n ≡ Some v → Inserted f (all_overhead s) (all_overhead (with_vm s n (with_overhead v f)))
 unfolding all_overhead
 overhead_inserted s n f v there =
     inserted_inside vm_overhead (Some v) (Some (with_overhead v f)) s.vms (set s.vms n (Some (with_overhead v f))) f (vm_changed s n (Some v) (with_overhead v f) (some_below s.vms n v there) there) refl

@@ -1,11 +1,10 @@
 -- A machine comes, under the reserves (Waldspurger, "Admission Control").
-use Rattle.std.specs.Prelude.{ℕ, ◌+◌, ◌-◌, Bool, false, not, nat_lt, [], Option, Some, None, is_some, replicate, if◌then◌else◌, Ok, ◌∷◌}
+use Rattle.std.specs.Prelude.{ℕ, ◌+◌, ◌-◌, Bool, false, not, nat_lt, [], None, is_some, replicate, Ok, ◌∷◌}
 use Rattle.esx_types.specs.declared.vm.VmSpec.{VmSpec}
 use Rattle.esx_types.specs.declared.vm.VmState.TheVariants.{Starting}
 use Rattle.esx_types.specs.declared.config.Config.{Config}
 use Rattle.esx_types.specs.Ranges.{is_good}
 use Rattle.esx_events.specs.declared.event.Answer.TheVariants as answers
-use Rattle.esx_events.specs.declared.event.Refusal.{Refusal}
 use Rattle.esx_events.specs.declared.event.Refusal.TheVariants.{VmThere, BadSpec, NoMemoryReserve, NoSwapReserve}
 use Rattle.esx_model.specs.declared.scene.Place.TheVariants.{Untouched}
 use Rattle.esx_model.specs.declared.scene.Vm.{Vm}

@@ -1,7 +1,6 @@
 -- A guest lends pages to the machine through its balloon driver (Waldspurger, "Ballooning").
-use Rattle.std.specs.Prelude.{ℕ, ◌+◌, ◌-◌, Bool, false, ◌||◌, nat_le, Option, Some, None, if◌then◌else◌, Ok, not, ◌∷◌, []}
+use Rattle.std.specs.Prelude.{ℕ, ◌+◌, ◌-◌, Bool, false, ◌||◌, nat_le, if◌then◌else◌, Ok, not, ◌∷◌, []}
 use Rattle.esx_events.specs.declared.event.Answer.TheVariants as answers
-use Rattle.esx_events.specs.declared.event.Refusal.{Refusal}
 use Rattle.esx_events.specs.declared.event.Refusal.TheVariants.{OverGoal, NotLent, LentAlready}
 use Rattle.esx_model.specs.declared.scene.Place.TheVariants.{Untouched, Lent}
 use Rattle.esx_model.specs.declared.scene.Vm.{Vm}

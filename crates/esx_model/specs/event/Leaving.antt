@@ -1,7 +1,6 @@
 -- A machine stops, and gives back what it has.
-use Rattle.std.specs.Prelude.{ℕ, ◌+◌, ◌-◌, ◌||◌, not, nat_lt, nat_le, length, take, Option, Some, None, slice_set, if◌then◌else◌, Ok, ◌∷◌, Bool, []}
+use Rattle.std.specs.Prelude.{ℕ, ◌+◌, ◌-◌, ◌||◌, not, nat_lt, nat_le, length, take, None, slice_set, if◌then◌else◌, Ok, ◌∷◌, Bool, []}
 use Rattle.esx_events.specs.declared.event.Answer.TheVariants as answers
-use Rattle.esx_events.specs.declared.event.Refusal.{Refusal}
 use Rattle.esx_events.specs.declared.event.Refusal.TheVariants.{NotRunning, OutOfRange, NotNeeded, PagesLeft}
 use Rattle.esx_types.specs.declared.vm.VmState.TheVariants.{Stopping}
 use Rattle.esx_model.specs.declared.scene.Place.TheVariants.{Untouched}

@@ -1,8 +1,8 @@
 -- How an event is told: its gate, which is the refusals in their order as a function of readings, then what it leaves and what it answers.
-use Rattle.std.specs.Prelude.{◌≡◌, ◌≢◌, ℕ, ◌-◌, Bool, true, false, not, nat_le, min, List, [], ◌∷◌, Option, Some, None, Result, Ok, Err, if◌then◌else◌}
+use Rattle.std.specs.Prelude.{◌≡◌, ℕ, ◌-◌, Bool, true, false, not, nat_le, min, List, [], ◌∷◌, Option, Some, None, Result, Err, if◌then◌else◌}
 use Rattle.esx_events.specs.declared.event.Answer.{Answer}
 use Rattle.esx_events.specs.declared.event.Refusal.{Refusal}
-use Rattle.esx_events.specs.declared.event.Refusal.TheVariants.{NoVm, NotRunning, OutOfRange, OutOfMemory}
+use Rattle.esx_events.specs.declared.event.Refusal.TheVariants.{NoVm, NotRunning, OutOfRange}
 use Rattle.esx_types.specs.declared.vm.VmState.{VmState}
 use Rattle.esx_types.specs.declared.vm.VmState.TheVariants.{Starting, Running, Stopping}
 use Rattle.esx_model.specs.declared.look.Standing.{Standing}

@@ -1,11 +1,10 @@
 -- Pages leave for the swap area, or make room for one of their own machine (Waldspurger, "Demand Paging", "Reclamation Mechanisms").
-use Rattle.std.specs.Prelude.{ℕ, ◌%◌, Bool, true, false, ◌&&◌, ◌||◌, not, nat_lt, nat_le, List, Option, Some, None, slice_get, if◌then◌else◌, Ok, Err, ◌∷◌, []}
+use Rattle.std.specs.Prelude.{ℕ, ◌%◌, Bool, true, false, ◌&&◌, ◌||◌, not, nat_lt, nat_le, List, Option, Some, None, slice_get, Ok, Err, ◌∷◌, []}
 use Rattle.std.specs.List.{list_any}
 use Rattle.esx_types.specs.declared.config.Config.{Config}
 use Rattle.esx_types.specs.declared.level.Level.{Level}
 use Rattle.esx_types.specs.declared.level.Level.TheVariants.{High, Soft, Hard, Low}
 use Rattle.esx_events.specs.declared.event.Answer.TheVariants as answers
-use Rattle.esx_events.specs.declared.event.Refusal.{Refusal}
 use Rattle.esx_events.specs.declared.event.Refusal.TheVariants.{NotRunning, OutOfRange, Short, NotNow, AtTarget, NotNeeded}
 use Rattle.esx_model.specs.declared.scene.Place.{Place}
 use Rattle.esx_model.specs.declared.scene.Place.TheVariants.{Untouched, Here, Out, Lent}

@@ -1,10 +1,9 @@
 -- Targets, and what they are made from (Waldspurger, "Share-Based Allocation", "Reclaiming Idle Memory", "Dynamic Reallocation").
-use Rattle.std.specs.Prelude.{ℕ, ◌+◌, ◌-◌, nat_le, ◌&&◌, min, List, [], ◌∷◌, map, Option, Some, None, option_map, sum_by, if◌then◌else◌, Ok, not, nat_lt}
+use Rattle.std.specs.Prelude.{ℕ, ◌+◌, ◌-◌, nat_le, ◌&&◌, min, List, [], ◌∷◌, map, Option, Some, None, option_map, sum_by, Ok, not, nat_lt}
 use Rattle.esx_types.specs.declared.config.Config.{Config}
 use Rattle.esx_types.specs.declared.level.Level.{Level}
 use Rattle.esx_types.specs.declared.level.Level.TheVariants.{High, Soft, Hard, Low}
 use Rattle.esx_events.specs.declared.event.Answer.TheVariants as answers
-use Rattle.esx_events.specs.declared.event.Refusal.{Refusal}
 use Rattle.esx_events.specs.declared.event.Refusal.TheVariants.{BadSpec}
 use Rattle.esx_model.specs.declared.scene.Vm.{Vm}
 use Rattle.esx_model.specs.declared.scene.Site.{Site}

@@ -1,7 +1,6 @@
 -- Sample periods: how much of its memory a machine uses (Waldspurger, "Measuring Idle Memory").
 use Rattle.std.specs.Prelude.{ℕ, ◌%◌, Bool, not, nat_lt, nat_le, ◌&&◌, List, [], ◌∷◌, ◌++◌, length, map, Option, Some, None, is_some, if◌then◌else◌, Ok}
 use Rattle.esx_events.specs.declared.event.Answer.TheVariants as answers
-use Rattle.esx_events.specs.declared.event.Refusal.{Refusal}
 use Rattle.esx_events.specs.declared.event.Refusal.TheVariants.{NotRunning, BadWords, SampleOpen}
 use Rattle.esx_formulas.specs.declared.activity.Period.{Period}
 use Rattle.esx_model.specs.declared.look.Standing.{Standing}

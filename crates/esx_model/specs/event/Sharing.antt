@@ -4,7 +4,6 @@ use Rattle.esx_types.specs.declared.config.Config.{Config}
 use Rattle.esx_events.specs.declared.event.Answer.TheVariants as answers
 use Rattle.esx_events.specs.declared.event.Scanned.{Scanned}
 use Rattle.esx_events.specs.declared.event.Scanned.TheVariants as scanned
-use Rattle.esx_events.specs.declared.event.Refusal.{Refusal}
 use Rattle.esx_events.specs.declared.event.Refusal.TheVariants.{NotRunning, OutOfRange, NotResident}
 use Rattle.esx_model.specs.declared.look.Standing.{Standing}
 use Rattle.esx_model.specs.declared.look.Look.{Look}

@@ -2,7 +2,6 @@
 use Rattle.std.specs.Prelude.{ℕ, ◌+◌, not, nat_lt, [], ◌∷◌, ◌++◌, length, Option, Some, None, if◌then◌else◌, Ok, Err}
 use Rattle.esx_types.specs.declared.config.Config.{Config}
 use Rattle.esx_events.specs.declared.event.Answer.TheVariants as answers
-use Rattle.esx_events.specs.declared.event.Refusal.{Refusal}
 use Rattle.esx_events.specs.declared.event.Refusal.TheVariants.{NotRunning, NotNeeded, Short}
 use Rattle.esx_types.specs.declared.vm.VmState.TheVariants.{Starting, Running}
 use Rattle.esx_model.specs.declared.scene.Vm.{Vm}
