@@ -1,0 +1,4 @@
+pub mod Planned
+pub mod Leaving
+pub mod Rebalancing
+pub mod Starting

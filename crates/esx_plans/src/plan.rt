@@ -1,0 +1,15 @@
+//! Plans, a file for each mechanism.
+
+pub mod leaving;
+pub mod rebalancing;
+pub mod starting;
+
+use esx_events::Answer;
+use esx_tables::Record;
+
+/// What an event answers, and the changes that make it.
+#[derive(Drop)]
+pub struct Plan {
+    pub answer: Answer,
+    pub changes: Record,
+}

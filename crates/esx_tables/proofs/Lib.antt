@@ -1,0 +1,3 @@
+pub mod Back
+pub mod Opening
+pub mod Kept

@@ -1,0 +1,9 @@
+pub use Rattle.esx_model.specs.Tables
+pub use Rattle.esx_lists.specs.Trades
+pub mod Readings
+pub mod Machines
+pub mod Bounds
+pub mod Fields
+pub mod Changes
+pub mod Sizes
+pub mod Kept

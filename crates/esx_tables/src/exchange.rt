@@ -1,0 +1,89 @@
+//! Changes that are made, each in trade for what stood in its place.
+
+ghost use Rattle.std.specs.Prelude.{◌≡◌};
+ghost use Rattle.esx_tables.specs.Machines.{vm_traded};
+ghost use Rattle.esx_tables.specs.Changes.{slots_traded, traded, exchanged};
+
+use crate::change::{Change, VmPart};
+use crate::record::Record;
+use crate::tables::SiteTables;
+use crate::vm_table::VmTable;
+use esx_frames::FrameTable;
+use esx_swap::Slots;
+use esx_types::SlotRow;
+
+impl SiteTables {
+    /// Makes a change, and leaves in it what leads back. Where there is no such place nothing changes.
+    #[tactic(auto, unfolding(crate::specs::Changes::traded))]
+    pub fn trade(&mut self, change: &mut Change)
+        ensures tables { self.new ≡ (traded self.old change.old).0 }
+        ensures change { change.new ≡ (traded self.old change.old).1 }
+    {
+        match change {
+            Change::FrameAt { frame, row } => self.frames.trade(*frame, row),
+            Change::MarkAt { frame, mark } => self.frames.trade_mark(*frame, mark),
+            Change::BytesAt {
+                frame,
+                offset,
+                bytes,
+            } => self.frames.trade_bytes(*frame, *offset, bytes),
+            Change::ListingAt { frame, listing } => self.listings.trade(*frame, listing),
+            Change::SlotAt { slot, row } => self.slots.trade(*slot, row),
+            Change::FrameWithSlot { frame, slot } => {
+                trade_slots(&mut self.frames, &mut self.slots, *frame, *slot)
+            }
+            Change::OfVm { vm, part } => {
+                let at = usize::from(vm.number());
+                if at < self.vms.len() {
+                    trade_part(self.vms.row_mut(at), part);
+                }
+            }
+            Change::VmAt { vm, row } => self.vms.trade(usize::from(vm.number()), row),
+            Change::TaxIs { tau } => std::mem::swap(&mut self.tau, tau),
+        }
+    }
+
+    /// Makes the changes of a record in turn, and leaves what leads back. It takes no memory.
+    pub fn exchange(&mut self, back: &mut Record)
+        ensures tables { self.new ≡ (exchanged self.old back.old).0 }
+        ensures back { back.new ≡ (exchanged self.old back.old).1 }
+    {
+        self.make_all(&mut back.changes);
+    }
+
+    /// Makes changes in turn, and leaves the list that leads back.
+    #[tactic(auto, unfolding(crate::specs::Changes::exchanged))]
+    fn make_all(&mut self, changes: &mut Vec<Change>)
+        ensures tables { self.new ≡ (exchanged self.old changes.old.items).0 }
+        ensures changes { changes.new.items ≡ (exchanged self.old changes.old.items).1 }
+    {
+        for i in 0..changes.len() {
+            self.trade(&mut changes[i]);
+        }
+        changes.reverse();
+    }
+}
+
+fn trade_part(vm: &mut Option<VmTable>, part: &mut VmPart)
+    ensures vm { vm.new ≡ (vm_traded vm.old part.old).0 }
+    ensures part { part.new ≡ (vm_traded vm.old part.old).1 }
+{
+    if let Some(vm) = vm {
+        vm.trade(part);
+    }
+}
+
+/// Trades the page of a private frame, or none, for that of a slot, or none. Where there is no such frame
+/// or slot nothing changes.
+#[tactic(auto, unfolding(crate::specs::Changes::slots_traded))]
+fn trade_slots(frames: &mut FrameTable, slots: &mut Slots, frame: u32, slot: u32)
+    ensures frames { frames.new ≡ (slots_traded frame slot frames.old slots.old).0 }
+    ensures slots { slots.new ≡ (slots_traded frame slot frames.old slots.old).1 }
+{
+    if slot < slots.len() {
+        let mut row = SlotRow::Free;
+        slots.swap_row(slot, &mut row);
+        frames.trade_slot(frame, &mut row);
+        slots.swap_row(slot, &mut row);
+    }
+}

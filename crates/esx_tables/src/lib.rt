@@ -1,0 +1,19 @@
+//! The tables of a site as one thing, changes of them that lead back, and records of such changes.
+#![tactic(auto)]
+
+mod change;
+mod copy;
+mod exchange;
+pub mod laws;
+mod record;
+mod tables;
+#[cfg(test)]
+mod tests;
+mod vm_table;
+
+pub use change::{Change, Facts, VmPart};
+pub use esx_average::Averages;
+pub use esx_frames::{Counts, Mark};
+pub use record::{Record, RecordSize};
+pub use tables::SiteTables;
+pub use vm_table::VmTable;

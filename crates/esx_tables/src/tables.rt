@@ -1,0 +1,202 @@
+//! The tables, as they are opened and read.
+
+ghost use Rattle.std.specs.Prelude.{◌≡◌, ◌<◌, IfOk, MatchOption, None, Some, length, option_copied, replicate, slice_get};
+ghost use Rattle.std.specs.List.{position_from};
+ghost use Rattle.esx_types.specs.declared.config.TheConstants.{VM_NUMBERS};
+ghost use Rattle.esx_types.specs.Frames.{frame_at, least_frame, bytes_of};
+ghost use Rattle.esx_types.specs.Slots.{slot_at, least_slot, held_bytes};
+ghost use Rattle.esx_types.specs.Listings.{listing_at, is_shared_under, is_hinted_under};
+ghost use Rattle.esx_frames.specs.Counts.{counts_of};
+ghost use Rattle.esx_model.specs.Replay.{opening};
+ghost use Rattle.esx_model.specs.Tables.{tables_of};
+ghost use Rattle.esx_tables.specs.Readings.{row_at, empty_tables};
+
+use crate::vm_table::VmTable;
+use esx_frames::{Counts, FrameTable};
+use esx_keys::Listings;
+use esx_swap::Slots;
+use esx_types::{Config, FrameRow, Listing, Rows, SlotRow, VM_NUMBERS, VmId};
+use std::alloc::{AllocError, Global};
+use std::marker::Model;
+
+/// Every table of a site, and the idle memory tax.
+///
+/// No change takes memory. A reading of one row, of a count or of the least free frame or slot takes the
+/// same time whatever the size of the site.
+#[derive(Drop)]
+pub struct SiteTables {
+    pub(crate) frames: FrameTable,
+    pub(crate) slots: Slots,
+    pub(crate) vms: Rows<Option<VmTable>>,
+    pub(crate) listings: Listings,
+    pub(crate) tau: u32,
+}
+
+impl Model for SiteTables {
+    ghost use Rattle.esx_model.specs.declared.tables.Tables.{Tables};
+
+    ghost Value = { Tables };
+
+    ghost view = { λ a. record { frames = a.frames; slots = a.slots; vms = a.vms; listings = a.listings; tau = a.tau } };
+}
+
+fn bytes_of(row: &FrameRow) -> &[u8]
+    ensures { result.now ≡ bytes_of row.now }
+{
+    match row {
+        FrameRow::Free | FrameRow::Overhead => &[],
+        FrameRow::Private { bytes } => bytes.as_slice(),
+        FrameRow::Shared { bytes, .. } => bytes.as_slice(),
+    }
+}
+
+fn held_bytes(row: &SlotRow) -> &[u8]
+    ensures { result.now ≡ held_bytes row.now }
+{
+    match row {
+        SlotRow::Free => &[],
+        SlotRow::Held { bytes } => bytes.as_slice(),
+    }
+}
+
+fn no_machines(alloc: Global) -> Result<Rows<Option<VmTable>>, AllocError>
+    ensures { IfOk result (λ rows. rows ≡ replicate VM_NUMBERS None) }
+{
+    let mut rows = Vec::with_capacity(alloc, VM_NUMBERS)?;
+    for _number in 0..VM_NUMBERS {
+        rows.push(None)?;
+    }
+    Ok(Rows::from_vec(rows))
+}
+
+impl SiteTables {
+    /// The tables of a site with no machines.
+    #[tactic(auto, using(crate::proofs::Opening::opening_shown))]
+    pub fn open(alloc: Global, config: &Config) -> Result<SiteTables, AllocError>
+        ensures rows { IfOk result (λ tables. tables ≡ empty_tables config.now) }
+        ensures shows { IfOk result (λ tables. tables ≡ tables_of config.now (opening config.now).site) }
+    {
+        Ok(SiteTables {
+            frames: FrameTable::new(alloc, config.frames, config.page)?,
+            slots: Slots::new(alloc, config.slots)?,
+            vms: no_machines(alloc)?,
+            listings: Listings::new(alloc, config.frames)?,
+            tau: config.tau,
+        })
+    }
+
+    /// How many frames there are.
+    pub fn frame_count(&self) -> u32
+        ensures { result ≡ length self.now.frames }
+    {
+        self.frames.len()
+    }
+
+    /// How many slots there are.
+    pub fn slot_count(&self) -> u32
+        ensures { result ≡ length self.now.slots }
+    {
+        self.slots.len()
+    }
+
+    /// How many frames there are of each kind.
+    pub fn counts(&self) -> Counts
+        ensures { result ≡ counts_of self.now.frames }
+    {
+        self.frames.counts()
+    }
+
+    /// The least frame that is free.
+    pub fn least_frame(&self) -> Option<u32>
+        ensures { result ≡ least_frame self.now.frames }
+    {
+        self.frames.least_free()
+    }
+
+    /// The least slot that is free.
+    pub fn least_slot(&self) -> Option<u32>
+        ensures { result ≡ least_slot self.now.slots }
+    {
+        self.slots.least_free()
+    }
+
+    /// The row of a frame; none past the end.
+    pub fn frame(&self, frame: u32) -> Option<&FrameRow>
+        ensures { option_copied result ≡ slice_get self.now.frames frame }
+    {
+        self.frames.get(frame)
+    }
+
+    /// The bytes of the page in a frame; none where no page is.
+    pub fn bytes(&self, frame: u32) -> &[u8]
+        ensures { result.now ≡ bytes_of (frame_at self.now.frames frame) }
+    {
+        match self.frames.rows().get(frame as usize) {
+            Some(row) => bytes_of(row),
+            None => &[],
+        }
+    }
+
+    /// The row of a slot; none past the end.
+    pub fn slot(&self, slot: u32) -> Option<&SlotRow>
+        ensures { option_copied result ≡ slice_get self.now.slots slot }
+    {
+        self.slots.get(slot)
+    }
+
+    /// The bytes of the page in a slot; none where no page is.
+    pub fn held(&self, slot: u32) -> &[u8]
+        ensures { result.now ≡ held_bytes (slot_at self.now.slots slot) }
+    {
+        match self.slots.rows().get(slot as usize) {
+            Some(row) => held_bytes(row),
+            None => &[],
+        }
+    }
+
+    /// What a frame stands under; past the last frame, nothing.
+    pub fn listing(&self, frame: u32) -> Listing
+        ensures { result ≡ listing_at self.now.listings frame }
+    {
+        self.listings.get(frame)
+    }
+
+    /// The least frame that is shared under a key.
+    pub fn shared_under(&self, key: u64) -> Option<u32>
+        ensures { result ≡ position_from (is_shared_under key) 0 self.now.listings }
+    {
+        self.listings.shared_under(key)
+    }
+
+    /// The least frame whose page is a hint under a key.
+    pub fn hinted_under(&self, key: u64) -> Option<u32>
+        ensures { result ≡ position_from (is_hinted_under key) 0 self.now.listings }
+    {
+        self.listings.hinted_under(key)
+    }
+
+    /// The virtual machine with a number, if there is one.
+    pub fn vm(&self, vm: VmId) -> Option<&VmTable>
+        ensures value { MatchOption result (row_at self.now vm ≡ None) (λ v. row_at self.now vm ≡ Some v.now) }
+        ensures named { vm < VM_NUMBERS }
+    {
+        match self.vms().get(usize::from(vm.number())) {
+            Some(Some(vm)) => Some(vm),
+            _ => None,
+        }
+    }
+
+    /// The places of virtual machines, in order of number.
+    pub fn vms(&self) -> &[Option<VmTable>]
+        ensures { result.now ≡ self.now.vms }
+    {
+        self.vms.as_slice()
+    }
+
+    /// The idle memory tax in percent.
+    pub fn tau(&self) -> u32
+        ensures { result ≡ self.now.tau }
+    {
+        self.tau
+    }
+}

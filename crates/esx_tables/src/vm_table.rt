@@ -1,0 +1,249 @@
+//! A virtual machine's row, with room for every overhead frame that it will take.
+
+ghost use Rattle.std.specs.Prelude.{◌≡◌, ◌<◌, ◌≤◌, IfOk, length, option_map, slice_index, vec_len, vec_capacity};
+ghost use Rattle.esx_types.specs.Ranges.{IsGood};
+ghost use Rattle.esx_types.specs.Pages.{page_at, resident_count, resident_pages};
+ghost use Rattle.esx_lists.specs.Trades.{place_turned, top_traded};
+ghost use Rattle.esx_model.specs.event.Admission.{admitted};
+ghost use Rattle.esx_model.specs.Tables.{vm_table, standing_of};
+ghost use Rattle.esx_tables.specs.Machines.{facts_of, part_traded, done_traded, touched_turned, mark_turned, no_mark};
+ghost use Rattle.esx_tables.specs.Bounds.{AreSizes};
+ghost use Rattle.esx_tables.specs.Fields.{fields_with, facts_in};
+
+use crate::change::{Facts, VmPart};
+use esx_average::Averages;
+use esx_model::{Mark as SampleMark, PeriodRow, Standing};
+use esx_pmap::PageMap;
+use esx_types::{MapRow, Rows, VmSpec, VmState};
+use std::alloc::{AllocError, Global};
+use std::marker::Model;
+use std::mem;
+
+/// The fields of a row.
+#[derive(Drop)]
+struct Fields {
+    spec: VmSpec,
+    state: VmState,
+    epoch: u32,
+    due: bool,
+    target: u32,
+    overhead: Vec<u32>,
+    pages: PageMap,
+    averages: Averages,
+    period: Option<PeriodRow>,
+}
+
+/// A virtual machine with its page map, on the heap. Its overhead frames stand in room that was taken when
+/// it was admitted, so that none of its changes takes memory, and its page map keeps the numbers of pages
+/// in frames, in slots and lent.
+#[derive(Drop)]
+pub struct VmTable {
+    fields: Box<Fields>,
+}
+
+impl Model for VmTable {
+    ghost use Rattle.std.specs.Prelude.{◌≡◌, ◌≤◌, length, vec_len, vec_capacity};
+    ghost use Rattle.esx_model.specs.declared.book.VmRow.{VmRow};
+    ghost use Rattle.esx_tables.specs.Bounds.{AreSizes};
+
+    ghost Value = { VmRow };
+
+    ghost view = { λ a. record { spec = a.fields.value.spec; state = a.fields.value.state; epoch = a.fields.value.epoch; due = a.fields.value.due; target = a.fields.value.target; overhead = a.fields.value.overhead.items; pages = a.fields.value.pages; slow = a.fields.value.averages.slow; fast = a.fields.value.averages.fast; period = a.fields.value.period } };
+
+    ghost invariant = { λ a. (vec_len a.fields.value.overhead ≤ a.fields.value.spec.overhead) × (a.fields.value.spec.overhead ≤ vec_capacity a.fields.value.overhead) × AreSizes a.fields.value.spec × (length a.fields.value.pages ≡ a.fields.value.spec.max) };
+}
+
+impl VmTable {
+    /// A machine as it is admitted: it has none of its frames, and counts as fully active.
+    #[tactic(auto, using(crate::proofs::Opening::untouched_shown))]
+    pub fn admitted(alloc: Global, spec: VmSpec) -> Result<VmTable, AllocError>
+        requires { IsGood spec }
+        ensures { IfOk result (λ vm. vm ≡ vm_table (admitted spec)) }
+    {
+        let fields = Fields {
+            spec,
+            state: VmState::Starting,
+            epoch: 0,
+            due: false,
+            target: spec.max,
+            overhead: Vec::with_capacity(alloc, spec.overhead as usize)?,
+            pages: PageMap::new(alloc, spec.max)?,
+            averages: Averages::opened(),
+            period: None,
+        };
+        Ok(VmTable {
+            fields: Box::new(alloc, fields)?,
+        })
+    }
+
+    /// What gates read of the machine.
+    pub fn standing(&self) -> Standing
+        ensures { result ≡ standing_of self.now }
+    {
+        let fields = &self.fields;
+        Standing {
+            spec: fields.spec,
+            state: fields.state,
+            target: fields.target,
+            resident: fields.pages.resident(),
+            out: fields.pages.out(),
+            lent: fields.pages.lent(fields.epoch),
+        }
+    }
+
+    /// What the machine asked for, with its present shares.
+    pub fn spec(&self) -> VmSpec
+        ensures value { result ≡ self.now.spec }
+        ensures sizes { AreSizes result }
+    {
+        self.fields.spec
+    }
+
+    /// What the row tells in small numbers that events change.
+    pub fn facts(&self) -> Facts
+        ensures { result ≡ facts_of self.now }
+    {
+        let fields = &self.fields;
+        Facts {
+            shares: fields.spec.shares,
+            state: fields.state,
+            epoch: fields.epoch,
+            due: fields.due,
+            target: fields.target,
+        }
+    }
+
+    /// The overhead frames, in order of taking.
+    pub fn overhead(&self) -> &[u32]
+        ensures value { result.now ≡ self.now.overhead }
+        ensures room { length self.now.overhead ≤ self.now.spec.overhead }
+        ensures most { self.now.spec.overhead ≤ 1048576 }
+    {
+        self.fields.overhead.as_slice()
+    }
+
+    /// Where a page is. One past the end counts as never brought.
+    pub fn page(&self, page: u32) -> MapRow
+        ensures { result ≡ page_at self.now.pages page }
+    {
+        let fields = &self.fields;
+        if page < fields.pages.len() {
+            fields.pages.at(page)
+        } else {
+            MapRow::Untouched
+        }
+    }
+
+    /// The rows of all pages.
+    pub fn pages(&self) -> &[MapRow]
+        ensures value { result.now ≡ self.now.pages }
+        ensures all { length self.now.pages ≡ self.now.spec.max }
+    {
+        self.fields.pages.rows()
+    }
+
+    /// The page that comes `k`-th, counted from 0, among those that are in a frame.
+    pub fn nth_resident(&self, k: u32) -> u32
+        requires { k < resident_count self.now.pages }
+        ensures { result ≡ slice_index (resident_pages self.now.pages) k }
+    {
+        self.fields.pages.nth_resident(k)
+    }
+
+    /// The averages of its activity.
+    pub fn averages(&self) -> Averages
+        ensures { result ≡ record { slow = self.now.slow; fast = self.now.fast } }
+    {
+        self.fields.averages
+    }
+
+    /// The open sample period, if there is one.
+    pub fn period(&self) -> &Option<PeriodRow>
+        ensures { result.now ≡ self.now.period }
+    {
+        &self.fields.period
+    }
+
+    /// Trades a part of the row. Where there is no such part nothing changes.
+    pub fn trade(&mut self, part: &mut VmPart)
+        ensures vm { self.new ≡ (part_traded self.old part.old).0 }
+        ensures part { part.new ≡ (part_traded self.old part.old).1 }
+    {
+        let fields = &mut self.fields;
+        match part {
+            VmPart::PageAt { page, row } => fields.pages.trade(*page, row),
+            VmPart::Facts { facts } => trade_facts(fields, facts),
+            VmPart::Target { target } => mem::swap(&mut fields.target, target),
+            VmPart::Period { period } => mem::swap(&mut fields.period, period),
+            VmPart::Done { done } => trade_done(&mut fields.period, done),
+            VmPart::Touched { mark } => turn_touched(&mut fields.period, *mark),
+            VmPart::Averages { averages } => mem::swap(&mut fields.averages, averages),
+            VmPart::OverheadTop { frame } => {
+                let room = fields.spec.overhead;
+                trade_top(&mut fields.overhead, room, frame);
+            }
+        }
+    }
+}
+
+/// Trades the small numbers.
+fn trade_facts(fields: &mut Fields, facts: &mut Facts)
+    ensures fields { fields.new ≡ fields_with fields.old facts.old }
+    ensures facts { facts.new ≡ facts_in fields.old }
+{
+    mem::swap(&mut fields.spec.shares, &mut facts.shares);
+    mem::swap(&mut fields.state, &mut facts.state);
+    mem::swap(&mut fields.epoch, &mut facts.epoch);
+    mem::swap(&mut fields.due, &mut facts.due);
+    mem::swap(&mut fields.target, &mut facts.target);
+}
+
+/// Trades how many accesses of the open period are done. Where none is open nothing changes.
+fn trade_done(period: &mut Option<PeriodRow>, done: &mut u32)
+    ensures period { period.new ≡ (done_traded period.old done.old).0 }
+    ensures done { done.new ≡ (done_traded period.old done.old).1 }
+{
+    if let Some(period) = period {
+        mem::swap(&mut period.done, done);
+    }
+}
+
+/// Turns round whether a sampled page was accessed. Where there is none such nothing changes.
+fn turn_touched(period: &mut Option<PeriodRow>, mark: u32)
+    ensures { period.new ≡ option_map (touched_turned mark) period.old }
+{
+    if let Some(period) = period {
+        turn_mark(&mut period.marks, mark as usize);
+    }
+}
+
+/// Turns round whether the page at a place was accessed. Past the end nothing changes.
+fn turn_mark(marks: &mut Rows<SampleMark>, at: usize)
+    ensures { marks.new ≡ place_turned mark_turned marks.old at no_mark }
+{
+    if at < marks.len() {
+        let mark = marks.row_mut(at);
+        mark.touched = !mark.touched;
+    }
+}
+
+/// Trades the end of a list in its room: a frame goes onto it, or, where none is given, the last one off it.
+#[tactic(auto, unfolding(esx_lists::specs::Trades::top_traded))]
+fn trade_top(held: &mut Vec<u32>, room: u32, frame: &mut Option<u32>)
+    requires within { vec_len held.old ≤ room }
+    requires room { room ≤ vec_capacity held.old }
+    ensures held { held.new.items ≡ (top_traded room 0 held.old.items frame.old).0 }
+    ensures frame { frame.new ≡ (top_traded room 0 held.old.items frame.old).1 }
+    ensures within { vec_len held.new ≤ room }
+    ensures room { room ≤ vec_capacity held.new }
+{
+    match *frame {
+        Some(taken) => {
+            if held.len() < room as usize {
+                held.push(taken).unwrap();
+                *frame = None;
+            }
+        }
+        None => *frame = held.pop(),
+    }
+}

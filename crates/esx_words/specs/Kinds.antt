@@ -1,0 +1,68 @@
+-- What can stand behind the first word of a command: a list of kinds, and values of these kinds.
+use Rattle.std.specs.Prelude.{ℕ, List, [], ◌∷◌, ◌<◌, ◌≤◌, ◌^◌, length, decimal, Bool, nat_lt, ◌||◌, map}
+use Rattle.std.specs.List.{AllByRecursion}
+use Rattle.hex.specs.Hex.{encode_lower, IsBytes}
+use Rattle.esx_types.specs.declared.config.TheConstants.{VM_NUMBERS}
+use Rattle.esx_events.specs.Names.{IsName}
+
+-- the byte is none of the capitals `A` to `F`
+abbrev pub is_no_capital : ℕ → Bool
+is_no_capital b = nat_lt b 65 || nat_lt 70 b
+
+-- bytes that a line can have in hex
+pub record IsWritten (bytes : List ℕ) : Type 0 where
+  pub some : 0 < length bytes
+  pub few : length bytes ≤ 4096
+  pub are_bytes : IsBytes bytes
+
+-- kinds of one word
+pub data Kind : Type 0 where
+  Machine : Kind
+  Number : Kind
+  Word : Kind
+  Hex : Kind
+  Name : Kind
+
+abbrev pub Value : Kind → Type 0
+Value Kind.Machine = ℕ
+Value Kind.Number = ℕ
+Value Kind.Word = ℕ
+Value Kind.Hex = List ℕ
+Value Kind.Name = List ℕ
+
+-- how a value is spelled
+abbrev pub value_word : (kind : Kind) → Value kind → List ℕ
+value_word Kind.Machine n = decimal n
+value_word Kind.Number n = decimal n
+value_word Kind.Word n = decimal n
+value_word Kind.Hex bytes = encode_lower bytes
+value_word Kind.Name name = name
+
+-- which values a line can have
+abbrev pub IsValue : (kind : Kind) → Value kind → Type 0
+IsValue Kind.Machine n = n < VM_NUMBERS
+IsValue Kind.Number n = n < 2 ^ 32
+IsValue Kind.Word n = n < 2 ^ 64
+IsValue Kind.Hex bytes = IsWritten bytes
+IsValue Kind.Name name = IsName name
+
+-- kinds in their order; `Words` are up to 200 numbers that end the line
+pub data Kinds : Type 0 where
+  End : Kinds
+  Then : Kind → Kinds → Kinds
+  Words : Kinds
+
+abbrev pub Values : Kinds → Type 0
+Values Kinds.End = Unit {0}
+Values (Kinds.Then kind kinds) = Value kind × Values kinds
+Values Kinds.Words = List ℕ
+
+abbrev pub value_words : (kinds : Kinds) → Values kinds → List (List ℕ)
+value_words Kinds.End tt = []
+value_words (Kinds.Then kind kinds) (x, xs) = value_word kind x ∷ value_words kinds xs
+value_words Kinds.Words ws = map decimal ws
+
+abbrev pub AreValues : (kinds : Kinds) → Values kinds → Type 0
+AreValues Kinds.End tt = Unit {0}
+AreValues (Kinds.Then kind kinds) (x, xs) = IsValue kind x × AreValues kinds xs
+AreValues Kinds.Words ws = (length ws ≤ 200) × AllByRecursion (λ w. w < 2 ^ 64) ws

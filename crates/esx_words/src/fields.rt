@@ -1,0 +1,125 @@
+//! A line as fields parted by single spaces, and numbers among them.
+
+ghost use Rattle.std.specs.Prelude.{◌≡◌, ◌<◌, ◌^◌, ◌∷◌, ◌↔◌, [], ℕ, List, decimal, MatchOption, IfSome, IfNone, IsTrue};
+ghost use Rattle.esx_types.specs.declared.config.TheConstants.{VM_NUMBERS};
+ghost use Rattle.esx_words.specs.Fields.{fields, begins_as_number};
+
+use esx_types::{VM_NUMBERS, VmId};
+use std::marker::Model;
+
+/// Does the text begin as a number does: with a digit, and with `0` only where it is all?
+fn begins_as_number(text: &str) -> bool
+    ensures { result ≡ begins_as_number text.now }
+{
+    match text.as_bytes() {
+        [] => false,
+        [first] => b'0' <= *first,
+        [first, ..] => b'1' <= *first,
+    }
+}
+
+/// The number whose decimal digits the text is, without sign and without leading zeros.
+pub fn number_of(text: &str) -> Option<u64>
+    ensures some { IfSome result (λ n. (n < 2 ^ 64) × (text.now ≡ decimal n)) }
+    ensures none { IfNone result ((n : ℕ) → n < 2 ^ 64 → text.now ≡ decimal n → ⊥) }
+{
+    if begins_as_number(text) {
+        text.parse().ok()
+    } else {
+        None
+    }
+}
+
+/// The fields of a line that are left, seen as their list.
+#[derive(Drop)]
+pub struct Fields<'a> {
+    rest: Option<&'a str>,
+}
+
+impl<'a> Model for Fields<'a> {
+    ghost use Rattle.std.specs.Prelude.{List, ℕ};
+
+    ghost Value = { List (List ℕ) };
+
+    ghost use Rattle.esx_words.specs.Fields.{fields_left};
+
+    ghost view = { λ s. fields_left s.rest };
+}
+
+impl<'a> Fields<'a> {
+    pub fn of(text: &'a str) -> Fields<'a>
+        ensures { result ≡ fields text.now }
+    {
+        Fields { rest: Some(text) }
+    }
+
+    /// The next field.
+    pub fn next(&mut self) -> Option<&'a str>
+        ensures { MatchOption result (self.old ≡ []) (λ field. self.old ≡ field.now ∷ self.new) }
+    {
+        let rest = self.rest?;
+        match rest.split_once(' ') {
+            Some((field, later)) => {
+                self.rest = Some(later);
+                Some(field)
+            }
+            None => {
+                self.rest = None;
+                Some(rest)
+            }
+        }
+    }
+
+    /// Whether no field is left.
+    pub fn is_empty(&self) -> bool
+        ensures { IsTrue result ↔ (self.now ≡ []) }
+    {
+        self.rest.is_none()
+    }
+
+    /// The next field as a number below a limit.
+    fn below(&mut self, limit: u64) -> Option<u64>
+        ensures some { IfSome result (λ n. (n < limit) × (self.old ≡ decimal n ∷ self.new)) }
+        ensures none { IfNone result ((n : ℕ) (others : List (List ℕ)) → n < limit → self.old ≡ decimal n ∷ others → ⊥) }
+    {
+        let number = number_of(self.next()?)?;
+        if number < limit { Some(number) } else { None }
+    }
+
+    /// The next field as a number.
+    pub fn number(&mut self) -> Option<u32>
+        ensures some { IfSome result (λ n. self.old ≡ decimal n ∷ self.new) }
+        ensures none { IfNone result ((n : ℕ) (others : List (List ℕ)) → n < 2 ^ 32 → self.old ≡ decimal n ∷ others → ⊥) }
+    {
+        let number = self.below(1 << 32)?;
+        Some(number as u32)
+    }
+
+    /// The next field as a word.
+    pub fn word(&mut self) -> Option<u64>
+        ensures some { IfSome result (λ n. self.old ≡ decimal n ∷ self.new) }
+        ensures none { IfNone result ((n : ℕ) (others : List (List ℕ)) → n < 2 ^ 64 → self.old ≡ decimal n ∷ others → ⊥) }
+    {
+        number_of(self.next()?)
+    }
+
+    /// The next two fields as numbers.
+    pub fn pair(&mut self) -> Option<(u32, u32)>
+        ensures some { IfSome result (λ p. self.old ≡ decimal p.0 ∷ decimal p.1 ∷ self.new) }
+        ensures none { IfNone result ((n m : ℕ) (others : List (List ℕ)) → n < 2 ^ 32 → m < 2 ^ 32
+            → self.old ≡ decimal n ∷ decimal m ∷ others → ⊥) }
+    {
+        let first = self.number()?;
+        let second = self.number()?;
+        Some((first, second))
+    }
+
+    /// The next field as the number of a virtual machine.
+    pub fn vm(&mut self) -> Option<VmId>
+        ensures some { IfSome result (λ n. (n < VM_NUMBERS) × (self.old ≡ decimal n ∷ self.new)) }
+        ensures none { IfNone result ((n : ℕ) (others : List (List ℕ)) → n < VM_NUMBERS → self.old ≡ decimal n ∷ others → ⊥) }
+    {
+        let number = self.below(VM_NUMBERS as u64)?;
+        VmId::new(number as u8)
+    }
+}

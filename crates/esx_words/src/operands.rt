@@ -1,0 +1,255 @@
+//! All that is left of a line, read as values of some kinds.
+
+ghost use Rattle.std.specs.Prelude.{◌≡◌, ◌∷◌, [], ◌<◌, ◌≤◌, ◌^◌, decimal, ℕ, List, IfSome, IfNone, IfOk, IfErr, length, map};
+ghost use Rattle.std.specs.List.{list_all, AllByRecursion};
+ghost use Rattle.hex.specs.Hex.{encode_lower};
+ghost use Rattle.esx_types.specs.declared.config.TheConstants.{VM_NUMBERS};
+ghost use Rattle.esx_events.specs.Names.{IsName};
+ghost use Rattle.esx_words.specs.Kinds.{IsWritten, is_no_capital};
+ghost use Rattle.esx_words.specs.Faults.{Refuses};
+
+use crate::fault::WordFault;
+use crate::fields::Fields;
+use esx_events::{Boxed, Name};
+use esx_types::{Bytes, Rows, VmId, VmSpec};
+use std::alloc::Global;
+
+/// A virtual machine alone.
+pub fn machine(fields: &mut Fields) -> Option<VmId>
+    ensures some { IfSome result (λ vm. (vm < VM_NUMBERS) × (fields.old ≡ decimal vm ∷ [])) }
+    ensures none { IfNone result ((vm : ℕ) → vm < VM_NUMBERS → fields.old ≡ decimal vm ∷ [] → ⊥) }
+{
+    let vm = fields.vm()?;
+    if fields.is_empty() { Some(vm) } else { None }
+}
+
+/// A number alone.
+pub fn number(fields: &mut Fields) -> Option<u32>
+    ensures some { IfSome result (λ n. fields.old ≡ decimal n ∷ []) }
+    ensures none { IfNone result ((n : ℕ) → n < 2 ^ 32 → fields.old ≡ decimal n ∷ [] → ⊥) }
+{
+    let number = fields.number()?;
+    if fields.is_empty() {
+        Some(number)
+    } else {
+        None
+    }
+}
+
+/// A virtual machine and a number.
+pub fn place(fields: &mut Fields) -> Option<(VmId, u32)>
+    ensures some { IfSome result (λ p. (p.0 < VM_NUMBERS) × (fields.old ≡ decimal p.0 ∷ decimal p.1 ∷ [])) }
+    ensures none { IfNone result ((vm n : ℕ) → vm < VM_NUMBERS → n < 2 ^ 32 → fields.old ≡ decimal vm ∷ decimal n ∷ [] → ⊥) }
+{
+    let vm = fields.vm()?;
+    let number = fields.number()?;
+    if fields.is_empty() {
+        Some((vm, number))
+    } else {
+        None
+    }
+}
+
+/// A virtual machine and a word.
+pub fn drawn(fields: &mut Fields) -> Option<(VmId, u64)>
+    ensures some { IfSome result (λ p. (p.0 < VM_NUMBERS) × (fields.old ≡ decimal p.0 ∷ decimal p.1 ∷ [])) }
+    ensures none { IfNone result ((vm w : ℕ) → vm < VM_NUMBERS → w < 2 ^ 64 → fields.old ≡ decimal vm ∷ decimal w ∷ [] → ⊥) }
+{
+    let vm = fields.vm()?;
+    let word = fields.word()?;
+    if fields.is_empty() {
+        Some((vm, word))
+    } else {
+        None
+    }
+}
+
+/// A virtual machine, a number and a word.
+pub fn drawn_place(fields: &mut Fields) -> Option<(VmId, u32, u64)>
+    ensures some { IfSome result (λ p. (p.0 < VM_NUMBERS) × (fields.old ≡ decimal p.0 ∷ decimal p.1 ∷ decimal p.2 ∷ [])) }
+    ensures none { IfNone result ((vm n w : ℕ) → vm < VM_NUMBERS → n < 2 ^ 32 → w < 2 ^ 64
+        → fields.old ≡ decimal vm ∷ decimal n ∷ decimal w ∷ [] → ⊥) }
+{
+    let vm = fields.vm()?;
+    let number = fields.number()?;
+    let word = fields.word()?;
+    if fields.is_empty() {
+        Some((vm, number, word))
+    } else {
+        None
+    }
+}
+
+/// A virtual machine and three numbers.
+pub fn range(fields: &mut Fields) -> Option<(VmId, u32, u32, u32)>
+    ensures some { IfSome result (λ p. (p.0 < VM_NUMBERS) × (fields.old ≡ decimal p.0 ∷ decimal p.1 ∷ decimal p.2 ∷ decimal p.3 ∷ [])) }
+    ensures none { IfNone result ((vm n m k : ℕ) → vm < VM_NUMBERS → n < 2 ^ 32 → m < 2 ^ 32 → k < 2 ^ 32
+        → fields.old ≡ decimal vm ∷ decimal n ∷ decimal m ∷ decimal k ∷ [] → ⊥) }
+{
+    let vm = fields.vm()?;
+    let (first, second) = fields.pair()?;
+    let third = fields.number()?;
+    if fields.is_empty() {
+        Some((vm, first, second, third))
+    } else {
+        None
+    }
+}
+
+/// A virtual machine and what it asks for.
+pub fn spec(fields: &mut Fields) -> Option<(VmId, VmSpec)>
+    ensures some { IfSome result (λ p. (p.0 < VM_NUMBERS)
+        × (fields.old ≡ decimal p.0 ∷ decimal p.1.min ∷ decimal p.1.max ∷ decimal p.1.overhead ∷ decimal p.1.shares ∷ decimal p.1.balloon_max ∷ [])) }
+    ensures none { IfNone result ((vm min max overhead shares balloon : ℕ) → vm < VM_NUMBERS → min < 2 ^ 32 → max < 2 ^ 32
+        → overhead < 2 ^ 32 → shares < 2 ^ 32 → balloon < 2 ^ 32
+        → fields.old ≡ decimal vm ∷ decimal min ∷ decimal max ∷ decimal overhead ∷ decimal shares ∷ decimal balloon ∷ [] → ⊥) }
+{
+    let vm = fields.vm()?;
+    let (min, max) = fields.pair()?;
+    let (overhead, shares) = fields.pair()?;
+    let balloon_max = fields.number()?;
+    if !fields.is_empty() {
+        return None;
+    }
+    let spec = VmSpec {
+        min,
+        max,
+        overhead,
+        shares,
+        balloon_max,
+    };
+    Some((vm, spec))
+}
+
+/// Whether no byte is one of the capitals `A` to `F`.
+fn has_no_capital(field: &str) -> bool
+    ensures { result ≡ list_all is_no_capital field.now }
+{
+    field
+        .as_bytes()
+        .iter()
+        .all(|byte| *byte < b'A' || b'F' < *byte)
+}
+
+/// The bytes of a field in hex.
+fn written_bytes(alloc: Global, field: &str) -> Result<Bytes, WordFault>
+    ensures found { IfOk result (λ bytes. IsWritten bytes × (field.now ≡ encode_lower bytes)) }
+    ensures only { IfErr result (λ e. Refuses e ((bytes : List ℕ) → IsWritten bytes → field.now ≡ encode_lower bytes → ⊥)) }
+{
+    if field.is_empty() || field.len() > 8192 {
+        return Err(WordFault::NoCommand);
+    }
+    if !has_no_capital(field) {
+        return Err(WordFault::NoCommand);
+    }
+    match hex::decode(alloc, field) {
+        Ok(bytes) => Ok(Bytes::from_vec(bytes)),
+        Err(error) => match error {
+            hex::FromHexError::OutOfMemory => Err(WordFault::OutOfMemory),
+            _ => Err(WordFault::NoCommand),
+        },
+    }
+}
+
+/// A virtual machine, two numbers and the digits of some bytes.
+fn digits<'a>(fields: &mut Fields<'a>) -> Option<(VmId, u32, u32, &'a str)>
+    ensures some { IfSome result (λ p. (p.0 < VM_NUMBERS) × (fields.old ≡ decimal p.0 ∷ decimal p.1 ∷ decimal p.2 ∷ p.3.now ∷ [])) }
+    ensures none { IfNone result ((vm n m : ℕ) (text : List ℕ) → vm < VM_NUMBERS → n < 2 ^ 32 → m < 2 ^ 32
+        → fields.old ≡ decimal vm ∷ decimal n ∷ decimal m ∷ text ∷ [] → ⊥) }
+{
+    let vm = fields.vm()?;
+    let (first, second) = fields.pair()?;
+    let text = fields.next()?;
+    if fields.is_empty() {
+        Some((vm, first, second, text))
+    } else {
+        None
+    }
+}
+
+/// A virtual machine, two numbers and bytes.
+pub fn written(
+    alloc: Global,
+    fields: &mut Fields,
+) -> Result<(VmId, u32, u32, Boxed<Bytes>), WordFault>
+    ensures found { IfOk result (λ p. (p.0 < VM_NUMBERS) × IsWritten p.3
+        × (fields.old ≡ decimal p.0 ∷ decimal p.1 ∷ decimal p.2 ∷ encode_lower p.3 ∷ [])) }
+    ensures only { IfErr result (λ e. Refuses e ((vm n m : ℕ) (bytes : List ℕ) → vm < VM_NUMBERS → n < 2 ^ 32 → m < 2 ^ 32 → IsWritten bytes
+        → fields.old ≡ decimal vm ∷ decimal n ∷ decimal m ∷ encode_lower bytes ∷ [] → ⊥)) }
+{
+    let Some((vm, first, second, text)) = digits(fields) else {
+        return Err(WordFault::NoCommand);
+    };
+    let bytes = written_bytes(alloc, text)?;
+    let Ok(bytes) = Boxed::new(alloc, bytes) else {
+        return Err(WordFault::OutOfMemory);
+    };
+    Ok((vm, first, second, bytes))
+}
+
+/// A name alone.
+pub fn name(alloc: Global, fields: &mut Fields) -> Result<Name, WordFault>
+    ensures found { IfOk result (λ name. IsName name × (fields.old ≡ name ∷ [])) }
+    ensures only { IfErr result (λ e. Refuses e ((name : List ℕ) → IsName name → fields.old ≡ name ∷ [] → ⊥)) }
+{
+    let Some(text) = fields.next() else {
+        return Err(WordFault::NoCommand);
+    };
+    if !fields.is_empty() {
+        return Err(WordFault::NoCommand);
+    }
+    match Name::new(alloc, text) {
+        Ok(Some(name)) => Ok(name),
+        Ok(None) => Err(WordFault::NoCommand),
+        Err(_) => Err(WordFault::OutOfMemory),
+    }
+}
+
+/// The most words of a sample.
+const MAX_WORDS: usize = 200;
+
+/// Words to the end of the line.
+fn words(alloc: Global, fields: &mut Fields) -> Result<Vec<u64>, WordFault>
+    ensures found { IfOk result (λ words. (length words.items ≤ 200) × AllByRecursion (λ w. w < 2 ^ 64) words.items
+        × (fields.old ≡ map decimal words.items)) }
+    ensures only { IfErr result (λ e. Refuses e ((words : List ℕ) → length words ≤ 200 → AllByRecursion (λ w. w < 2 ^ 64) words
+        → fields.old ≡ map decimal words → ⊥)) }
+{
+    let mut words = Vec::new(alloc);
+    while !fields.is_empty() {
+        let Some(word) = fields.word() else {
+            return Err(WordFault::NoCommand);
+        };
+        if words.len() == MAX_WORDS {
+            return Err(WordFault::NoCommand);
+        }
+        let Ok(()) = words.push(word) else {
+            return Err(WordFault::OutOfMemory);
+        };
+    }
+    Ok(words)
+}
+
+/// A virtual machine, a number and words.
+pub fn sampled(
+    alloc: Global,
+    fields: &mut Fields,
+) -> Result<(VmId, u32, Boxed<Rows<u64>>), WordFault>
+    ensures found { IfOk result (λ p. (p.0 < VM_NUMBERS) × (length p.2 ≤ 200) × AllByRecursion (λ w. w < 2 ^ 64) p.2
+        × (fields.old ≡ decimal p.0 ∷ decimal p.1 ∷ map decimal p.2)) }
+    ensures only { IfErr result (λ e. Refuses e ((vm n : ℕ) (words : List ℕ) → vm < VM_NUMBERS → n < 2 ^ 32
+        → length words ≤ 200 → AllByRecursion (λ w. w < 2 ^ 64) words
+        → fields.old ≡ decimal vm ∷ decimal n ∷ map decimal words → ⊥)) }
+{
+    let Some(vm) = fields.vm() else {
+        return Err(WordFault::NoCommand);
+    };
+    let Some(number) = fields.number() else {
+        return Err(WordFault::NoCommand);
+    };
+    let words = words(alloc, fields)?;
+    let Ok(words) = Boxed::new(alloc, Rows::from_vec(words)) else {
+        return Err(WordFault::OutOfMemory);
+    };
+    Ok((vm, number, words))
+}

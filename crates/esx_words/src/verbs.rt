@@ -1,0 +1,200 @@
+//! The first words of commands, those that are read alike together.
+
+ghost use Rattle.std.specs.Prelude.{◌≡◌, IfSome, IfNone};
+ghost use Rattle.esx_words.specs.Verbs.{verb_word};
+ghost use Rattle.esx_words.specs.declared.verbs.Verb.{Verb};
+
+/// Events that a virtual machine alone stands behind.
+#[derive(Clone, Copy, Debug, PartialEq, Eq)]
+pub enum MachineEvent {
+    Start,
+    Ask,
+    Stop,
+    Gone,
+}
+
+/// Events behind which a virtual machine and a number stand.
+#[derive(Clone, Copy, Debug, PartialEq, Eq)]
+pub enum PlaceEvent {
+    Lend,
+    TakeBack,
+    Scan,
+    DropPage,
+    SetShares,
+}
+
+/// First words of events.
+#[derive(Clone, Copy, Debug, PartialEq, Eq)]
+pub enum EventVerb {
+    Admit,
+    Machine { verb: MachineEvent },
+    Place { verb: PlaceEvent },
+    Read,
+    Write,
+    Sample,
+    Rebalance,
+    SwapOut,
+    Replace,
+    SetTax,
+}
+
+/// Moves behind which a number stands.
+#[derive(Clone, Copy, Debug, PartialEq, Eq)]
+pub enum NumberVerb {
+    Undo,
+    Redo,
+    Goto,
+    Prune,
+}
+
+/// Calls behind which a name stands.
+#[derive(Clone, Copy, Debug, PartialEq, Eq)]
+pub enum NameVerb {
+    Visit,
+    Mark,
+}
+
+/// Calls behind which nothing stands.
+#[derive(Clone, Copy, Debug, PartialEq, Eq)]
+pub enum AloneVerb {
+    Sum,
+    Table,
+    Stand,
+    Marks,
+}
+
+/// Questions about a page.
+#[derive(Clone, Copy, Debug, PartialEq, Eq)]
+pub enum PlaceVerb {
+    OfPage,
+    Advise,
+}
+
+/// First words of commands.
+#[derive(Clone, Copy, Debug, PartialEq, Eq)]
+pub enum Verb {
+    Event { verb: EventVerb },
+    Number { verb: NumberVerb },
+    Name { verb: NameVerb },
+    Alone { verb: AloneVerb },
+    OfVm,
+    Place { verb: PlaceVerb },
+    WhatIf,
+}
+
+/// The command that begins with a word.
+pub fn verb_of(word: &str) -> Option<Verb>
+    ensures found { IfSome result (λ verb. word.now ≡ verb_word verb) }
+    ensures only { IfNone result ((verb : Verb) → word.now ≡ verb_word verb → ⊥) }
+{
+    match word {
+        "page" => Some(Verb::Place {
+            verb: PlaceVerb::OfPage,
+        }),
+        "vm" => Some(Verb::OfVm),
+        "sum" => Some(Verb::Alone {
+            verb: AloneVerb::Sum,
+        }),
+        "read" => Some(Verb::Event {
+            verb: EventVerb::Read,
+        }),
+        "write" => Some(Verb::Event {
+            verb: EventVerb::Write,
+        }),
+        "ask" => Some(Verb::Event {
+            verb: EventVerb::Machine {
+                verb: MachineEvent::Ask,
+            },
+        }),
+        "scan" => Some(Verb::Event {
+            verb: EventVerb::Place {
+                verb: PlaceEvent::Scan,
+            },
+        }),
+        "lend" => Some(Verb::Event {
+            verb: EventVerb::Place {
+                verb: PlaceEvent::Lend,
+            },
+        }),
+        "takeback" => Some(Verb::Event {
+            verb: EventVerb::Place {
+                verb: PlaceEvent::TakeBack,
+            },
+        }),
+        "where" => Some(Verb::Alone {
+            verb: AloneVerb::Stand,
+        }),
+        "advise" => Some(Verb::Place {
+            verb: PlaceVerb::Advise,
+        }),
+        "swapout" => Some(Verb::Event {
+            verb: EventVerb::SwapOut,
+        }),
+        "replace" => Some(Verb::Event {
+            verb: EventVerb::Replace,
+        }),
+        "sample" => Some(Verb::Event {
+            verb: EventVerb::Sample,
+        }),
+        "rebalance" => Some(Verb::Event {
+            verb: EventVerb::Rebalance,
+        }),
+        "start" => Some(Verb::Event {
+            verb: EventVerb::Machine {
+                verb: MachineEvent::Start,
+            },
+        }),
+        "admit" => Some(Verb::Event {
+            verb: EventVerb::Admit,
+        }),
+        "undo" => Some(Verb::Number {
+            verb: NumberVerb::Undo,
+        }),
+        "redo" => Some(Verb::Number {
+            verb: NumberVerb::Redo,
+        }),
+        "goto" => Some(Verb::Number {
+            verb: NumberVerb::Goto,
+        }),
+        "visit" => Some(Verb::Name {
+            verb: NameVerb::Visit,
+        }),
+        "mark" => Some(Verb::Name {
+            verb: NameVerb::Mark,
+        }),
+        "marks" => Some(Verb::Alone {
+            verb: AloneVerb::Marks,
+        }),
+        "prune" => Some(Verb::Number {
+            verb: NumberVerb::Prune,
+        }),
+        "whatif" => Some(Verb::WhatIf),
+        "table" => Some(Verb::Alone {
+            verb: AloneVerb::Table,
+        }),
+        "shares" => Some(Verb::Event {
+            verb: EventVerb::Place {
+                verb: PlaceEvent::SetShares,
+            },
+        }),
+        "tax" => Some(Verb::Event {
+            verb: EventVerb::SetTax,
+        }),
+        "stop" => Some(Verb::Event {
+            verb: EventVerb::Machine {
+                verb: MachineEvent::Stop,
+            },
+        }),
+        "drop" => Some(Verb::Event {
+            verb: EventVerb::Place {
+                verb: PlaceEvent::DropPage,
+            },
+        }),
+        "gone" => Some(Verb::Event {
+            verb: EventVerb::Machine {
+                verb: MachineEvent::Gone,
+            },
+        }),
+        _ => None,
+    }
+}
