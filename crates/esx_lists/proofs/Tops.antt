@@ -5,7 +5,7 @@ use Rattle.std.proofs.lemmas.Bool.Decides.{nat_tests}
 use Rattle.esx_lists.specs.Trades.{LeadsBack, top_traded, place_turned}
 
 module _ {A : Type 0} where
-  onto_traded : (room : ℕ) (d : A) (held : List A) (x : A) → nat_lt (length held) room ≡ true → top_traded room d held (Some x) ≡ (held ++ x ∷ [], None)
+  pub onto_traded : (room : ℕ) (d : A) (held : List A) (x : A) → nat_lt (length held) room ≡ true → top_traded room d held (Some x) ≡ (held ++ x ∷ [], None)
   unfolding top_traded
   onto_traded room d held x h = rw h
 

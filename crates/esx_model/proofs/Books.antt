@@ -1,10 +1,9 @@
 -- The book is read from the tables.
-use Rattle.std.proofs.Common.{zero, suc, ◌≡◌, ◌≢◌, ℕ, ◌+◌, ◌-◌, ◌<◌, ◌≤◌, Bool, true, false, not, nat_le, List, [], ◌∷◌, ◌++◌, length, map, take, replicate, refl, sym, ap, ◌∙◌, subst, arith, cond, Option, Some, None, ◌⊎◌, inl, inr, ◌==◌}
+use Rattle.std.proofs.Common.{zero, suc, ◌≡◌, ◌≢◌, ℕ, ◌+◌, ◌<◌, ◌≤◌, Bool, true, false, nat_le, List, [], ◌∷◌, ◌++◌, length, map, refl, sym, ap, ◌∙◌, subst, arith, cond, Option, Some, None, ◌⊎◌, inl, inr, ◌==◌}
 use Rattle.std.specs.Option.{option_map}
 use Rattle.std.specs.List.{filter, find, range_with_len, AllByRecursion}
 use Rattle.std.proofs.lemmas.Bool.{cases_eq, false≢true}
 use Rattle.std.proofs.lemmas.Bool.Decides.{nat_tests}
-use Rattle.std.proofs.lemmas.Grind.{common_steps}
 use Rattle.esx_types.specs.declared.config.Config.{Config}
 use Rattle.esx_types.specs.declared.level.Level.{Level}
 use Rattle.esx_types.specs.declared.table.FrameRow.{FrameRow}
@@ -21,12 +20,12 @@ use Rattle.esx_types.specs.declared.table.Listing.{Listing}
 use Rattle.esx_model.specs.Places.{is_here_at, is_private}
 use Rattle.esx_model.specs.Site.{vm_at, place_at, place_in, place_of, all_places, all_overhead}
 use Rattle.esx_model.specs.Hints.{in_order}
-use Rattle.esx_model.specs.Show.{pages_in, frame_row, frame_rows, map_row, vm_row, shared_from, shared_rows, book_of, with_key}
+use Rattle.esx_model.specs.Show.{frame_row, frame_rows, map_row, vm_row, shared_from, shared_rows, book_of, with_key}
 use Rattle.esx_types.specs.Listings as listed
 use Rattle.esx_model.specs.Tables.{raw_place, vm_table, is_hint_in, listing_by, listing_row, listing_rows, tables_of, read_place, read_vm, read_hints, read_keys, book_from}
 use Rattle.esx_model.specs.sound.Hints.{AreOrdered}
 use Rattle.esx_model.specs.sound.Sound.{IsSound}
-use Rattle.esx_model.proofs.Lists.{chosen, find_passes, find_in, all_middle, one, some_below}
+use Rattle.esx_model.proofs.Lists.{find_passes, find_in, one}
 use Rattle.esx_model.proofs.HintsKept.{in_order_ordered}
 use Rattle.esx_model.proofs.Kept.{page_is_in}
 use Rattle.esx_model.proofs.Rooms.{IsIn, row_here, private_row}
@@ -124,8 +123,8 @@ same_members (x ∷ xs) [] a b go back = absurd (go x (inl refl))
 same_members (x ∷ xs) (y ∷ ys) a b go back =
     let same = first_same x y xs ys a.0 b.0 (go x (inl refl)) (back y (inl refl)) in
     let rest = same_members xs ys a.1 b.1
-        (λ h mem. later_mem x y h ys same (all_mem (λ (later : Hint). x.key < later.key) xs h a.0 mem) (go h (inr mem)))
-        (λ h mem. later_mem y x h xs (sym same) (all_mem (λ (later : Hint). y.key < later.key) ys h b.0 mem) (back h (inr mem))) in
+    (λ h mem. later_mem x y h ys same (all_mem (λ (later : Hint). x.key < later.key) xs h a.0 mem) (go h (inr mem)))
+    (λ h mem. later_mem y x h xs (sym same) (all_mem (λ (later : Hint). y.key < later.key) ys h b.0 mem) (back h (inr mem))) in
     ap (λ z. z ∷ xs) same ∙ ap (λ (zs : List Hint). y ∷ zs) rest
 
 ordered_mem : (new h : Hint) (xs : List Hint) → Mem h (in_order new xs) → (new ≡ h) ⊎ Mem h xs
@@ -284,12 +283,12 @@ ordered_some c s a None xs sound is order from = order
 ordered_some c s a (Some g) xs sound is order from =
     let k = known s a g is in
     in_order_ordered g xs order (mem_all (λ (h : Hint). h.key ≢ g.key) xs (λ h mem e. (
-      let r = from h mem in
-      let same = same_key s.hints h g sound.hints.ordered r.mem k.0 e in
-      let P : Hint → Type 0 = λ x. is_hint_in s r.frame x ≡ true in
-      let one = one_frame r.frame a (place_of s g.vm g.page) (subst P same r.at) k.1 in
-      let low = r.from in
-      omega (arith, one, low))))
+    let r = from h mem in
+    let same = same_key s.hints h g sound.hints.ordered r.mem k.0 e in
+    let P : Hint → Type 0 = λ x. is_hint_in s r.frame x ≡ true in
+    let one = one_frame r.frame a (place_of s g.vm g.page) (subst P same r.at) k.1 in
+    let low = r.from in
+    omega (arith, one, low))))
 
 read_ordered : (c : Config) (s : Site) (a k : ℕ) → IsSound c s → AreOrdered (read_hints (map (listing_row s) (range_with_len a k)))
 read_ordered c s a zero sound = tt
@@ -307,10 +306,10 @@ the_frame (Lent e) h = cc
 hints_read : (c : Config) (s : Site) → IsSound c s → read_hints (listing_rows c.frames s) ≡ s.hints
 hints_read c s sound =
     same_members (read_hints (listing_rows c.frames s)) s.hints (read_ordered c s 0 c.frames sound) sound.hints.ordered (λ h mem. (read_from s 0 c.frames h mem).mem) (λ h mem. (
-      let private = all_mem (λ (x : Hint). is_private (place_of s x.vm x.page) ≡ true) s.hints h sound.hints.private mem in
-      let f = the_frame (place_of s h.vm h.page) private in
-      let row = frame_of c s h.vm h.page f.0 (vm_at s h.vm) (place_of s h.vm h.page) sound refl refl private f.1 in
-      read_to c s 0 c.frames f.0 h sound mem (omega arith) (let low = row.2 in omega (arith, low)) f.1))
+    let private = all_mem (λ (x : Hint). is_private (place_of s x.vm x.page) ≡ true) s.hints h sound.hints.private mem in
+    let f = the_frame (place_of s h.vm h.page) private in
+    let row = frame_of c s h.vm h.page f.0 (vm_at s h.vm) (place_of s h.vm h.page) sound refl refl private f.1 in
+    read_to c s 0 c.frames f.0 h sound mem (omega arith) (let low = row.2 in omega (arith, low)) f.1))
 
 -- The book of a sound site is read from its tables.
 pub book_read : (c : Config) (s : Site) (level : Level) → IsSound c s → book_from (tables_of c s) level ≡ book_of c s level

@@ -4,7 +4,6 @@
 pub use Rattle.esx_model.proofs.EverySound.{every_step_sound, every_event_sound, every_run_sound_from, every_run_sound, opening_sound}
 -- What the reserves give.
 pub use Rattle.esx_model.proofs.Counting.{full_site, slot_is_there, drawn}
-pub use Rattle.esx_model.proofs.Reserves.{reserves_kept}
 pub use Rattle.esx_model.proofs.Machines.{drawn_is_here, apart_counts, old_place, count_placed, here_placed, out_placed, lent_placed}
 pub use Rattle.esx_model.proofs.RowsOfSite.{rows_of_sound, slow_is_share, fast_is_share, active_is_share, resident_most}
 -- What an accepted event tells.
@@ -30,3 +29,7 @@ pub use Rattle.esx_model.proofs.EventShown.{left_put, joined_put, put_twice, acc
 -- Rows that are free, counts, and the book's sums.
 pub use Rattle.esx_model.proofs.Counts.{free_row, free_rows, count_in_frame, frames_counted}
 pub use Rattle.esx_model.proofs.Books.{book_read}
+-- Rows of tables, and states.
+pub use Rattle.esx_model.proofs.Lists.{row_in_rows, some_below}
+pub use Rattle.esx_model.proofs.Counts.{counts_same}
+pub use Rattle.esx_model.proofs.event.Starting.{starts}

@@ -45,7 +45,7 @@ frames_add_up c t = kinds_add_up (frame_rows c.frames t.site) ∙ length-map-ran
 
 -- Free rows are those of the frames that nobody has taken.
 
-counts_same : {X Y : Type 0} (p : Y → Bool) (q : X → Bool) (h : X → Y) → ((x : X) → p (h x) ≡ q x) → (xs : List X) → count_by p (map h xs) ≡ count_by q xs
+pub counts_same : {X Y : Type 0} (p : Y → Bool) (q : X → Bool) (h : X → Y) → ((x : X) → p (h x) ≡ q x) → (xs : List X) → count_by p (map h xs) ≡ count_by q xs
 counts_same p q h same [] = refl
 counts_same p q h same (x ∷ xs) =
     let a = sum_by-cons (λ y. one (p y)) (h x) (map h xs) in

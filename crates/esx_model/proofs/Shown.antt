@@ -25,7 +25,8 @@ use Rattle.esx_model.specs.Site.{vm_at, with_vm, place_at, place_in, place_of, a
 use Rattle.esx_model.specs.Hints.{is_hint_of, without_hint, hints_at, with_place, placed}
 use Rattle.esx_model.specs.Show.{in_frame, in_slot, pages_in, pages_out, is_listed, row_of, slot_of, frame_row, slot_row, frame_rows, slot_rows}
 use Rattle.esx_model.specs.Tables.{vm_table, is_hint_in, hint_listing, listing_by, listing_row, listing_rows, tables_of}
-use Rattle.esx_model.specs.Moved.{less, more, FitsRow, listing_after, listing_for, listing_at, put_vm, left, joined}
+use Rattle.esx_types.specs.Listings.{listing_at}
+use Rattle.esx_model.specs.Moved.{less, more, FitsRow, listing_after, listing_for, put_vm, left, joined}
 use Rattle.esx_model.specs.sound.Machines.{IsPlace}
 use Rattle.esx_model.specs.sound.Sound.{IsSound}
 use Rattle.esx_model.proofs.Lists.{Changed, rows_same, rows_move, row_in_rows, all_map, filter_neither, not_none}

@@ -1,5 +1,5 @@
 -- Laws of the model.
-use Rattle.std.specs.Prelude.{◌≡◌, ◌≢◌, ◌↔◌, ℕ, ◌<◌, ◌≤◌, false, List, length, Some, Ok, Err, ◌-◌}
+use Rattle.std.specs.Prelude.{◌≡◌, ◌↔◌, ℕ, ◌<◌, ◌≤◌, false, List, length, Some, Ok, ◌-◌}
 use Rattle.std.specs.List.{AllByRecursion, list_any}
 use Rattle.esx_types.specs.declared.config.Config.{Config}
 use Rattle.esx_types.specs.Ranges.{IsConfig}
@@ -8,20 +8,19 @@ use Rattle.esx_types.specs.declared.table.FrameRow.TheVariants as frames
 use Rattle.esx_types.specs.Frames.{frame_at}
 use Rattle.esx_events.specs.declared.event.Answer.{Answer}
 use Rattle.esx_events.specs.declared.event.Event.{Event}
-use Rattle.esx_events.specs.declared.event.Refusal.TheVariants.{Short, AtTarget, NotNeeded}
 use Rattle.esx_formulas.specs.Ratio.{AreRows}
 use Rattle.esx_formulas.specs.Targets.{AreTargets, targets_of}
 use Rattle.esx_model.specs.declared.scene.Vm.{Vm}
 use Rattle.esx_model.specs.declared.scene.Site.{Site}
 use Rattle.esx_model.specs.declared.scene.Scene.{Scene}
-use Rattle.esx_model.specs.Places.{is_here, contents}
-use Rattle.esx_model.specs.Site.{vm_at, place_at, place_of, resident, paged_out, pages_at, free_count}
+use Rattle.esx_model.specs.Places.{contents}
+use Rattle.esx_model.specs.Site.{vm_at, place_of, resident, paged_out, pages_at, free_count}
 use Rattle.esx_model.specs.Show.{pages_in, book_of, shown}
 use Rattle.esx_model.specs.Tables.{tables_of, book_from}
 use Rattle.esx_model.specs.Readings.{sum_of, AddUpTo}
 use Rattle.esx_model.specs.event.Access.{read}
 use Rattle.esx_model.specs.event.Rebalancing.{min_of, rows_of}
-use Rattle.esx_model.specs.event.Paging.{is_above_min, swap_out, replace}
+use Rattle.esx_model.specs.event.Paging.{is_above_min}
 use Rattle.esx_model.specs.Replay.{opening, next, run}
 use Rattle.esx_model.specs.sound.Hints.{AreHints}
 use Rattle.esx_model.specs.sound.Sound.{IsSound, NamesVm}
@@ -37,16 +36,6 @@ IsEachEventSound = (c : Config) (t : Scene) (e : Event) (r : Answer × Scene) �
 -- so each path leads to a sound site
 abbrev pub IsEachPathSound : Type 0
 IsEachPathSound = (c : Config) (es : List Event) (t : Scene) → IsConfig c → AllByRecursion NamesVm es → run c es ≡ Ok t → IsSound c t.site
-
--- What the reserves give: no page that is to go out finds no slot, and none is looked for in vain.
-pub record AreReservesKept (c : Config) (s : Site) : Type 0 where
-  pub out : (level : Level) (n word : ℕ) → swap_out c s level n word ≢ Err Short
-  pub above : (level : Level) (n word : ℕ) (v : Vm) → vm_at s n ≡ Some v → v.target < resident v → swap_out c s level n word ≢ Err AtTarget
-  pub replaced : (n page word : ℕ) → replace c s n page word ≢ Err Short
-  pub needed : (n page word : ℕ) (v : Vm) → vm_at s n ≡ Some v → is_here (place_at v page) ≡ false → free_count c.frames s ≡ 0 → list_any is_above_min s.vms ≡ false → replace c s n page word ≢ Err NotNeeded
-
-abbrev pub IsEachReserveKept : Type 0
-IsEachReserveKept = (c : Config) (s : Site) → IsSound c s → AreReservesKept c s
 
 -- where no frame is free and no machine has more than its least, each has exactly its least, and no frame has two pages: a page that is replaced is alone in its frame
 pub record IsFull (c : Config) (s : Site) : Type 0 where

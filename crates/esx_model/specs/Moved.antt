@@ -1,5 +1,5 @@
 -- What is left of the tables where a page leaves its place, and what they are after it came to one; the machine's own row aside.
-use Rattle.std.specs.Prelude.{◌==◌, ◌≡◌, ℕ, ◌+◌, ◌-◌, Bool, true, false, nat_lt, List, Option, slice_index_or, slice_set, if◌then◌else◌}
+use Rattle.std.specs.Prelude.{◌==◌, ◌≡◌, ℕ, ◌+◌, ◌-◌, Bool, true, false, nat_lt, List, Option, slice_set, if◌then◌else◌}
 use Rattle.esx_types.specs.declared.table.FrameRow.{FrameRow}
 use Rattle.esx_types.specs.declared.table.FrameRow.TheVariants as frames
 use Rattle.esx_types.specs.declared.table.SlotRow.{SlotRow}
@@ -11,6 +11,7 @@ use Rattle.esx_model.specs.declared.scene.Place.{Place}
 use Rattle.esx_model.specs.declared.scene.Place.TheVariants.{Untouched, Here, Out, Lent}
 use Rattle.esx_types.specs.declared.table.Listing.{Listing}
 use Rattle.esx_types.specs.declared.table.Listing.TheVariants as listings
+use Rattle.esx_types.specs.Listings.{listing_at}
 use Rattle.esx_model.specs.declared.book.VmRow.{VmRow}
 use Rattle.esx_model.specs.declared.tables.Tables.{Tables}
 
@@ -53,9 +54,6 @@ abbrev pub listing_without : ℕ → Listing → Listing
 listing_without key listings.Unlisted = listings.Unlisted
 listing_without key (listings.Shared k) = listings.Shared k
 listing_without key (listings.Hinted n page k) = if k == key then listings.Unlisted else listings.Hinted n page k
-
-abbrev pub listing_at : List Listing → ℕ → Listing
-listing_at rows f = slice_index_or rows f listings.Unlisted
 
 abbrev pub put_vm : Tables → ℕ → Option VmRow → Tables
 put_vm b n row = record b { vms = slice_set b.vms n row }

@@ -1,6 +1,6 @@
 //! Laws of the model.
 
-ghost use Rattle.esx_model.specs.Laws.{IsOpeningSound, IsEachEventSound, IsEachPathSound, IsEachReserveKept, IsEachPressedSiteFull, IsReadHarmless, HaveSitesTargets, AreAllFramesCounted, IsBookRead, IsEachPathWithinReserves};
+ghost use Rattle.esx_model.specs.Laws.{IsOpeningSound, IsEachEventSound, IsEachPathSound, IsEachPressedSiteFull, IsReadHarmless, HaveSitesTargets, AreAllFramesCounted, IsBookRead, IsEachPathWithinReserves};
 
 /// A path begins at a sound site.
 pub fn opening_is_sound()
@@ -15,11 +15,6 @@ pub fn each_event_is_sound()
 /// Each path leads to a sound site.
 pub fn each_path_is_sound()
     ensures { IsEachPathSound }
-{}
-
-/// A page that is to go out finds a slot, and a page to draw is there.
-pub fn each_reserve_is_kept()
-    ensures { IsEachReserveKept }
 {}
 
 /// Where a page may be replaced, each machine has its least and no frame has two pages.

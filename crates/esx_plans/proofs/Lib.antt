@@ -1,1 +1,4 @@
-
+pub mod Refining
+pub mod Made
+pub mod Found
+pub mod refines

@@ -1,11 +1,13 @@
 //! A virtual machine's row, with room for every overhead frame that it will take.
 
 ghost use Rattle.std.specs.Prelude.{◌≡◌, ◌<◌, ◌≤◌, IfOk, length, option_map, slice_index, vec_len, vec_capacity};
+ghost use Rattle.esx_types.specs.Ranges.{IsGood};
 ghost use Rattle.esx_types.specs.Pages.{page_at, resident_count, resident_pages};
 ghost use Rattle.esx_lists.specs.Trades.{place_turned, top_traded};
 ghost use Rattle.esx_model.specs.event.Admission.{admitted};
 ghost use Rattle.esx_model.specs.Tables.{vm_table, standing_of};
 ghost use Rattle.esx_tables.specs.Machines.{facts_of, part_traded, done_traded, touched_turned, mark_turned, no_mark};
+ghost use Rattle.esx_tables.specs.Bounds.{AreSizes};
 ghost use Rattle.esx_tables.specs.Fields.{fields_with, facts_in};
 
 use crate::change::{Facts, VmPart};
@@ -40,20 +42,22 @@ pub struct VmTable {
 }
 
 impl Model for VmTable {
-    ghost use Rattle.std.specs.Prelude.{◌≤◌, vec_len, vec_capacity};
+    ghost use Rattle.std.specs.Prelude.{◌≡◌, ◌≤◌, length, vec_len, vec_capacity};
     ghost use Rattle.esx_model.specs.declared.book.VmRow.{VmRow};
+    ghost use Rattle.esx_tables.specs.Bounds.{AreSizes};
 
     ghost Value = { VmRow };
 
     ghost view = { λ a. record { spec = a.fields.value.spec; state = a.fields.value.state; epoch = a.fields.value.epoch; due = a.fields.value.due; target = a.fields.value.target; overhead = a.fields.value.overhead.items; pages = a.fields.value.pages; slow = a.fields.value.averages.slow; fast = a.fields.value.averages.fast; period = a.fields.value.period } };
 
-    ghost invariant = { λ a. (vec_len a.fields.value.overhead ≤ a.fields.value.spec.overhead) × (a.fields.value.spec.overhead ≤ vec_capacity a.fields.value.overhead) };
+    ghost invariant = { λ a. (vec_len a.fields.value.overhead ≤ a.fields.value.spec.overhead) × (a.fields.value.spec.overhead ≤ vec_capacity a.fields.value.overhead) × AreSizes a.fields.value.spec × (length a.fields.value.pages ≡ a.fields.value.spec.max) };
 }
 
 impl VmTable {
     /// A machine as it is admitted: it has none of its frames, and counts as fully active.
     #[tactic(auto, using(crate::proofs::Opening::untouched_shown))]
     pub fn admitted(alloc: Global, spec: VmSpec) -> Result<VmTable, AllocError>
+        requires { IsGood spec }
         ensures { IfOk result (λ vm. vm ≡ vm_table (admitted spec)) }
     {
         let fields = Fields {
@@ -89,7 +93,8 @@ impl VmTable {
 
     /// What the machine asked for, with its present shares.
     pub fn spec(&self) -> VmSpec
-        ensures { result ≡ self.now.spec }
+        ensures value { result ≡ self.now.spec }
+        ensures sizes { AreSizes result }
     {
         self.fields.spec
     }
@@ -112,6 +117,7 @@ impl VmTable {
     pub fn overhead(&self) -> &[u32]
         ensures value { result.now ≡ self.now.overhead }
         ensures room { length self.now.overhead ≤ self.now.spec.overhead }
+        ensures most { self.now.spec.overhead ≤ 1048576 }
     {
         self.fields.overhead.as_slice()
     }
@@ -130,7 +136,8 @@ impl VmTable {
 
     /// The rows of all pages.
     pub fn pages(&self) -> &[MapRow]
-        ensures { result.now ≡ self.now.pages }
+        ensures value { result.now ≡ self.now.pages }
+        ensures all { length self.now.pages ≡ self.now.spec.max }
     {
         self.fields.pages.rows()
     }

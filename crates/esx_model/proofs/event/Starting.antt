@@ -22,7 +22,7 @@ use Rattle.esx_model.proofs.Kept.{Becomes, conclude, vm_changed, places_same, pl
 use Rattle.esx_model.proofs.Rooms.{least_unused}
 use Rattle.esx_model.proofs.Gates.{of_vm, passed, gives}
 
-starts : (state : VmState) → is_running state ≡ false → is_stopping state ≡ false → state ≡ Starting
+pub starts : (state : VmState) → is_running state ≡ false → is_stopping state ≡ false → state ≡ Starting
 starts Starting h k = refl
 starts Running h k = cc
 starts Stopping h k = cc

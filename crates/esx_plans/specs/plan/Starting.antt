@@ -1,5 +1,5 @@
 -- The plan of a start.
-use Rattle.std.specs.Prelude.{◌≡◌, ℕ, ◌+◌, ◌<◌, not, nat_lt, List, [], ◌∷◌, length, Option, Some, None, if◌then◌else◌, Ok, Err}
+use Rattle.std.specs.Prelude.{ℕ, ◌+◌, not, nat_lt, List, [], ◌∷◌, length, Option, Some, None, if◌then◌else◌, Ok, Err}
 use Rattle.esx_types.specs.declared.vm.VmState.TheVariants as states
 use Rattle.esx_types.specs.declared.table.FrameRow.TheVariants as frames
 use Rattle.esx_types.specs.Frames.{least_frame}
@@ -17,10 +17,6 @@ use Rattle.esx_tables.specs.declared.change.VmPart.TheVariants.{Facts, OverheadT
 use Rattle.esx_tables.specs.Machines.{facts_of}
 use Rattle.esx_tables.specs.Readings.{row_at}
 use Rattle.esx_plans.specs.plan.Planned.{Planned, at_row}
-
--- a machine that starts lacks a frame
-abbrev pub HaveRoom : Tables → Type 0
-HaveRoom t = (n : ℕ) (v : VmRow) → row_at t n ≡ Some v → v.state ≡ states.Starting → length v.overhead < v.spec.overhead
 
 abbrev pub started : VmRow → ℕ → Answer
 started v f = Started f (length v.overhead + 1) v.spec.overhead (not (nat_lt (length v.overhead + 1) v.spec.overhead))

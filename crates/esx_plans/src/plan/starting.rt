@@ -1,8 +1,8 @@
 //! A machine takes an overhead frame; with all of them it runs.
 
-ghost use Rattle.std.specs.Prelude.{◌≡◌, ◌<◌, length, IfOk};
+ghost use Rattle.std.specs.Prelude.{◌≡◌, IfOk};
 ghost use Rattle.esx_plans.specs.plan.Planned.{Plans};
-ghost use Rattle.esx_plans.specs.plan.Starting.{HaveRoom, started, start_changes, start_plan};
+ghost use Rattle.esx_plans.specs.plan.Starting.{started, start_changes, start_plan};
 
 use crate::plan::Plan;
 use esx_events::{Answer, Refusal};
@@ -11,7 +11,6 @@ use esx_types::{FrameRow, VmId, VmState};
 use std::alloc::{AllocError, Global};
 
 fn started(row: &VmTable, frame: u32) -> Answer
-    requires { length row.now.overhead < row.now.spec.overhead }
     ensures { result ≡ started row.now frame }
 {
     let overhead = row.spec().overhead;
@@ -30,7 +29,6 @@ fn start_changes(
     row: &VmTable,
     frame: u32,
 ) -> Result<Vec<Change>, AllocError>
-    requires { length row.now.overhead < row.now.spec.overhead }
     ensures { IfOk result (λ changes. changes.items ≡ start_changes vm row.now frame) }
 {
     let facts = Facts {
@@ -60,7 +58,6 @@ fn start_changes(
 /// A machine takes the least frame that is free.
 #[tactic(auto, unfolding(crate::specs::plan::Starting::start_plan))]
 pub fn plan_start(tables: &SiteTables, alloc: Global, vm: VmId) -> Result<Plan, Refusal>
-    requires { HaveRoom tables.now }
     ensures { Plans result (start_plan tables.now vm) }
 {
     let Some(row) = tables.vm(vm) else {

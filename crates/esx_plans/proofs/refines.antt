@@ -1,0 +1,3 @@
+pub mod Rebalancing
+pub mod Leaving
+pub mod Starting
