@@ -1,4 +1,7 @@
 //! What each event does, a file for each mechanism.
 
+pub mod admission;
 pub mod balloon;
 pub mod leaving;
+pub mod sampling;
+pub mod starting;

@@ -1,6 +1,6 @@
 //! A machine stops, and gives back what it has.
 
-ghost use Rattle.std.specs.Prelude.{◌≡◌, ◌<◌, ◌-◌, ◌||◌, length, IfOk, Ok, Some, None, unwrap_or};
+ghost use Rattle.std.specs.Prelude.{◌≡◌, ◌<◌, ◌-◌, ◌||◌, length, IfOk, OnOk, take, Ok, Some, None, unwrap_or};
 ghost use Rattle.std.specs.Option.{option_copied};
 ghost use Rattle.esx_model.specs.declared.scene.Place.TheVariants.{Untouched};
 ghost use Rattle.esx_types.specs.declared.config.TheConstants.{VM_NUMBERS};
@@ -18,8 +18,8 @@ use crate::site::{put, vm_of};
 use crate::vm::{is_here, is_out, paged_out, place_at, resident};
 use esx_events::{Answer, Refusal};
 use esx_model::{Place, Site, Vm};
-use esx_types::{Config, VmId, VmState};
-use std::alloc::Global;
+use esx_types::{Config, Rows, VmId, VmState};
+use std::alloc::{AllocError, Global};
 
 fn stop_vm(vm: &mut Vm)
     ensures { vm.new ≡ record vm.old { state = Stopping; period = None } }
@@ -92,4 +92,57 @@ pub fn drop_page(
     }
     let site = put(alloc, site, number, page, Place::Untouched)?;
     Ok((Answer::Done, site))
+}
+
+fn drop_last(overhead: &mut Rows<u32>, alloc: Global) -> Result<(), AllocError>
+    ensures { OnOk result (overhead.new ≡ take (length overhead.old - 1) overhead.old) }
+{
+    let held = overhead.as_slice();
+    let kept = Vec::from_slice(alloc, &held[..held.len().saturating_sub(1)])?;
+    *overhead = Rows::from_vec(kept);
+    Ok(())
+}
+
+/// The machine gives back the overhead frame that it took last.
+fn without_last(alloc: Global, site: Site, number: usize) -> Result<Site, AllocError>
+    requires { number < length site.vms }
+    ensures { IfOk result (λ t. t ≡ with_change site number without_last) }
+{
+    let mut site = site;
+    if let Some(vm) = site.vms.row_mut(number) {
+        drop_last(&mut vm.overhead, alloc)?;
+    }
+    Ok(site)
+}
+
+/// Gives back an overhead frame; with the last one the machine goes.
+#[tactic(auto, unfolding(esx_model::specs::event::Leaving::gone))]
+pub fn gone(
+    alloc: Global,
+    config: &Config,
+    site: Site,
+    vm: VmId,
+) -> Result<(Answer, Site), Refusal>
+    requires { IsSound config.now site }
+    ensures { Gives result (gone site vm) }
+{
+    let number = usize::from(vm.number());
+    let Some(row) = vm_of(config, &site, number) else {
+        return Err(Refusal::NoVm);
+    };
+    if row.state != VmState::Stopping {
+        return Err(Refusal::NotNeeded);
+    }
+    if 0 < resident(row) + paged_out(row) {
+        return Err(Refusal::PagesLeft);
+    }
+    let held = row.overhead.len();
+    if 1 < held {
+        let site = without_last(alloc, site, number)?;
+        let held = held as u32 - 1;
+        return Ok((Answer::GivenBack { held }, site));
+    }
+    let mut site = site;
+    site.vms.set(number, None);
+    Ok((Answer::Gone, site))
 }
