@@ -1,5 +1,6 @@
 //! What each event does, a file for each mechanism.
 
+pub mod access;
 pub mod admission;
 pub mod balloon;
 pub mod leaving;

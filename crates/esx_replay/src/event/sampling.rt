@@ -1,6 +1,8 @@
 //! Sample periods: how much of its memory a machine uses.
 
 ghost use Rattle.std.specs.Prelude.{◌≡◌, ◌<◌, ◌≤◌, ◌+◌, ◌%◌, map, length, count_by, Some, None, Ok, OnOk, IfOk, not, nat_lt, is_some};
+ghost use Rattle.esx_formulas.specs.declared.activity.Period.{Period};
+ghost use Rattle.esx_formulas.specs.Estimates.{IsEstimate};
 ghost use Rattle.esx_formulas.specs.Average.{so_far, is_touched};
 ghost use Rattle.esx_model.specs.declared.scene.Vm.{Vm};
 ghost use Rattle.esx_model.specs.Site.{vm_at};
@@ -88,4 +90,54 @@ pub fn sample(
     let pages = words.len() as u32;
     let site = with_open(site, number, period);
     Ok((Answer::Opened { length, pages }, site))
+}
+
+/// What an open period tells so far.
+pub fn so_far(period: &Period) -> Estimate
+    requires least { 1 ≤ length period.now.pages }
+    requires most { length period.now.pages ≤ 100 }
+    ensures value { result ≡ so_far period.now }
+    ensures fits { IsEstimate result }
+{
+    let touched = period
+        .pages
+        .as_slice()
+        .iter()
+        .filter(|page| period.is_touched(**page))
+        .count();
+    Estimate {
+        touched: touched as u32,
+        pages: period.pages.len() as u32,
+    }
+}
+
+fn count_access(vm: &mut Vm, page: u32) -> Result<(), AllocError>
+    requires least { (p : Period) → vm.old.period ≡ Some p → 1 ≤ length p.pages }
+    requires most { (p : Period) → vm.old.period ≡ Some p → length p.pages ≤ 100 }
+    ensures { OnOk result (vm.new ≡ counted page vm.old) }
+{
+    let Some(mut period) = vm.period.take() else {
+        return Ok(());
+    };
+    period.accessed.push(page)?;
+    if period.accessed.len() < period.length as usize {
+        vm.period = Some(period);
+    } else {
+        vm.closed.push(so_far(&period))?;
+    }
+    Ok(())
+}
+
+/// An open period counts one more access; the one that makes its length closes it.
+pub fn counted(site: Site, number: usize, page: u32) -> Result<Site, AllocError>
+    requires number { number < length site.vms }
+    requires least { (v : Vm) (p : Period) → vm_at site number ≡ Some v → v.period ≡ Some p → 1 ≤ length p.pages }
+    requires most { (v : Vm) (p : Period) → vm_at site number ≡ Some v → v.period ≡ Some p → length p.pages ≤ 100 }
+    ensures { IfOk result (λ t. t ≡ with_change site number (counted page)) }
+{
+    let mut site = site;
+    if let Some(vm) = site.vms.row_mut(number) {
+        count_access(vm, page)?;
+    }
+    Ok(site)
 }
