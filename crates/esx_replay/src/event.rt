@@ -4,5 +4,7 @@ pub mod access;
 pub mod admission;
 pub mod balloon;
 pub mod leaving;
+pub mod rebalancing;
 pub mod sampling;
+pub mod sharing;
 pub mod starting;

@@ -110,7 +110,7 @@ pub fn swap_reserved(site: &Site) -> u64
     total
 }
 
-fn is_hint_of(hint: &Hint, number: usize, page: u32) -> bool
+pub fn is_hint_of(hint: &Hint, number: usize, page: u32) -> bool
     ensures { result ≡ is_hint_of number page hint.now }
 {
     usize::from(hint.vm.number()) == number && hint.page == page
