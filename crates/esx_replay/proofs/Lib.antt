@@ -1,3 +1,6 @@
 pub mod Numbers
 pub mod Chained
 pub mod Finds
+pub mod KeyPlaces
+pub mod Draws
+pub mod Few

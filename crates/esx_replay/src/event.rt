@@ -4,6 +4,7 @@ pub mod access;
 pub mod admission;
 pub mod balloon;
 pub mod leaving;
+pub mod paging;
 pub mod rebalancing;
 pub mod sampling;
 pub mod sharing;

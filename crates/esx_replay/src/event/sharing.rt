@@ -1,23 +1,26 @@
 //! Pages with equal bytes come to share one frame.
 
-ghost use Rattle.std.specs.Prelude.{◌≡◌, ◌==◌, ◌&&◌, ◌||◌, ◌<◌, ◌≤◌, ◌+◌, not, find, filter, length, Some, None, Ok, OnOk, IfOk, unwrap_or, bytes_eq};
+ghost use Rattle.std.specs.Prelude.{◌≡◌, ◌==◌, ◌^◌, ℕ, nat_le, IfSome, ◌&&◌, ◌||◌, ◌<◌, ◌≤◌, ◌+◌, not, find, filter, length, Some, None, true, Ok, OnOk, IfOk, unwrap_or, bytes_eq};
 ghost use Rattle.std.specs.Option.{option_copied};
+ghost use Rattle.std.specs.List.{position_from};
 ghost use Rattle.esx_types.specs.declared.config.TheConstants.{VM_NUMBERS};
 ghost use Rattle.esx_model.specs.declared.scene.Vm.{Vm};
 ghost use Rattle.esx_model.specs.declared.scene.Place.TheVariants.{Untouched, Here};
-ghost use Rattle.esx_model.specs.Places.{contents};
-ghost use Rattle.esx_model.specs.Site.{vm_at, vm_places, all_places, place_of};
-ghost use Rattle.esx_model.specs.Hints.{other_hint, is_hint_of, with_hint, in_order};
+ghost use Rattle.esx_model.specs.Places.{contents, is_here};
+ghost use Rattle.esx_model.specs.Site.{vm_at, vm_places, all_places, place_of, pages_at};
+ghost use Rattle.esx_model.specs.Hints.{other_hint, is_hint_of, with_hint, in_order, placed};
 ghost use Rattle.esx_formulas.specs.Key.{content_key};
 ghost use Rattle.esx_model.specs.sound.Sound.{IsSound};
 ghost use Rattle.esx_model.specs.event.Sharing.{is_shared_under, shared_under, look_at_shared, look_at_hinted, look_at_hint, look_private, look, hinted, after_look, said_of, scan};
 ghost use Rattle.esx_replay.specs.Gives.{Gives};
 
-use crate::site::{is_hint_of, put, vm_at};
-use crate::vm::place_at;
+use crate::event::access::contents;
+use crate::site::{is_hint_of, pages_at, put, vm_at, vm_of};
+use crate::vm::{is_here, place_at};
+use esx_events::{Answer, Refusal, Scanned};
 use esx_formulas::content_key;
 use esx_model::{Look, Place, Site, Vm};
-use esx_types::{Bytes, Hint, Rows, VmId};
+use esx_types::{Bytes, Config, Hint, Rows, VmId, VmState};
 use std::alloc::{AllocError, Global};
 
 /// The page is shared, and its content has that key.
@@ -168,4 +171,166 @@ pub fn look(site: &Site, number: usize, page: u32, place: Option<&Place>) -> Loo
         }
         _ => Look::Nothing,
     }
+}
+
+/// The first hint whose key is not below a key.
+fn first_from(hints: &[Hint], key: u64) -> Option<usize>
+    ensures place { result ≡ position_from (λ own. nat_le key own.key) 0 hints.now }
+    ensures within { IfSome result (λ at. at < length hints.now) }
+{
+    hints.iter().position(|own| key <= own.key)
+}
+
+/// The page is in a frame.
+pub fn is_in_frame(place: Option<&Place>) -> bool
+    ensures { result ≡ is_here (unwrap_or (option_copied place.entry) Untouched) }
+{
+    match place {
+        Some(place) => is_here(place),
+        None => false,
+    }
+}
+
+/// Puts a hint at its place in the order of keys.
+fn add_hint(hints: &mut Vec<Hint>, new: Hint) -> Result<(), AllocError>
+    ensures { OnOk result (hints.new.items ≡ in_order new hints.old.items) }
+{
+    let at = first_from(hints, new.key).unwrap_or(hints.len());
+    hints.insert(at, new)?;
+    Ok(())
+}
+
+/// The hints without those under a key, and without that of a page.
+fn others(alloc: Global, hints: &[Hint], new: Hint) -> Result<Vec<Hint>, AllocError>
+    ensures { IfOk result (λ kept. kept.items ≡ filter (λ h. not ((h.key == new.key) || is_hint_of new.vm new.page h)) hints.now) }
+{
+    hints
+        .iter()
+        .copied()
+        .filter(|own| {
+            !(own.key == new.key || is_hint_of(own, usize::from(new.vm.number()), new.page))
+        })
+        .collect(alloc)
+}
+
+/// The page becomes the hint under its key.
+fn hinted(
+    alloc: Global,
+    site: Site,
+    vm: VmId,
+    page: u32,
+    bytes: &[u8],
+) -> Result<Site, AllocError>
+    ensures { IfOk result (λ t. t ≡ hinted site vm page bytes.now) }
+{
+    let new = Hint {
+        key: content_key(bytes),
+        vm,
+        page,
+    };
+    let mut hints = others(alloc, site.hints.as_slice(), new)?;
+    add_hint(&mut hints, new)?;
+    let mut site = site;
+    site.hints = Rows::from_vec(hints);
+    Ok(site)
+}
+
+/// A page comes into a shared frame.
+fn share(
+    alloc: Global,
+    site: Site,
+    vm: VmId,
+    page: u32,
+    bytes: &[u8],
+    frame: u32,
+) -> Result<Site, AllocError>
+    requires { length site.vms ≡ VM_NUMBERS }
+    ensures value { IfOk result (λ t. t ≡ placed site vm page (Here bytes.now frame true)) }
+    ensures len { IfOk result (λ t. length t.vms ≡ VM_NUMBERS) }
+{
+    let bytes = Bytes::copy_of(alloc, bytes)?;
+    let shared = true;
+    let place = Place::Here {
+        bytes,
+        frame,
+        shared,
+    };
+    put(alloc, site, usize::from(vm.number()), page, place)
+}
+
+/// The site after a look: equal pages come into one frame, and what finds nothing is remembered.
+pub fn after_look(
+    alloc: Global,
+    site: Site,
+    vm: VmId,
+    page: u32,
+    bytes: &[u8],
+    look: Look,
+) -> Result<Site, AllocError>
+    requires { length site.vms ≡ VM_NUMBERS }
+    ensures { IfOk result (λ t. t ≡ after_look site vm page bytes.now look) }
+{
+    match look {
+        Look::Already | Look::OtherBytes => Ok(site),
+        Look::Changed | Look::Nothing => hinted(alloc, site, vm, page, bytes),
+        Look::SharedFrame { frame } => share(alloc, site, vm, page, bytes, frame),
+        Look::OtherPage {
+            vm: other,
+            page: its,
+            frame,
+        } => {
+            let site = share(alloc, site, other, its, bytes, frame)?;
+            share(alloc, site, vm, page, bytes, frame)
+        }
+    }
+}
+
+/// What is said of a look, given the site after it.
+fn said_of(after: &Site, look: Look) -> Scanned
+    requires { (f : ℕ) → pages_at f after.now < 2 ^ 32 }
+    ensures { result ≡ said_of after.now look }
+{
+    match look {
+        Look::Already => Scanned::Already,
+        Look::SharedFrame { frame } | Look::OtherPage { frame, .. } => Scanned::Shared {
+            frame,
+            count: pages_at(after, frame) as u32,
+        },
+        Look::Changed => Scanned::Stale,
+        Look::OtherBytes => Scanned::Clash,
+        Look::Nothing => Scanned::Hinted,
+    }
+}
+
+/// Looks for a page with the same content, to share one frame with it.
+#[tactic(auto, unfolding(esx_model::specs::event::Sharing::scan))]
+pub fn scan(
+    alloc: Global,
+    config: &Config,
+    site: Site,
+    vm: VmId,
+    page: u32,
+) -> Result<(Answer, Site), Refusal>
+    requires { IsSound config.now site }
+    ensures { Gives result (scan config.now site vm page) }
+{
+    let number = usize::from(vm.number());
+    let Some(row) = vm_of(config, &site, number) else {
+        return Err(Refusal::NoVm);
+    };
+    if row.state != VmState::Running {
+        return Err(Refusal::NotRunning);
+    }
+    if row.spec.max <= page {
+        return Err(Refusal::OutOfRange);
+    }
+    let place = place_at(row, page);
+    if !is_in_frame(place) {
+        return Err(Refusal::NotResident);
+    }
+    let bytes = contents(alloc, config, place)?;
+    let look = look(&site, number, page, place);
+    let site = after_look(alloc, site, vm, page, bytes.as_slice(), look)?;
+    let scanned = said_of(&site, look);
+    Ok((Answer::Looked { scanned }, site))
 }
