@@ -21,8 +21,6 @@ here_length i (p ∷ ps) = by_test (is_here p) i (here_from (i + 1) ps) (count_b
     by_test true i xs n h = (let one : length (i ∷ xs) ≡ 1 + length xs = omega arith in one ∙ ap (λ k. 1 + k) h)
     by_test false i xs n h = omega (arith, h)
 
-pub none_drawn : (v : Vm) (word : ℕ) → here_from 0 v.places ≡ [] → victim v word ≡ None
-none_drawn v word h = ap (λ xs. slice_get xs (word % resident v)) h
 
 pub one_drawn : (v : Vm) (word : ℕ) → victim v word ≡ slice_get (here_from 0 v.places) (word % length (here_from 0 v.places))
 one_drawn v word = ap (λ n. slice_get (here_from 0 v.places) (word % n)) (sym (here_length 0 v.places))

@@ -4,3 +4,4 @@ pub mod Finds
 pub mod KeyPlaces
 pub mod Draws
 pub mod Few
+pub mod Rows

@@ -40,18 +40,25 @@ fn here(alloc: Global, places: &[Place]) -> Result<Vec<u32>, AllocError>
     Ok(pages)
 }
 
+/// One of some pages, drawn by a word.
+fn drawn(pages: &[u32], word: u64) -> Option<u32>
+    ensures { result ≡ slice_get pages.now (word % length pages.now) }
+{
+    if pages.is_empty() {
+        return None;
+    }
+    let at = word % pages.len() as u64;
+    pages.get(at as usize).copied()
+}
+
 /// The page that a word draws from those of a machine that are in frames.
-#[tactic(auto, using(crate::proofs::Draws::one_drawn, crate::proofs::Draws::none_drawn))]
+#[tactic(auto, using(crate::proofs::Draws::one_drawn))]
 fn victim(alloc: Global, vm: &Vm, word: u64) -> Result<Option<u32>, AllocError>
     requires { length vm.now.places ≤ 65536 }
     ensures { IfOk result (λ page. page ≡ victim vm.now word) }
 {
     let pages = here(alloc, vm.places.as_slice())?;
-    if pages.is_empty() {
-        return Ok(None);
-    }
-    let drawn = word % pages.len() as u64;
-    Ok(pages.get(drawn as usize).copied())
+    Ok(drawn(pages.as_slice(), word))
 }
 
 /// Nothing is paged at the highest level, nor at the next while the balloon may still lend.
@@ -101,7 +108,7 @@ fn leave_by(
 {
     match look {
         Look::SharedFrame { frame } | Look::OtherPage { frame, .. } => {
-            let site = after_look(alloc, site, vm, page, bytes.as_slice(), look)?;
+            let site = after_look(alloc, site, vm, page, bytes.as_slice(), &look)?;
             Ok((Answer::SharedOut { page, frame }, site))
         }
         Look::Already | Look::Changed | Look::OtherBytes | Look::Nothing => {

@@ -201,8 +201,8 @@ fn add_hint(hints: &mut Vec<Hint>, new: Hint) -> Result<(), AllocError>
 }
 
 /// The hints without those under a key, and without that of a page.
-fn others(alloc: Global, hints: &[Hint], new: Hint) -> Result<Vec<Hint>, AllocError>
-    ensures { IfOk result (λ kept. kept.items ≡ filter (λ h. not ((h.key == new.key) || is_hint_of new.vm new.page h)) hints.now) }
+fn others(alloc: Global, hints: &[Hint], new: &Hint) -> Result<Vec<Hint>, AllocError>
+    ensures { IfOk result (λ kept. kept.items ≡ filter (λ h. not ((h.key == new.now.key) || is_hint_of new.now.vm new.now.page h)) hints.now) }
 {
     hints
         .iter()
@@ -228,7 +228,7 @@ fn hinted(
         vm,
         page,
     };
-    let mut hints = others(alloc, site.hints.as_slice(), new)?;
+    let mut hints = others(alloc, site.hints.as_slice(), &new)?;
     add_hint(&mut hints, new)?;
     let mut site = site;
     site.hints = Rows::from_vec(hints);
@@ -265,36 +265,36 @@ pub fn after_look(
     vm: VmId,
     page: u32,
     bytes: &[u8],
-    look: Look,
+    look: &Look,
 ) -> Result<Site, AllocError>
     requires { length site.vms ≡ VM_NUMBERS }
-    ensures { IfOk result (λ t. t ≡ after_look site vm page bytes.now look) }
+    ensures { IfOk result (λ t. t ≡ after_look site vm page bytes.now look.now) }
 {
     match look {
         Look::Already | Look::OtherBytes => Ok(site),
         Look::Changed | Look::Nothing => hinted(alloc, site, vm, page, bytes),
-        Look::SharedFrame { frame } => share(alloc, site, vm, page, bytes, frame),
+        Look::SharedFrame { frame } => share(alloc, site, vm, page, bytes, *frame),
         Look::OtherPage {
             vm: other,
             page: its,
             frame,
         } => {
-            let site = share(alloc, site, other, its, bytes, frame)?;
-            share(alloc, site, vm, page, bytes, frame)
+            let site = share(alloc, site, *other, *its, bytes, *frame)?;
+            share(alloc, site, vm, page, bytes, *frame)
         }
     }
 }
 
 /// What is said of a look, given the site after it.
-fn said_of(after: &Site, look: Look) -> Scanned
+fn said_of(after: &Site, look: &Look) -> Scanned
     requires { (f : ℕ) → pages_at f after.now < 2 ^ 32 }
-    ensures { result ≡ said_of after.now look }
+    ensures { result ≡ said_of after.now look.now }
 {
     match look {
         Look::Already => Scanned::Already,
         Look::SharedFrame { frame } | Look::OtherPage { frame, .. } => Scanned::Shared {
-            frame,
-            count: pages_at(after, frame) as u32,
+            frame: *frame,
+            count: pages_at(after, *frame) as u32,
         },
         Look::Changed => Scanned::Stale,
         Look::OtherBytes => Scanned::Clash,
@@ -330,7 +330,7 @@ pub fn scan(
     }
     let bytes = contents(alloc, config, place)?;
     let look = look(&site, number, page, place);
-    let site = after_look(alloc, site, vm, page, bytes.as_slice(), look)?;
-    let scanned = said_of(&site, look);
+    let site = after_look(alloc, site, vm, page, bytes.as_slice(), &look)?;
+    let scanned = said_of(&site, &look);
     Ok((Answer::Looked { scanned }, site))
 }
