@@ -4,7 +4,7 @@ use Rattle.esx_replay.proofs.event.rebalancing.with_targets.Given as goal
 
 abbrev pub invariant-loop-rest : goal.invariant-loop-rest
 invariant-loop-rest l = record {
-  told : l.done.items ++ with_targets l.rest.items (drop l.used l.targets) ≡ with_targets l.vms.items l.targets;
+  told : l.done.items ++ with_targets l.rest.items (drop l.used l.targets) ≡ with_targets l.fn.vms.items l.targets;
   within : l.used ≤ length l.targets;
 }
 
