@@ -301,36 +301,3 @@ fn said_of(after: &Site, look: &Look) -> Scanned
         Look::Nothing => Scanned::Hinted,
     }
 }
-
-/// Looks for a page with the same content, to share one frame with it.
-#[tactic(auto, unfolding(esx_model::specs::event::Sharing::scan))]
-pub fn scan(
-    alloc: Global,
-    config: &Config,
-    site: Site,
-    vm: VmId,
-    page: u32,
-) -> Result<(Answer, Site), Refusal>
-    requires { IsSound config.now site }
-    ensures { Gives result (scan config.now site vm page) }
-{
-    let number = usize::from(vm.number());
-    let Some(row) = vm_of(config, &site, number) else {
-        return Err(Refusal::NoVm);
-    };
-    if row.state != VmState::Running {
-        return Err(Refusal::NotRunning);
-    }
-    if row.spec.max <= page {
-        return Err(Refusal::OutOfRange);
-    }
-    let place = place_at(row, page);
-    if !is_in_frame(place) {
-        return Err(Refusal::NotResident);
-    }
-    let bytes = contents(alloc, config, place)?;
-    let look = look(&site, number, page, place);
-    let site = after_look(alloc, site, vm, page, bytes.as_slice(), &look)?;
-    let scanned = said_of(&site, &look);
-    Ok((Answer::Looked { scanned }, site))
-}
