@@ -66,6 +66,14 @@ impl<'a> Fields<'a> {
         self.rest.is_none()
     }
 
+    /// All that is left, as the text that it was.
+    pub fn rest(&self) -> Option<&'a str>
+        ensures { MatchOption result (self.now ≡ []) (λ text. self.now ≡ fields text.now) }
+    {
+        let left = self.rest?;
+        Some(left)
+    }
+
     /// The next field as a number below a limit.
     fn below(&mut self, limit: u64) -> Option<u64>
         ensures some { IfSome result (λ n. (n < limit) × (self.old ≡ decimal n ∷ self.new)) }
@@ -82,6 +90,14 @@ impl<'a> Fields<'a> {
     {
         let number = self.below(1 << 32)?;
         Some(number as u32)
+    }
+
+    /// The next field as a word.
+    pub fn word(&mut self) -> Option<u64>
+        ensures some { IfSome result (λ n. self.old ≡ decimal n ∷ self.new) }
+        ensures none { IfNone result ((n : ℕ) (others : List (List ℕ)) → n < 2 ^ 64 → self.old ≡ decimal n ∷ others → ⊥) }
+    {
+        number_of(self.next()?)
     }
 
     /// The next two fields as numbers.

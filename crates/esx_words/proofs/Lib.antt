@@ -1,10 +1,9 @@
-pub mod FieldLemmas
-pub mod HexField
 pub mod VerbLemmas
-pub mod WritingLemmas
+pub mod WordLemmas
+pub mod EventLemmas
+pub mod ListedLemmas
+pub mod ReadingLemmas
 pub mod SampleLemmas
 pub mod OperandLemmas
 pub mod CommandLemmas
-pub mod SidesLemmas
 pub mod PrintingLemmas
-pub mod NumberLemmas

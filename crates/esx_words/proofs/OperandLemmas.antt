@@ -5,19 +5,26 @@ use Rattle.std.specs.List.{AllByRecursion}
 use Rattle.hex.specs.Hex.{encode_lower}
 use Rattle.esx_types.specs.declared.config.TheConstants.{VM_NUMBERS}
 use Rattle.esx_events.specs.Names.{IsName}
-use Rattle.esx_words.specs.Kinds.{Kinds, Values, value_words, AreValues, IsWritten}
+use Rattle.esx_reading.specs.Written.{IsWritten}
+use Rattle.esx_words.specs.Kinds.{Kinds, Values, value_words, AreValues}
 use Rattle.esx_words.specs.Kinds.Kind.{Machine, Number, Word, Hex, Name}
 use Rattle.esx_words.specs.Kinds.Kinds.{End, Then, Words}
-use Rattle.esx_words.specs.Faults.{Refuses}
-use Rattle.esx_words.specs.declared.fault.WordFault.{WordFault}
-use Rattle.esx_words.specs.declared.fault.WordFault.TheVariants.{NoCommand, OutOfMemory}
+use Rattle.esx_reading.specs.Faults.{Refuses}
+use Rattle.esx_reading.specs.declared.fault.TextFault.{TextFault}
+use Rattle.esx_reading.specs.declared.fault.TextFault.TheVariants.{NotToml, BadKey, BadLine, NotText, Differs, Read, Write, OutOfMemory}
 
 -- the words are those of no values of these kinds
 abbrev pub HasNo : Kinds → List (List ℕ) → Type 0
 HasNo kinds rest = (x : Values kinds) → AreValues kinds x → rest ≡ value_words kinds x → ⊥
 
-pub refuses_more : (e : WordFault) (P Q : Type 0) → (P → Q) → Refuses e P → Refuses e Q
-refuses_more NoCommand P Q f h = f h
+pub refuses_more : (e : TextFault) (P Q : Type 0) → (P → Q) → Refuses e P → Refuses e Q
+refuses_more NotToml P Q f h = absurd h
+refuses_more (BadKey path) P Q f h = absurd h
+refuses_more (BadLine n) P Q f h = (h.0, f h.1)
+refuses_more NotText P Q f h = absurd h
+refuses_more (Differs k) P Q f h = absurd h
+refuses_more Read P Q f h = absurd h
+refuses_more Write P Q f h = absurd h
 refuses_more OutOfMemory P Q f h = tt
 
 pub no_machine : (rest : List (List ℕ)) → ((vm : ℕ) → vm < VM_NUMBERS → rest ≡ decimal vm ∷ [] → ⊥)

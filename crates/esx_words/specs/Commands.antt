@@ -1,5 +1,7 @@
 -- The grammar of commands: a table with a line for each.
-use Rattle.std.specs.Prelude.{ℕ, List, [], ◌∷◌, ◌++◌, ◌≡◌}
+use Rattle.std.specs.Prelude.{ℕ, List, [], ◌∷◌, ◌++◌, ◌≡◌, ◌≤◌, length}
+use Rattle.std.specs.List.{AllByRecursion}
+use Rattle.esx_events.specs.Lists.{IsTriable}
 use Rattle.esx_events.specs.declared.event.Event.{Event}
 use Rattle.esx_events.specs.declared.event.Event.TheVariants as event
 use Rattle.esx_events.specs.declared.call.Call.{Call}
@@ -18,7 +20,7 @@ use Rattle.esx_words.specs.Kinds.{Kinds, Values, value_words, AreValues}
 use Rattle.esx_words.specs.Kinds.Kind.{Machine, Number, Word, Hex, Name}
 use Rattle.esx_words.specs.Kinds.Kinds.{End, Then, Words}
 use Rattle.esx_words.specs.Verbs.{event_word, verb_word}
-use Rattle.esx_words.specs.Fields.{joined}
+use Rattle.esx_reading.specs.Fields.{joined}
 
 -- what stands behind the first word of an event
 abbrev pub event_kinds : EventVerb → Kinds
@@ -78,6 +80,15 @@ event_words event = event_word (event_verb event) ∷ value_words (event_kinds (
 abbrev pub IsEventInRange : Event → Type 0
 IsEventInRange event = AreValues (event_kinds (event_verb event)) (event_values event)
 
+-- the one spelling of an event
+abbrev pub event_text : Event → List ℕ
+event_text event = joined (event_words event)
+
+-- the text is the line of the event
+pub record SpellsEvent (text : List ℕ) (event : Event) : Type 0 where
+  pub range : IsEventInRange event
+  pub spelled : text ≡ event_text event
+
 -- the last of some words ends in a semicolon
 abbrev pub with_semicolon : List (List ℕ) → List (List ℕ)
 with_semicolon [] = []
@@ -88,6 +99,15 @@ abbrev pub list_words : List Event → List (List ℕ)
 list_words [] = []
 list_words (event ∷ []) = event_words event
 list_words (event ∷ next ∷ others) = with_semicolon (event_words event) ++ list_words (next ∷ others)
+
+-- the one spelling of events in their order: a semicolon and a space part each from the next
+abbrev pub list_text : List Event → List ℕ
+list_text events = joined (list_words events)
+
+-- some events, each with numbers that a line can have
+pub record AreListed (events : List Event) : Type 0 where
+  pub some : 1 ≤ length events
+  pub range : AllByRecursion IsEventInRange events
 
 -- what stands behind the first word of a call: values, or events parted by semicolons
 pub data Form : Type 0 where
@@ -113,7 +133,7 @@ operand_words Form.Tried events = list_words events
 
 abbrev pub AreOperands : (form : Form) → Operands form → Type 0
 AreOperands (Form.Plain kinds) x = AreValues kinds x
-AreOperands Form.Tried events = ⊥
+AreOperands Form.Tried events = IsTriable events × AllByRecursion IsEventInRange events
 
 abbrev pub verb : Call → Verb
 verb (call.Do event) = verbs.Event (event_verb event)

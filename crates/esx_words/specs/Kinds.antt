@@ -1,19 +1,10 @@
 -- What can stand behind the first word of a command: a list of kinds, and values of these kinds.
-use Rattle.std.specs.Prelude.{ℕ, List, [], ◌∷◌, ◌<◌, ◌≤◌, ◌^◌, length, decimal, Bool, nat_lt, ◌||◌, map}
+use Rattle.std.specs.Prelude.{ℕ, List, [], ◌∷◌, ◌<◌, ◌≤◌, ◌^◌, length, decimal, map}
 use Rattle.std.specs.List.{AllByRecursion}
-use Rattle.hex.specs.Hex.{encode_lower, IsBytes}
+use Rattle.hex.specs.Hex.{encode_lower}
 use Rattle.esx_types.specs.declared.config.TheConstants.{VM_NUMBERS}
 use Rattle.esx_events.specs.Names.{IsName}
-
--- the byte is none of the capitals `A` to `F`
-abbrev pub is_no_capital : ℕ → Bool
-is_no_capital b = nat_lt b 65 || nat_lt 70 b
-
--- bytes that a line can have in hex
-pub record IsWritten (bytes : List ℕ) : Type 0 where
-  pub some : 0 < length bytes
-  pub few : length bytes ≤ 4096
-  pub are_bytes : IsBytes bytes
+use Rattle.esx_reading.specs.Written.{IsWritten}
 
 -- kinds of one word
 pub data Kind : Type 0 where

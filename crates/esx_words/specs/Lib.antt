@@ -1,13 +1,11 @@
 pub use Rattle.hex.specs.Hex
 pub use Rattle.esx_events.specs.Names
-pub use Rattle.esx_events.specs.Numbers
 pub use Rattle.esx_events.specs.Lists
-pub mod Faults
-pub mod Fields
+pub use Rattle.esx_reading.specs.Faults
+pub use Rattle.esx_reading.specs.Fields
+pub use Rattle.esx_reading.specs.Written
+pub use Rattle.esx_writing.specs.Writing
 pub mod Kinds
 pub mod Verbs
 pub mod Commands
-pub mod Writing
-pub mod Texts
-pub mod Replies
 pub mod Printing

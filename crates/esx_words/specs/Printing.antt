@@ -1,7 +1,7 @@
 -- Texts behind the first part of a command.
 use Rattle.std.specs.Prelude.{ℕ, List, [], ◌∷◌, ◌++◌, codes, decimal}
 use Rattle.esx_events.specs.declared.event.Event.{Event}
-use Rattle.esx_words.specs.Fields.{joined}
+use Rattle.esx_reading.specs.Fields.{joined}
 use Rattle.esx_words.specs.Commands.{event_words}
 
 -- a further word of a sample

@@ -1,15 +1,16 @@
-//! The words of commands and of the answers to them. Tried events (`whatif`) are printed and not read yet:
-//! no line is in the range of the grammar that asks for them.
+//! The words of commands: which call a line asks for, and the one spelling of a call.
 #![tactic(auto)]
 
-pub mod commands;
-pub mod fault;
-pub mod fields;
-pub mod laws;
-pub mod operands;
-pub mod printing;
-pub mod replies;
+mod commands;
+mod event;
+mod laws;
+mod listed;
+mod operands;
+mod printing;
 #[cfg(test)]
 mod tests;
-pub mod verbs;
-pub mod writing;
+mod verbs;
+
+pub use commands::parse_command;
+pub use laws::one_call;
+pub use printing::{print_command, put_command, write_command};

@@ -1,15 +1,14 @@
 //! All that is left of a line, read as values of some kinds.
 
 ghost use Rattle.std.specs.Prelude.{◌≡◌, ◌∷◌, [], ◌<◌, ◌≤◌, ◌^◌, decimal, ℕ, List, IfSome, IfNone, IfOk, IfErr, length, map};
-ghost use Rattle.std.specs.List.{list_all, AllByRecursion};
+ghost use Rattle.std.specs.List.{AllByRecursion};
 ghost use Rattle.hex.specs.Hex.{encode_lower};
 ghost use Rattle.esx_types.specs.declared.config.TheConstants.{VM_NUMBERS};
 ghost use Rattle.esx_events.specs.Names.{IsName};
-ghost use Rattle.esx_words.specs.Kinds.{IsWritten, is_no_capital};
-ghost use Rattle.esx_words.specs.Faults.{Refuses};
+ghost use Rattle.esx_reading.specs.Written.{IsWritten};
+ghost use Rattle.esx_reading.specs.Faults.{Refuses};
 
-use crate::fault::WordFault;
-use crate::fields::Fields;
+use esx_reading::{Fields, TextFault, written_bytes};
 use esx_events::{Boxed, Name};
 use esx_types::{Bytes, Rows, VmId, VmSpec};
 use std::alloc::Global;
@@ -121,36 +120,6 @@ pub fn spec(fields: &mut Fields) -> Option<(VmId, VmSpec)>
     Some((vm, spec))
 }
 
-/// Whether no byte is one of the capitals `A` to `F`.
-fn has_no_capital(field: &str) -> bool
-    ensures { result ≡ list_all is_no_capital field.now }
-{
-    field
-        .as_bytes()
-        .iter()
-        .all(|byte| *byte < b'A' || b'F' < *byte)
-}
-
-/// The bytes of a field in hex.
-fn written_bytes(alloc: Global, field: &str) -> Result<Bytes, WordFault>
-    ensures found { IfOk result (λ bytes. IsWritten bytes × (field.now ≡ encode_lower bytes)) }
-    ensures only { IfErr result (λ e. Refuses e ((bytes : List ℕ) → IsWritten bytes → field.now ≡ encode_lower bytes → ⊥)) }
-{
-    if field.is_empty() || field.len() > 8192 {
-        return Err(WordFault::NoCommand);
-    }
-    if !has_no_capital(field) {
-        return Err(WordFault::NoCommand);
-    }
-    match hex::decode(alloc, field) {
-        Ok(bytes) => Ok(Bytes::from_vec(bytes)),
-        Err(error) => match error {
-            hex::FromHexError::OutOfMemory => Err(WordFault::OutOfMemory),
-            _ => Err(WordFault::NoCommand),
-        },
-    }
-}
-
 /// A virtual machine, two numbers and the digits of some bytes.
 fn digits<'a>(fields: &mut Fields<'a>) -> Option<(VmId, u32, u32, &'a str)>
     ensures some { IfSome result (λ p. (p.0 < VM_NUMBERS) × (fields.old ≡ decimal p.0 ∷ decimal p.1 ∷ decimal p.2 ∷ p.3.now ∷ [])) }
@@ -171,37 +140,37 @@ fn digits<'a>(fields: &mut Fields<'a>) -> Option<(VmId, u32, u32, &'a str)>
 pub fn written(
     alloc: Global,
     fields: &mut Fields,
-) -> Result<(VmId, u32, u32, Boxed<Bytes>), WordFault>
+) -> Result<(VmId, u32, u32, Boxed<Bytes>), TextFault>
     ensures found { IfOk result (λ p. (p.0 < VM_NUMBERS) × IsWritten p.3
         × (fields.old ≡ decimal p.0 ∷ decimal p.1 ∷ decimal p.2 ∷ encode_lower p.3 ∷ [])) }
     ensures only { IfErr result (λ e. Refuses e ((vm n m : ℕ) (bytes : List ℕ) → vm < VM_NUMBERS → n < 2 ^ 32 → m < 2 ^ 32 → IsWritten bytes
         → fields.old ≡ decimal vm ∷ decimal n ∷ decimal m ∷ encode_lower bytes ∷ [] → ⊥)) }
 {
     let Some((vm, first, second, text)) = digits(fields) else {
-        return Err(WordFault::NoCommand);
+        return Err(TextFault::BadLine(1));
     };
     let bytes = written_bytes(alloc, text)?;
     let Ok(bytes) = Boxed::new(alloc, bytes) else {
-        return Err(WordFault::OutOfMemory);
+        return Err(TextFault::OutOfMemory);
     };
     Ok((vm, first, second, bytes))
 }
 
 /// A name alone.
-pub fn name(alloc: Global, fields: &mut Fields) -> Result<Name, WordFault>
+pub fn name(alloc: Global, fields: &mut Fields) -> Result<Name, TextFault>
     ensures found { IfOk result (λ name. IsName name × (fields.old ≡ name ∷ [])) }
     ensures only { IfErr result (λ e. Refuses e ((name : List ℕ) → IsName name → fields.old ≡ name ∷ [] → ⊥)) }
 {
     let Some(text) = fields.next() else {
-        return Err(WordFault::NoCommand);
+        return Err(TextFault::BadLine(1));
     };
     if !fields.is_empty() {
-        return Err(WordFault::NoCommand);
+        return Err(TextFault::BadLine(1));
     }
     match Name::new(alloc, text) {
         Ok(Some(name)) => Ok(name),
-        Ok(None) => Err(WordFault::NoCommand),
-        Err(_) => Err(WordFault::OutOfMemory),
+        Ok(None) => Err(TextFault::BadLine(1)),
+        Err(_) => Err(TextFault::OutOfMemory),
     }
 }
 
@@ -209,7 +178,7 @@ pub fn name(alloc: Global, fields: &mut Fields) -> Result<Name, WordFault>
 const MAX_WORDS: usize = 200;
 
 /// Words to the end of the line.
-fn words(alloc: Global, fields: &mut Fields) -> Result<Vec<u64>, WordFault>
+fn words(alloc: Global, fields: &mut Fields) -> Result<Vec<u64>, TextFault>
     ensures found { IfOk result (λ words. (length words.items ≤ 200) × AllByRecursion (λ w. w < 2 ^ 64) words.items
         × (fields.old ≡ map decimal words.items)) }
     ensures only { IfErr result (λ e. Refuses e ((words : List ℕ) → length words ≤ 200 → AllByRecursion (λ w. w < 2 ^ 64) words
@@ -218,13 +187,13 @@ fn words(alloc: Global, fields: &mut Fields) -> Result<Vec<u64>, WordFault>
     let mut words = Vec::new(alloc);
     while !fields.is_empty() {
         let Some(word) = fields.word() else {
-            return Err(WordFault::NoCommand);
+            return Err(TextFault::BadLine(1));
         };
         if words.len() == MAX_WORDS {
-            return Err(WordFault::NoCommand);
+            return Err(TextFault::BadLine(1));
         }
         let Ok(()) = words.push(word) else {
-            return Err(WordFault::OutOfMemory);
+            return Err(TextFault::OutOfMemory);
         };
     }
     Ok(words)
@@ -234,7 +203,7 @@ fn words(alloc: Global, fields: &mut Fields) -> Result<Vec<u64>, WordFault>
 pub fn sampled(
     alloc: Global,
     fields: &mut Fields,
-) -> Result<(VmId, u32, Boxed<Rows<u64>>), WordFault>
+) -> Result<(VmId, u32, Boxed<Rows<u64>>), TextFault>
     ensures found { IfOk result (λ p. (p.0 < VM_NUMBERS) × (length p.2 ≤ 200) × AllByRecursion (λ w. w < 2 ^ 64) p.2
         × (fields.old ≡ decimal p.0 ∷ decimal p.1 ∷ map decimal p.2)) }
     ensures only { IfErr result (λ e. Refuses e ((vm n : ℕ) (words : List ℕ) → vm < VM_NUMBERS → n < 2 ^ 32
@@ -242,14 +211,14 @@ pub fn sampled(
         → fields.old ≡ decimal vm ∷ decimal n ∷ map decimal words → ⊥)) }
 {
     let Some(vm) = fields.vm() else {
-        return Err(WordFault::NoCommand);
+        return Err(TextFault::BadLine(1));
     };
     let Some(number) = fields.number() else {
-        return Err(WordFault::NoCommand);
+        return Err(TextFault::BadLine(1));
     };
     let words = words(alloc, fields)?;
     let Ok(words) = Boxed::new(alloc, Rows::from_vec(words)) else {
-        return Err(WordFault::OutOfMemory);
+        return Err(TextFault::OutOfMemory);
     };
     Ok((vm, number, words))
 }

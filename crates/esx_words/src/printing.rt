@@ -2,14 +2,14 @@
 
 ghost use Rattle.std.specs.Prelude.{◌≡◌, ◌+◌, ◌≤◌, ◌++◌, ◌∷◌, [], IfOk, OnOk, IsUtf8, string_bytes, codes, decimal, flat_map};
 ghost use Rattle.hex.specs.Hex.{encode_lower};
-ghost use Rattle.esx_words.specs.Fields.{joined};
+ghost use Rattle.esx_reading.specs.Fields.{joined};
 ghost use Rattle.esx_words.specs.Commands.{event_words, spelling};
-ghost use Rattle.esx_words.specs.Writing.{Writes, Puts, sink_faults};
+ghost use Rattle.esx_writing.specs.Writing.{Writes, Puts, sink_faults};
 ghost use Rattle.esx_words.specs.Printing.{word_text, next_text, sample_head};
 ghost use Rattle.esx_events.specs.Lists.{IsTriable};
 ghost use Rattle.esx_events.specs.declared.call.Call.TheVariants as calls;
 
-use crate::writing::{AnswerBuffer, Piece, put_texts, write_held};
+use esx_writing::{AnswerBuffer, Piece, put_texts, write_held};
 use esx_events::{Call, Event, Name};
 use esx_types::{MemorySink, Sink, SinkFailed, VmId, VmSpec};
 use std::alloc::{AllocError, Global};
@@ -466,7 +466,7 @@ fn put_events<W: Sink>(
 }
 
 /// The spelling of a call.
-pub fn put_call<W: Sink>(
+pub fn put_command<W: Sink>(
     sink: &mut W,
     held: &mut AnswerBuffer,
     call: &Call,
@@ -496,7 +496,7 @@ pub fn put_call<W: Sink>(
 }
 
 /// Writes the spelling of a call, over an empty buffer.
-pub fn write_call<W: Sink>(
+pub fn write_command<W: Sink>(
     sink: &mut W,
     held: &mut AnswerBuffer,
     call: &Call,
@@ -508,7 +508,7 @@ pub fn write_call<W: Sink>(
     ensures failures { W.failures sink.new ≡ W.failures sink.old + sink_faults result }
     ensures flushes { W.flushes sink.new ≡ W.flushes sink.old }
 {
-    put_call(sink, held, call)?;
+    put_command(sink, held, call)?;
     write_held(sink, held)
 }
 
@@ -522,14 +522,14 @@ fn call_bytes<L: Ledger>(alloc: Global, call: &Call, blank: Blank) -> Result<Vec
 {
     let mut held = AnswerBuffer::new(alloc)?;
     let mut sink = MemorySink::<L>::new(Vec::new(alloc), blank);
-    match write_call(&mut sink, &mut held, call) {
+    match write_command(&mut sink, &mut held, call) {
         Ok(()) => Ok(sink.into_bytes()),
         Err(SinkFailed) => Err(AllocError),
     }
 }
 
 /// The one spelling of a call. A write is read again only where it has 1 to 4,096 bytes.
-pub fn print_call(alloc: Global, call: &Call) -> Result<String, AllocError>
+pub fn print_command(alloc: Global, call: &Call) -> Result<String, AllocError>
     ensures { IfOk result (λ text. string_bytes text ≡ spelling call.now) }
 {
     let bytes = call_bytes::<Brand>(alloc, call, Blank::new(3))?;

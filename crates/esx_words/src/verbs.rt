@@ -1,7 +1,8 @@
 //! The first words of commands, those that are read alike together.
 
 ghost use Rattle.std.specs.Prelude.{◌≡◌, IfSome, IfNone};
-ghost use Rattle.esx_words.specs.Verbs.{verb_word};
+ghost use Rattle.esx_words.specs.Verbs.{event_word, verb_word};
+ghost use Rattle.esx_words.specs.declared.verbs.EventVerb.{EventVerb};
 ghost use Rattle.esx_words.specs.declared.verbs.Verb.{Verb};
 
 /// Events that a virtual machine alone stands behind.
@@ -195,6 +196,20 @@ pub fn verb_of(word: &str) -> Option<Verb>
                 verb: MachineEvent::Gone,
             },
         }),
+        _ => None,
+    }
+}
+
+/// The event that begins with a word.
+pub fn event_verb_of(word: &str) -> Option<EventVerb>
+    ensures found { IfSome result (λ verb. word.now ≡ event_word verb) }
+    ensures only { IfNone result ((verb : EventVerb) → word.now ≡ event_word verb → ⊥) }
+{
+    let Some(verb) = verb_of(word) else {
+        return None;
+    };
+    match verb {
+        Verb::Event { verb } => Some(verb),
         _ => None,
     }
 }

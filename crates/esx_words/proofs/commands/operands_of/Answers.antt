@@ -1,3 +1,4 @@
+use Rattle.std.proofs.Common.{refl}
 use Rattle.esx_words.proofs.OperandLemmas.{refuses_more, no_machine, no_number, no_place, no_name}
 use Rattle.esx_words.proofs.commands.operands_of.Goals as goal
 
@@ -5,13 +6,13 @@ pub returns-in-Err-clause-only : goal.returns-in-Err-clause-only
 returns-in-Err-clause-only c = rw c.in-Event.is c.in-Err.ensures.only
 
 pub returns-in-None-clause-only : goal.returns-in-None-clause-only
-returns-in-None-clause-only c = rw c.in-Number.is (no_number c.args.fields.now c.in-None.ensures.none)
+returns-in-None-clause-only c = rw c.in-Number.is (refl, no_number c.args.fields.now c.in-None.ensures.none)
 
 pub returns-in-Err-name-clause-only : goal.returns-in-Err-name-clause-only
 returns-in-Err-name-clause-only c = rw c.in-Name.is (refuses_more c.in-Err-name.fault _ _ (no_name c.args.fields.now) c.in-Err-name.ensures.only)
 
 pub returns-in-None-machine-clause-only : goal.returns-in-None-machine-clause-only
-returns-in-None-machine-clause-only c = rw c.in-OfVm.is (no_machine c.args.fields.now c.in-None-machine.ensures.none)
+returns-in-None-machine-clause-only c = rw c.in-OfVm.is (refl, no_machine c.args.fields.now c.in-None-machine.ensures.none)
 
 pub returns-in-None-place-clause-only : goal.returns-in-None-place-clause-only
-returns-in-None-place-clause-only c = rw c.in-Place.is (no_place c.args.fields.now c.in-None-place.ensures.none)
+returns-in-None-place-clause-only c = rw c.in-Place.is (refl, no_place c.args.fields.now c.in-None-place.ensures.none)

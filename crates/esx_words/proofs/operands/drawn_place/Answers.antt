@@ -1,5 +1,5 @@
 use Rattle.std.proofs.Common.{[]}
-use Rattle.esx_words.proofs.FieldLemmas.{after_one}
+use Rattle.esx_reading.proofs.FieldLemmas.{after_one}
 use Rattle.esx_words.proofs.operands.drawn_place.Goals as goal
 
 pub returns-in_err-word-clause-none : goal.returns-in_err-word-clause-none

@@ -1,5 +1,5 @@
 use Rattle.std.proofs.Common.{[], ◌∷◌, decimal}
-use Rattle.esx_words.proofs.FieldLemmas.{after_one, after_two}
+use Rattle.esx_reading.proofs.FieldLemmas.{after_one, after_two}
 use Rattle.esx_words.proofs.operands.range.Goals as goal
 
 pub returns-in_err-first-clause-none : goal.returns-in_err-first-clause-none

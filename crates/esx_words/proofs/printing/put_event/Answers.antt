@@ -1,6 +1,6 @@
 use Rattle.std.proofs.Common.{ap, sym, ◌∙◌}
 use Rattle.esx_events.specs.declared.event.Event.{Event}
-use Rattle.esx_words.specs.Fields.{joined}
+use Rattle.esx_reading.specs.Fields.{joined}
 use Rattle.esx_words.specs.Commands.{event_words}
 use Rattle.esx_words.proofs.PrintingLemmas.{puts_same, utf8_same, sample_is}
 use Rattle.esx_words.proofs.printing.put_event.Goals as goal

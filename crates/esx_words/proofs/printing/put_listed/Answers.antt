@@ -1,9 +1,9 @@
 use Rattle.std.proofs.Common.{refl}
 use Rattle.std.specs.Prelude.{flat_map}
-use Rattle.esx_words.specs.Fields.{joined}
+use Rattle.esx_reading.specs.Fields.{joined}
 use Rattle.esx_words.specs.Commands.{event_words}
 use Rattle.esx_words.specs.Printing.{next_text}
-use Rattle.esx_words.proofs.WritingLemmas.{first_failed, puts_after, utf8_after}
+use Rattle.esx_writing.proofs.WritingLemmas.{first_failed, puts_after, utf8_after}
 use Rattle.esx_words.proofs.printing.put_listed.Goals as goal
 
 pub returns-in_err-put_event-clause-bytes : goal.returns-in_err-put_event-clause-bytes

@@ -1,7 +1,7 @@
 use Rattle.std.proofs.Common.{refl, codes}
-use Rattle.esx_words.specs.Fields.{joined}
+use Rattle.esx_reading.specs.Fields.{joined}
 use Rattle.esx_words.specs.Commands.{event_words}
-use Rattle.esx_words.proofs.WritingLemmas.{first_failed, puts_after, utf8_after}
+use Rattle.esx_writing.proofs.WritingLemmas.{first_failed, puts_after, utf8_after}
 use Rattle.esx_words.proofs.printing.put_next.Goals as goal
 
 pub returns-in_err-put_next_word-clause-bytes : goal.returns-in_err-put_next_word-clause-bytes

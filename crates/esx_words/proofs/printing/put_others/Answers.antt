@@ -1,6 +1,6 @@
 use Rattle.std.proofs.Common.{flat_map, arith, ◌∙◌}
 use Rattle.esx_words.specs.Printing.{next_text}
-use Rattle.esx_words.proofs.WritingLemmas.{passes_more, passes_same, passes_stop, puts_error, flat_item_at, flat_item_more, utf8_more}
+use Rattle.esx_writing.proofs.WritingLemmas.{passes_more, passes_same, passes_stop, puts_error, flat_item_at, flat_item_more, utf8_more}
 use Rattle.esx_words.proofs.printing.put_others.Goals as goal
 
 pub returns-in_err-put_next-clause-bytes : goal.returns-in_err-put_next-clause-bytes

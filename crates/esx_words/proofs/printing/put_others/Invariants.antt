@@ -1,6 +1,6 @@
 use Rattle.std.proofs.Common.{◌≡◌, take, flat_map}
 use Rattle.std.specs.Str.{IsUtf8}
-use Rattle.esx_words.specs.Writing.{Passes}
+use Rattle.esx_writing.specs.Writing.{Passes}
 use Rattle.esx_words.specs.Printing.{next_text}
 use Rattle.esx_words.proofs.printing.put_others.Given as goal
 

@@ -1,7 +1,7 @@
 use Rattle.std.proofs.Common.{refl}
 use Rattle.std.specs.Prelude.{flat_map}
 use Rattle.esx_words.specs.Printing.{word_text, sample_head}
-use Rattle.esx_words.proofs.WritingLemmas.{first_failed, puts_after, utf8_after}
+use Rattle.esx_writing.proofs.WritingLemmas.{first_failed, puts_after, utf8_after}
 use Rattle.esx_words.proofs.printing.put_sample.Goals as goal
 
 pub returns-in_err-put_place-clause-bytes : goal.returns-in_err-put_place-clause-bytes

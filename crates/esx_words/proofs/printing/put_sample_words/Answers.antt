@@ -1,6 +1,6 @@
 use Rattle.std.proofs.Common.{flat_map, arith, ◌∙◌}
 use Rattle.esx_words.specs.Printing.{word_text}
-use Rattle.esx_words.proofs.WritingLemmas.{passes_more, passes_same, passes_stop, puts_error, flat_parts_at, flat_parts_more, utf8_more}
+use Rattle.esx_writing.proofs.WritingLemmas.{passes_more, passes_same, passes_stop, puts_error, flat_parts_at, flat_parts_more, utf8_more}
 use Rattle.esx_words.proofs.printing.put_sample_words.Goals as goal
 
 pub returns-in_err-put_sample_word-clause-bytes : goal.returns-in_err-put_sample_word-clause-bytes

@@ -1,6 +1,6 @@
 use Rattle.std.proofs.Common.{◌≡◌, take, flat_map}
 use Rattle.std.specs.Str.{IsUtf8}
-use Rattle.esx_words.specs.Writing.{Passes}
+use Rattle.esx_writing.specs.Writing.{Passes}
 use Rattle.esx_words.specs.Printing.{word_text}
 use Rattle.esx_words.proofs.printing.put_sample_words.Given as goal
 

@@ -1,0 +1,71 @@
+//! What the coming of a virtual machine answers.
+
+ghost use Rattle.std.specs.Prelude.{◌≡◌, ◌+◌, OnOk, IsUtf8};
+ghost use Rattle.esx_writing.specs.Writing.{Puts, sink_faults};
+ghost use Rattle.esx_replies.specs.Texts.{admitted_text, started_text};
+
+use crate::names::running_name;
+use esx_writing::{AnswerBuffer, Piece, put_pieces};
+use esx_types::{Sink, SinkFailed};
+
+/// Frames and slots that are reserved, of all.
+pub fn put_admitted<W: Sink>(
+    sink: &mut W,
+    held: &mut AnswerBuffer,
+    memory: u32,
+    frames: u32,
+    swap: u32,
+    slots: u32,
+) -> Result<(), SinkFailed>
+    ensures bytes { Puts (W.contents sink.old) held.old (W.contents sink.new) held.new (admitted_text memory frames swap slots) result }
+    ensures utf8 { OnOk result (IsUtf8 (admitted_text memory frames swap slots)) }
+    ensures failures { W.failures sink.new ≡ W.failures sink.old + sink_faults result }
+    ensures flushes { W.flushes sink.new ≡ W.flushes sink.old }
+{
+    put_pieces(
+        sink,
+        held,
+        &[
+            Piece::Text("ok memory "),
+            Piece::Number(u64::from(memory)),
+            Piece::Text("/"),
+            Piece::Number(u64::from(frames)),
+            Piece::Text(" swap "),
+            Piece::Number(u64::from(swap)),
+            Piece::Text("/"),
+            Piece::Number(u64::from(slots)),
+            Piece::Text("\n"),
+        ],
+    )
+}
+
+/// The frame that was taken, and how many are held of how many.
+pub fn put_started<W: Sink>(
+    sink: &mut W,
+    held: &mut AnswerBuffer,
+    frame: u32,
+    taken: u32,
+    overhead: u32,
+    running: bool,
+) -> Result<(), SinkFailed>
+    ensures bytes { Puts (W.contents sink.old) held.old (W.contents sink.new) held.new (started_text frame taken overhead running) result }
+    ensures utf8 { OnOk result (IsUtf8 (started_text frame taken overhead running)) }
+    ensures failures { W.failures sink.new ≡ W.failures sink.old + sink_faults result }
+    ensures flushes { W.flushes sink.new ≡ W.flushes sink.old }
+{
+    put_pieces(
+        sink,
+        held,
+        &[
+            Piece::Text("ok frame "),
+            Piece::Number(u64::from(frame)),
+            Piece::Text(" overhead "),
+            Piece::Number(u64::from(taken)),
+            Piece::Text("/"),
+            Piece::Number(u64::from(overhead)),
+            Piece::Text(" "),
+            Piece::Text(running_name(running)),
+            Piece::Text("\n"),
+        ],
+    )
+}

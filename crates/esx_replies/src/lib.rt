@@ -1,0 +1,23 @@
+//! Replies as text: what is said to a call, in one line or more.
+#![tactic(auto)]
+
+mod access;
+mod admission;
+mod answer;
+mod balloon;
+mod leaving;
+mod marks;
+mod moves;
+mod names;
+mod paging;
+mod questions;
+mod refusals;
+mod said;
+mod sampling;
+mod sharing;
+mod sides;
+mod table;
+#[cfg(test)]
+mod tests;
+
+pub use said::{print_reply, write_reply};

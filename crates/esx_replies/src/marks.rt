@@ -1,0 +1,83 @@
+//! The list of marks.
+
+ghost use Rattle.std.specs.Prelude.{◌≡◌, ◌+◌, ◌++◌, OnOk, IsUtf8, flat_map, length, codes};
+ghost use Rattle.esx_writing.specs.Writing.{Puts, sink_faults};
+ghost use Rattle.esx_replies.specs.Texts.{sum_text};
+ghost use Rattle.esx_replies.specs.Replies.{marks_head, mark_text, marks_text};
+
+use esx_writing::{AnswerBuffer, Piece, put_pieces};
+use esx_events::NameRow;
+use esx_types::{Sink, SinkFailed};
+
+/// A name and its node.
+fn put_mark<W: Sink>(sink: &mut W, held: &mut AnswerBuffer, row: &NameRow) -> Result<(), SinkFailed>
+    ensures bytes { Puts (W.contents sink.old) held.old (W.contents sink.new) held.new (mark_text row.now) result }
+    ensures utf8 { OnOk result (IsUtf8 (mark_text row.now)) }
+    ensures failures { W.failures sink.new ≡ W.failures sink.old + sink_faults result }
+    ensures flushes { W.flushes sink.new ≡ W.flushes sink.old }
+{
+    put_pieces(
+        sink,
+        held,
+        &[
+            Piece::Text(row.name.as_str()),
+            Piece::Text(" "),
+            Piece::Number(u64::from(row.node)),
+            Piece::Text("\n"),
+        ],
+    )
+}
+
+/// Names and their nodes.
+fn put_mark_rows<W: Sink>(
+    sink: &mut W,
+    held: &mut AnswerBuffer,
+    rows: &[NameRow],
+) -> Result<(), SinkFailed>
+    ensures bytes { Puts (W.contents sink.old) held.old (W.contents sink.new) held.new (flat_map mark_text rows.now) result }
+    ensures utf8 { OnOk result (IsUtf8 (flat_map mark_text rows.now)) }
+    ensures failures { W.failures sink.new ≡ W.failures sink.old + sink_faults result }
+    ensures flushes { W.flushes sink.new ≡ W.flushes sink.old }
+{
+    for row in rows {
+        put_mark(sink, held, row)?;
+    }
+    Ok(())
+}
+
+/// How many marks there are.
+fn put_marks_head<W: Sink>(
+    sink: &mut W,
+    held: &mut AnswerBuffer,
+    count: usize,
+) -> Result<(), SinkFailed>
+    ensures bytes { Puts (W.contents sink.old) held.old (W.contents sink.new) held.new (marks_head count) result }
+    ensures utf8 { OnOk result (IsUtf8 (marks_head count)) }
+    ensures failures { W.failures sink.new ≡ W.failures sink.old + sink_faults result }
+    ensures flushes { W.flushes sink.new ≡ W.flushes sink.old }
+{
+    put_pieces(
+        sink,
+        held,
+        &[
+            Piece::Text("marks "),
+            Piece::Number(count as u64),
+            Piece::Text("\n"),
+        ],
+    )
+}
+
+/// The marks in the order in which they were made.
+pub fn put_marks<W: Sink>(
+    sink: &mut W,
+    held: &mut AnswerBuffer,
+    rows: &[NameRow],
+) -> Result<(), SinkFailed>
+    ensures bytes { Puts (W.contents sink.old) held.old (W.contents sink.new) held.new (marks_text rows.now) result }
+    ensures utf8 { OnOk result (IsUtf8 (marks_text rows.now)) }
+    ensures failures { W.failures sink.new ≡ W.failures sink.old + sink_faults result }
+    ensures flushes { W.flushes sink.new ≡ W.flushes sink.old }
+{
+    put_marks_head(sink, held, rows.len())?;
+    put_mark_rows(sink, held, rows)
+}

@@ -1,4 +1,0 @@
-use Rattle.esx_words.proofs.printing.print_call.Given as goal
-
-abbrev pub ghosts-call_bytes : goal.ghosts-call_bytes
-ghosts-call_bytes a = record { name = a.blank.name; parts = a.blank.parts }

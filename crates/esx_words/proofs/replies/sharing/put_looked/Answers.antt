@@ -1,4 +1,0 @@
-use Rattle.esx_words.proofs.replies.sharing.put_looked.Goals as goal
-
-pub returns-in-Already-clause-bytes : goal.returns-in-Already-clause-bytes
-returns-in-Already-clause-bytes g c = rw c.in-Already.is c.put_pieces-in-Already.ensures.bytes

@@ -1,9 +1,0 @@
-use Rattle.std.proofs.Common.{◌≡◌, ◌≤◌, take}
-use Rattle.esx_words.specs.Replies.{accepted}
-use Rattle.esx_words.proofs.replies.sides.accepted.Given as goal
-
-abbrev pub invariant-loop-reply : goal.invariant-loop-reply
-invariant-loop-reply l = record {
-  counted : l.count ≡ accepted (take l.reply-index l.replies);
-  few : l.count ≤ l.reply-index;
-}

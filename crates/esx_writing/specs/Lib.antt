@@ -1,0 +1,2 @@
+pub use Rattle.hex.specs.Hex
+pub mod Writing
