@@ -1,8 +1,9 @@
 -- Events parted by semicolons: their words, their text, and that a text has them in one way.
 use Rattle.std.proofs.Common.{◌≡◌, ◌<◌, ◌≤◌, ◌+◌, ℕ, List, [], ◌∷◌, ◌++◌, length, arith, refl, ap, sym, ◌∙◌, append_assoc, codes, false, lit<}
-use Rattle.std.specs.List.{All, AllByRecursion, slice_split, join_with_byte}
+use Rattle.std.specs.List.{All, AllByRecursion, slice_split, join_with_byte, position_or_len, before_first, after_first}
 use Rattle.std.proofs.Math.Dec.{eqb}
-use Rattle.std.proofs.lemmas.List.Splits.{slice_split_none, slice_split_at, join_with_byte-slice_split, length-slice_split}
+use Rattle.std.proofs.lemmas.List.Splits.{slice_split_first, slice_split_none, slice_split_at, join_with_byte-slice_split, length-slice_split}
+use Rattle.std.proofs.lemmas.List.Sums.{fails_before_first}
 use Rattle.std.proofs.lemmas.List.Elements.{All-from_recursion, All-append}
 use Rattle.esx_events.specs.declared.event.Event.{Event}
 use Rattle.esx_reading.specs.Fields.{fields, joined}
@@ -69,6 +70,10 @@ pub fields_of_list : (events : List Event) → 1 ≤ length events → AllByRecu
 fields_of_list [] some p = absurd (omega (arith, some))
 fields_of_list (e ∷ events) some p = let head = list_head e events in fields_of_some (list_words (e ∷ events)) head.0 head.1 head.2 (list_fields (e ∷ events) p)
 
+pub some_words : (events : List Event) → 1 ≤ length events → list_words events ≡ [] → ⊥
+some_words [] some e = absurd (omega (arith, some))
+some_words (x ∷ events) some e = let head = list_head x events in let f = sym head.2 ∙ e in cc
+
 -- the parts of a text between its semicolons
 abbrev pub parts : List ℕ → List (List ℕ)
 parts = slice_split (λ b. eqb b 59)
@@ -78,6 +83,13 @@ one_part text h = slice_split_none (λ b. eqb b 59) text h
 
 pub parts_at : (front behind : List ℕ) → LacksSemicolon front → parts (front ++ 59 ∷ behind) ≡ front ∷ parts behind
 parts_at front behind h = slice_split_at (λ b. eqb b 59) front 59 behind h refl
+
+pub next_part : (text front behind : List ℕ) → position_or_len (λ b. eqb b 59) text < length text
+    → front ≡ before_first (λ b. eqb b 59) text → behind ≡ after_first (λ b. eqb b 59) text → parts text ≡ front ∷ parts behind
+next_part text front behind within f b = rw (f, b) (slice_split_first (λ b. eqb b 59) text 0 within)
+
+pub last_part : (text : List ℕ) → position_or_len (λ b. eqb b 59) text ≡ length text → parts text ≡ text ∷ []
+last_part text none = slice_split_none (λ b. eqb b 59) text (λ k d lt. fails_before_first (λ b. eqb b 59) text k d (omega arith))
 
 pub same_parted : (x y : List ℕ) → parts x ≡ parts y → x ≡ y
 same_parted x y e = sym (join_with_byte-slice_split 59 x) ∙ ap (join_with_byte 59) e ∙ join_with_byte-slice_split 59 y
@@ -98,8 +110,8 @@ one_or_more front behind text e = some_part behind (others_of _ _ _ _ e)
 same_list : (x : Event) (xs : List Event) (y : Event) (ys : List Event) → AllByRecursion IsEventInRange (x ∷ xs) → AllByRecursion IsEventInRange (y ∷ ys)
     → list_text (x ∷ xs) ≡ list_text (y ∷ ys) → x ∷ xs ≡ y ∷ ys
 same_list x [] y [] p q e = both_of x y [] [] (same_event_text x y p.0 q.0 e) refl
-same_list x [] y (m ∷ ys) p q e = absurd (one_or_more _ _ _ (sym (parts_of_more y m ys q.0) ∙ ap parts (sym e) ∙ parts_of_one x p.0))
-same_list x (n ∷ xs) y [] p q e = absurd (one_or_more _ _ _ (sym (parts_of_more x n xs p.0) ∙ ap parts e ∙ parts_of_one y q.0))
+same_list x [] y (m ∷ ys) p q e = absurd (one_or_more _ (32 ∷ list_text (m ∷ ys)) _ (sym (parts_of_more y m ys q.0) ∙ ap parts (sym e) ∙ parts_of_one x p.0))
+same_list x (n ∷ xs) y [] p q e = absurd (one_or_more _ (32 ∷ list_text (n ∷ xs)) _ (sym (parts_of_more x n xs p.0) ∙ ap parts e ∙ parts_of_one y q.0))
 same_list x (n ∷ xs) y (m ∷ ys) p q e =
     let whole = sym (parts_of_more x n xs p.0) ∙ ap parts e ∙ parts_of_more y m ys q.0 in
     let behind = same_parted (32 ∷ list_text (n ∷ xs)) (32 ∷ list_text (m ∷ ys)) (others_of _ _ _ _ whole) in

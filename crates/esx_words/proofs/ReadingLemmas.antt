@@ -1,7 +1,8 @@
 -- Events that are read one by one from a text.
-use Rattle.std.proofs.Common.{◌≡◌, ◌≤◌, ◌+◌, ℕ, List, [], ◌∷◌, ◌++◌, length, arith, refl, ap, sym, ◌∙◌, append_assoc, append-nil, codes}
+use Rattle.std.proofs.Common.{◌≡◌, ◌<◌, ◌≤◌, ◌+◌, length-append, ℕ, List, [], ◌∷◌, ◌++◌, length, arith, refl, ap, sym, ◌∙◌, append_assoc, append-nil, codes}
 use Rattle.std.specs.Prelude.{flat_map}
 use Rattle.std.specs.List.{AllByRecursion}
+use Rattle.esx_events.specs.Lists.{IsTriable}
 use Rattle.esx_events.specs.declared.event.Event.{Event}
 use Rattle.esx_reading.proofs.FieldLemmas.{others_of}
 use Rattle.esx_words.specs.Commands.{event_text, IsEventInRange, SpellsEvent, list_text, AreListed}
@@ -14,7 +15,7 @@ pub one_event : (text : List ℕ) → parts text ≡ text ∷ [] → (events : L
     → (event : Event) × SpellsEvent text event
 one_event text one [] are e = absurd (omega (arith, are.some))
 one_event text one (x ∷ []) are e = (x, record { range = are.range.0; spelled = e })
-one_event text one (x ∷ n ∷ xs) are e = absurd (one_or_more _ _ _ (sym (parts_of_more x n xs are.range.0) ∙ ap parts (sym e) ∙ one))
+one_event text one (x ∷ n ∷ xs) are e = absurd (one_or_more _ (32 ∷ list_text (n ∷ xs)) _ (sym (parts_of_more x n xs are.range.0) ∙ ap parts (sym e) ∙ one))
 
 -- what a text that has a semicolon begins with, and what stands behind
 pub record Begins (front behind : List ℕ) : Type 0 where
@@ -26,7 +27,7 @@ pub record Begins (front behind : List ℕ) : Type 0 where
 pub begins : (text front behind : List ℕ) → parts text ≡ front ∷ parts behind → (events : List Event) → AreListed events → text ≡ list_text events
     → Begins front behind
 begins text front behind cut [] are e = absurd (omega (arith, are.some))
-begins text front behind cut (x ∷ []) are e = absurd (one_or_more _ _ _ (sym cut ∙ ap parts e ∙ parts_of_one x are.range.0))
+begins text front behind cut (x ∷ []) are e = absurd (one_or_more _ behind _ (sym cut ∙ ap parts e ∙ parts_of_one x are.range.0))
 begins text front behind cut (x ∷ n ∷ xs) are e =
     let whole = sym cut ∙ ap parts e ∙ parts_of_more x n xs are.range.0 in
     record {
@@ -75,9 +76,14 @@ pub left_of : (events all : List Event) (rest : List ℕ) → AllByRecursion IsE
 left_of [] all rest p are e = record { others = all; listed = are; same = e; count = omega arith }
 left_of (x ∷ xs) [] rest p are e = absurd (omega (arith, are.some))
 left_of (x ∷ xs) (y ∷ []) rest p are e =
-    absurd (one_or_more _ _ _ (sym (ap parts (ended x xs rest) ∙ parts_at (event_text x) (32 ∷ read_so_far xs rest) (plain_event x p.0)) ∙ ap parts e ∙ parts_of_one y are.range.0))
+    absurd (one_or_more _ (32 ∷ read_so_far xs rest) _ (sym (ap parts (ended x xs rest) ∙ parts_at (event_text x) (32 ∷ read_so_far xs rest) (plain_event x p.0)) ∙ ap parts e ∙ parts_of_one y are.range.0))
 left_of (x ∷ xs) (y ∷ n ∷ ys) rest p are e =
     let whole = sym (ap parts (ended x xs rest) ∙ parts_at (event_text x) (32 ∷ read_so_far xs rest) (plain_event x p.0)) ∙ ap parts e ∙ parts_of_more y n ys are.range.0 in
     let behind = same_parted (32 ∷ read_so_far xs rest) (32 ∷ list_text (n ∷ ys)) (others_of _ _ _ _ whole) in
     let l = left_of xs (n ∷ ys) rest p.1 (record { some = omega arith; range = are.range.1 }) (others_of _ _ _ _ behind) in
     record { others = l.others; listed = l.listed; same = l.same; count = omega (arith, l.count) }
+
+pub triable_more : (events : List Event) (event : Event) (n : ℕ) → length events ≡ n → n < 64 → IsTriable (events ++ event ∷ [])
+triable_more events event n e lt =
+    let long : length (events ++ event ∷ []) ≡ length events + 1 = length-append events (event ∷ []) in
+    (omega (arith, long), omega (arith, long, e, lt))

@@ -53,7 +53,10 @@ fn events_of(alloc: Global, text: &str) -> Result<Vec<Event>, TextFault>
     let mut events = Vec::new(alloc);
     let mut rest = text;
     for _ in 0..MAX_EVENTS {
-        let (event, later) = first_event(alloc, rest)?;
+        let (event, later) = match first_event(alloc, rest) {
+            Ok(found) => found,
+            Err(fault) => return Err(fault),
+        };
         let Ok(()) = events.push(event) else {
             return Err(TextFault::OutOfMemory);
         };
@@ -74,7 +77,10 @@ pub fn tried(alloc: Global, fields: &Fields) -> Result<Events, TextFault>
     let Some(text) = fields.rest() else {
         return Err(TextFault::BadLine(1));
     };
-    let events = events_of(alloc, text)?;
+    let events = match events_of(alloc, text) {
+        Ok(events) => events,
+        Err(fault) => return Err(fault),
+    };
     match Events::new(events) {
         Some(events) => Ok(events),
         None => unreachable!(),
