@@ -5,7 +5,7 @@ use std::alloc::Global;
 use std::rt::HostRuntime;
 use std::test::Fail;
 
-const LINES: [&str; 30] = [
+const LINES: [&str; 32] = [
     "admit 0 2 6 1 1000 0",
     "start 31",
     "read 0 7 8 16",
@@ -36,29 +36,27 @@ const LINES: [&str; 30] = [
     "marks",
     "vm 0",
     "page 31 0",
+    "advise 31 0",
+    "whatif ask 1; sample 2 1000 0 7; rebalance",
 ];
 
-const NO_LINES: [&str; 20] = [
+const NO_LINES: [&str; 16] = [
     "",
     " sum",
     "sum ",
-    "sum  ",
     "Sum",
     "start 32",
     "start 01",
     "start +1",
-    "start",
-    "read 0 7 8",
     "read 0 7 8 16 1",
     "read 0 7 8 4294967296",
     "write 0 7 8 00FF",
-    "write 0 7 8 00f",
     "write 0 7 8 ",
-    "swapout 0 18446744073709551616",
-    "mark Base",
     "mark 9",
-    "undo -1",
-    "vm 0 0",
+    "whatif",
+    "whatif sum",
+    "whatif ask 1;ask 1",
+    "whatif ask 1; ",
 ];
 
 /// Whether a line is read as a call that is spelled so.

@@ -16,3 +16,6 @@ returns-in-None-machine-clause-only c = rw c.in-OfVm.is (refl, no_machine c.args
 
 pub returns-in-None-place-clause-only : goal.returns-in-None-place-clause-only
 returns-in-None-place-clause-only c = rw c.in-Place.is (refl, no_place c.args.fields.now c.in-None-place.ensures.none)
+
+pub returns-in-Err-tried-clause-only : goal.returns-in-Err-tried-clause-only
+returns-in-Err-tried-clause-only c = rw c.in-WhatIf.is (refuses_more c.in-Err-tried.fault _ _ (λ none x are e. none x are.0 are.1 e) c.in-Err-tried.ensures.only)
