@@ -62,12 +62,15 @@ epoch_at k s n v within there =
     let P : Option Vm → Type 0 = IsEpochWithin k in
     subst P there (at_number k s n within)
 
-one_later : (k : ℕ) (o : Option Vm) → IsEpochWithin k o → IsEpochWithin (k + 1) o
-one_later k None h = tt
-one_later k (Some v) h = omega arith
+one_later : (j k : ℕ) → j ≤ k → (o : Option Vm) → IsEpochWithin j o → IsEpochWithin k o
+one_later j k less None h = tt
+one_later j k less (Some v) h = omega arith
+
+pub later_within : (j k : ℕ) (s : Site) → j ≤ k → AreEpochsWithin j s → AreEpochsWithin k s
+later_within j k s less within = all_map (IsEpochWithin j) (IsEpochWithin k) (one_later j k less) s.vms within
 
 later : (k : ℕ) (s : Site) → AreEpochsWithin k s → AreEpochsWithin (k + 1) s
-later k s within = all_map (IsEpochWithin k) (IsEpochWithin (k + 1)) (one_later k) s.vms within
+later k s within = later_within k (k + 1) s (omega arith) within
 
 -- Changes of a site.
 
