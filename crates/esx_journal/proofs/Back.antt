@@ -4,9 +4,9 @@ use Rattle.std.proofs.lemmas.List.{take-append-le}
 use Rattle.std.proofs.lemmas.Grind.{common_steps}
 use Rattle.std.proofs.lemmas.Bool.Decides.{eqb_tells}
 use Rattle.std.proofs.lemmas.Bool.{eq-eqb, eqb-true}
-use Rattle.esx_types.specs.declared.event.Event.{Event}
-use Rattle.esx_plain.specs.Tree.{Node, Move, Up, Down, parent, path, on_way, at, last_descent, IsTree, IsWalk}
-use Rattle.esx_plain.specs.History.{History, cursor, here, up_once, if_alive, undone, undo, jumped}
+use Rattle.esx_events.specs.declared.event.Event.{Event}
+use Rattle.esx_model.specs.Tree.{Node, Move, Up, Down, parent, path, on_way, at, last_descent, IsTree, IsWalk}
+use Rattle.esx_model.specs.History.{History, cursor, here, up_once, if_alive, undone, undo, jumped}
 use Rattle.esx_journal.specs.Turns.{above}
 use Rattle.esx_journal.specs.Ways.{ups}
 use Rattle.esx_journal.proofs.Paths.{newest, is_other, way_new, way_old, parent_below, parent_fits, parent_zero, path_child, path_zero, way_child, way_self, way_below, way_zero, walk_ends}

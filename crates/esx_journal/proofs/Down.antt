@@ -1,8 +1,8 @@
 -- Several steps down.
 use Rattle.std.proofs.Common.{◌≡◌, ℕ, zero, suc, ◌+◌, List, [], ◌∷◌, ◌++◌, length, length-append, refl, sym, ap, ◌∙◌, arith, Option, Some, None, option_map, append_assoc, append-nil}
-use Rattle.esx_types.specs.declared.event.Event.{Event}
-use Rattle.esx_plain.specs.Tree.{Move, Down, path, at, last_descent, IsTree, IsWalk}
-use Rattle.esx_plain.specs.History.{History, cursor, here, child, down_to, redone, redo, jumped}
+use Rattle.esx_events.specs.declared.event.Event.{Event}
+use Rattle.esx_model.specs.Tree.{Move, Down, path, at, last_descent, IsTree, IsWalk}
+use Rattle.esx_model.specs.History.{History, cursor, here, child, down_to, redone, redo, jumped}
 use Rattle.esx_journal.specs.Turns.{above}
 use Rattle.esx_journal.proofs.Paths.{path_child}
 use Rattle.esx_journal.proofs.Steps.{descents_of, is_child, child_by, same_descents}

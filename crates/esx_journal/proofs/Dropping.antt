@@ -1,13 +1,13 @@
 -- The rows of nodes that are dropped.
 use Rattle.std.proofs.Common.{◌≡◌, ◌≢◌, ℕ, zero, suc, ◌+◌, ◌<◌, ◌≤◌, ◌==◌, ◌||◌, ◌&&◌, Bool, true, false, not, cond, List, [], ◌∷◌, length, slice_set, slice_index_or, is_some, refl, sym, ap, ◌∙◌, subst, arith, Option, Some, None, nat_lt, ◌⊎◌, inl, inr, Ok, Err}
 use Rattle.std.proofs.lemmas.Bool.Decides.{eqb_tells, nat_tests}
-use Rattle.esx_types.specs.declared.event.Event.{Event}
-use Rattle.esx_types.specs.declared.event.Refusal.TheVariants.{NoSuchNode, OnPath}
+use Rattle.esx_events.specs.declared.event.Event.{Event}
+use Rattle.esx_events.specs.declared.event.Refusal.TheVariants.{NoSuchNode, OnPath}
 use Rattle.esx_machine.specs.Machine as machines
-use Rattle.esx_machine.specs.Changes.{Back}
-use Rattle.esx_plain.specs.Tree.{Node, Move, Up, Down, parent, alive, path, on_way, at, IsTree}
-use Rattle.esx_plain.specs.History.{History, cursor, here}
-use Rattle.esx_plain.specs.Branching.{dropped, standing_below, stands, is_on_path, prune}
+use Rattle.esx_machine.specs.Machine.{Back}
+use Rattle.esx_model.specs.Tree.{Node, Move, Up, Down, parent, alive, path, on_way, at, IsTree}
+use Rattle.esx_model.specs.History.{History, cursor, here}
+use Rattle.esx_model.specs.Branching.{dropped, standing_below, stands, is_on_path, prune}
 use Rattle.esx_journal.specs.declared.row.Row.{Row}
 use Rattle.esx_journal.specs.Row.{AreNodes, Drops, emptied, is_gone}
 use Rattle.esx_journal.specs.Journal.{Kept, Leads, IsRow, IsAccepted, AreDescents, Aims, kept_after}

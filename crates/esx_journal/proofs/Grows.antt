@@ -1,26 +1,29 @@
 -- A new node.
-use Rattle.std.proofs.Common.{◌≡◌, ◌≢◌, ℕ, zero, suc, ◌+◌, ◌<◌, ◌≤◌, ◌==◌, ◌||◌, Bool, true, false, cond, List, [], ◌∷◌, ◌++◌, length, length-append, slice_index_or, is_some, refl, sym, ap, ◌∙◌, subst, arith, Some, None, option_map, ◌⊎◌, inl, inr, Result, Ok, Err, nat_le}
+use Rattle.std.proofs.Common.{◌≡◌, ◌≢◌, ℕ, zero, suc, ◌+◌, ◌<◌, ◌≤◌, ◌^◌, ◌==◌, ◌||◌, Bool, true, false, cond, List, [], ◌∷◌, ◌++◌, length, length-append, slice_index_or, is_some, refl, sym, ap, ◌∙◌, subst, arith, Some, None, option_map, ◌⊎◌, inl, inr, Result, Ok, Err, nat_le}
 use Rattle.std.specs.Result.{IsOk}
 use Rattle.std.proofs.lemmas.Bool.Decides.{eqb_tells, nat_tests}
 use Rattle.std.proofs.lemmas.Bool.{eq-eqb}
 use Rattle.esx_types.specs.declared.config.Config.{Config}
-use Rattle.esx_types.specs.declared.event.Event.{Event}
-use Rattle.esx_types.specs.declared.event.Answer.{Answer}
-use Rattle.esx_types.specs.declared.event.Refusal.{Refusal}
-use Rattle.esx_types.specs.declared.event.Refusal.TheVariants.{Full, OutOfMemory}
-use Rattle.esx_plain.specs.declared.scene.Scene.{Scene}
-use Rattle.esx_plain.specs.Replay.{opening, next, run, replay_of, shown_after}
-use Rattle.esx_plain.specs.Tree.{Node, Move, Up, Down, parent, alive, path, on_way, at, last_descent, IsTree, IsWalk}
-use Rattle.esx_plain.specs.History.{History, cursor, here, opened, done, answered, do_event, child, if_alive, down_once, down_to, then_go, redone, redo, scene_or, scene_at}
+use Rattle.esx_events.specs.declared.event.Event.{Event}
+use Rattle.esx_events.specs.declared.event.Answer.{Answer}
+use Rattle.esx_events.specs.declared.event.Refusal.{Refusal}
+use Rattle.esx_events.specs.declared.event.Refusal.TheVariants.{Full, OutOfMemory}
+use Rattle.esx_model.specs.declared.scene.Scene.{Scene}
+use Rattle.esx_model.specs.Replay.{opening, next, run, replay_of, shown_after}
+use Rattle.esx_model.specs.Tree.{Node, Move, Up, Down, parent, alive, path, on_way, at, last_descent, IsTree, IsWalk}
+use Rattle.esx_model.specs.History.{History, cursor, here, opened, done, answered, do_event, child, if_alive, down_once, down_to, then_go, redone, redo, scene_or, scene_at, book_at}
 use Rattle.esx_machine.specs.Machine as machines
-use Rattle.esx_machine.specs.Changes.{Back}
-use Rattle.esx_machine.specs.Machine.{Shows, Trades, Accepts, Refuses}
+use Rattle.esx_machine.specs.Machine.{Back}
+use Rattle.esx_machine.specs.Machine.{Shows, Trades, Accepts, Refuses, CanEpochsRise, book_in}
+use Rattle.esx_model.specs.Show.{shown}
+use Rattle.esx_model.specs.Epochs.{AreEpochsWithin}
+use Rattle.esx_model.proofs.Callers.{later_within, path_within}
 use Rattle.esx_journal.specs.declared.row.Row.{Row}
 use Rattle.esx_journal.specs.Row.{row_of, grown}
 use Rattle.esx_journal.specs.Journal.{Kept, Leads, IsAccepted, IsRow, AreDescents, Aims, Holds, kept_after}
 use Rattle.esx_journal.proofs.Lists.{pushed_there, pushed_set, pushed_elsewhere, pushed_length}
-use Rattle.esx_journal.proofs.Paths.{newest, alive_fits, way_self, is_other, parent_new, parent_old, alive_new, alive_old, path_new, path_old, way_new, parent_fits, walk_ends, way_below}
-use Rattle.esx_journal.proofs.Runs.{accepted_push, accepted_open, opens, grown_is, config_after, shows_after}
+use Rattle.esx_journal.proofs.Paths.{newest, alive_fits, way_self, is_other, parent_new, parent_old, alive_new, alive_old, path_new, path_old, way_new, parent_fits, walk_ends, way_below, path_short}
+use Rattle.esx_journal.proofs.Runs.{accepted_push, accepted_open, opens, grown_is, config_after, shows_after, book_shown, can_rise}
 use Rattle.esx_journal.proofs.Steps.{cursor_fits, descents_of}
 use Rattle.esx_journal.proofs.Moves.{redone_more, redone_stops, redo_none}
 
@@ -69,9 +72,23 @@ runs_at j m d h = (let old = accepted_here j m d h in old.runs ∙ ap (λ o. Ok 
 pub shows_at : (j : Kept) (m : History) {aim : List Move} (d : Row) → Aims j m aim → Shows j.machine (scene_at m)
 shows_at j m d h = (let P : Scene → Type 0 = Shows j.machine in subst P (sym (ap (scene_or m.config) (accepted_here j m d h).runs)) (shows_here j m d h))
 
-pub book_is : (j : Kept) (m : History) {aim : List Move} (d : Row) → Aims j m aim → replay_of m.config (here m) ≡ Ok j.machine.book
-unfolding kept_after
-book_is j m d h = ap (shown_after m.config) (runs_at j m d h) ∙ ap (λ (k : machines.Kept). Ok k.book) (sym h.shows)
+-- the book is that of the cursor's path
+pub book_here : (j : Kept) (m : History) {aim : List Move} (d : Row) → Aims j m aim → book_in j.machine ≡ book_at m
+book_here j m d h = book_shown j.machine (scene_at m) (shows_at j m d h) ∙ ap (λ q. shown q (scene_at m)) (config_is j m h)
+
+pub book_is : (j : Kept) (m : History) {aim : List Move} (d : Row) → Aims j m aim → replay_of m.config (here m) ≡ Ok (book_in j.machine)
+book_is j m d h = ap (shown_after m.config) (runs_at j m d h) ∙ ap (λ b. Ok b) (sym (book_here j m d h))
+
+-- no epoch is above the number of nodes
+pub epochs_here : (j : Kept) (m : History) {aim : List Move} (d : Row) → Aims j m aim → AreEpochsWithin (length m.nodes) (scene_at m).site
+epochs_here j m d h =
+    let short = path_short m.nodes (cursor m) h.tree (cursor_fits j m _ h) in
+    let fits = cursor_fits j m _ h in
+    later_within (length (here m)) (length m.nodes) (scene_at m).site (omega arith) (path_within m.config (here m) (scene_at m) (runs_at j m d h))
+
+-- so each can rise
+pub rise_here : (j : Kept) (m : History) {aim : List Move} (d : Row) → Aims j m aim → length m.nodes + 1 < 2 ^ 32 → CanEpochsRise j.machine.tables
+rise_here j m d h room = can_rise j.machine (scene_at m) (length m.nodes) (shows_at j m d h) (epochs_here j m d h) room
 
 abbrev pub node_of : History → Event → Node
 node_of m e = record { parent = cursor m; event = e; alive = true }

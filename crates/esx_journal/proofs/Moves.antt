@@ -1,8 +1,8 @@
 -- Several moves.
 use Rattle.std.proofs.Common.{◌≡◌, ◌≢◌, ℕ, zero, suc, ◌+◌, ◌<◌, ◌≤◌, ◌==◌, true, false, cond, List, [], ◌∷◌, length, length-append, is_some, refl, sym, ap, ◌∙◌, arith, Option, Some, None, option_map, ◌⊎◌, inl, inr, add-one}
 use Rattle.std.proofs.lemmas.Bool.Decides.{eqb_tells, nat_tests}
-use Rattle.esx_plain.specs.Tree.{Move, Down, parent, path, at, last_descent, IsTree, IsWalk}
-use Rattle.esx_plain.specs.History.{History, cursor, here, up_once, down_once, down_to, child, if_alive, undone, redone, undo, redo, then_go, jumped}
+use Rattle.esx_model.specs.Tree.{Move, Down, parent, path, at, last_descent, IsTree, IsWalk}
+use Rattle.esx_model.specs.History.{History, cursor, here, up_once, down_once, down_to, child, if_alive, undone, redone, undo, redo, then_go, jumped}
 use Rattle.esx_journal.specs.declared.row.Row.{Row}
 use Rattle.esx_journal.specs.Row.{LastsFit, kept_child, child_at}
 use Rattle.esx_journal.specs.Journal.{Kept, Holds, Aims}

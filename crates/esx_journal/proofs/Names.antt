@@ -2,11 +2,11 @@
 use Rattle.std.proofs.Common.{◌≡◌, ℕ, Bool, true, false, cond, ◌||◌, List, [], ◌∷◌, ◌++◌, Ok, Err, refl, sym, ap, ◌∙◌, Option, Some, None, option_map, is_some, find, bytes_eq}
 use Rattle.std.specs.Map.{lookup}
 use Rattle.std.specs.List.{list_any}
-use Rattle.esx_types.specs.declared.call.NameRow.{NameRow}
-use Rattle.esx_types.specs.declared.event.Refusal.TheVariants.{NoSuchName, NameTaken}
-use Rattle.esx_plain.specs.Tree.{Move}
-use Rattle.esx_plain.specs.History.{History, cursor}
-use Rattle.esx_plain.specs.Branching.{named, go_to_mark, goto, visit, mark}
+use Rattle.esx_events.specs.declared.call.NameRow.{NameRow}
+use Rattle.esx_events.specs.declared.event.Refusal.TheVariants.{NoSuchName, NameTaken}
+use Rattle.esx_model.specs.Tree.{Move}
+use Rattle.esx_model.specs.History.{History, cursor}
+use Rattle.esx_model.specs.Branching.{named, go_to_mark, goto, visit, mark}
 use Rattle.esx_journal.specs.Journal.{Kept, Aims}
 use Rattle.esx_journal.specs.Marks.{rows_of, node_named}
 

@@ -2,8 +2,8 @@
 use Rattle.std.proofs.Common.{◌≡◌, ◌≢◌, ℕ, zero, suc, ◌+◌, ◌<◌, ◌≤◌, ◌==◌, ◌||◌, Bool, true, false, cond, List, [], ◌∷◌, ◌++◌, length, refl, sym, ap, ◌∙◌, arith, length-append, ◌⊎◌, inl, inr}
 use Rattle.std.proofs.lemmas.Bool.Decides.{eqb_tells}
 use Rattle.std.proofs.lemmas.Bool.{eq-eqb, eqb-true}
-use Rattle.esx_types.specs.declared.event.Event.{Event}
-use Rattle.esx_plain.specs.Tree.{Node, Move, Up, Down, parent, alive, path, on_way, at, IsTree, IsWalk}
+use Rattle.esx_events.specs.declared.event.Event.{Event}
+use Rattle.esx_model.specs.Tree.{Node, Move, Up, Down, parent, alive, path, on_way, at, IsTree, IsWalk}
 
 pub newest : (n k : ℕ) → n ≤ k + 1 → (n ≡ k + 1) ⊎ (n ≤ k)
 newest n k h = elim (eqb_tells n (k + 1)) as (λ _. (n ≡ k + 1) ⊎ (n ≤ k)) [ inl e ↦ inl e.1 | inr e ↦ inr (let f = e.1 in omega arith) ]

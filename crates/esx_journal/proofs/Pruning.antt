@@ -2,8 +2,8 @@
 use Rattle.std.proofs.Common.{◌≡◌, ◌≢◌, ℕ, zero, suc, ◌+◌, ◌≤◌, ◌==◌, ◌||◌, ◌&&◌, Bool, true, false, not, cond, List, [], ◌∷◌, ◌++◌, length, refl, sym, ap, ◌∙◌, arith, Some, ◌⊎◌, inl, inr}
 use Rattle.std.proofs.lemmas.Bool.Decides.{eqb_tells}
 use Rattle.std.proofs.lemmas.Bool.{eqb-true}
-use Rattle.esx_plain.specs.Tree.{Node, Move, Up, Down, parent, alive, path, on_way, at, last_descent, IsTree, IsWalk}
-use Rattle.esx_plain.specs.Branching.{dropped, standing_below}
+use Rattle.esx_model.specs.Tree.{Node, Move, Up, Down, parent, alive, path, on_way, at, last_descent, IsTree, IsWalk}
+use Rattle.esx_model.specs.Branching.{dropped, standing_below}
 use Rattle.esx_journal.proofs.Paths.{newest, way_new, way_old, alive_new, alive_old, way_below}
 
 pub dropped_length : (n : ℕ) (nodes : List Node) → length (dropped n nodes) ≡ length nodes

@@ -2,15 +2,15 @@
 use Rattle.std.proofs.Common.{◌≡◌, ◌≢◌, ℕ, zero, suc, ◌+◌, ◌≤◌, ◌==◌, Bool, true, false, cond, List, [], ◌∷◌, ◌++◌, length, refl, sym, ap, ◌∙◌, subst, arith, Option, Some, None, option_map, ◌⊎◌, inl, inr, Result, Ok, Err, is_some, nat_le, nat_lt}
 use Rattle.std.proofs.lemmas.Bool.Decides.{eqb_tells}
 use Rattle.esx_types.specs.declared.config.Config.{Config}
-use Rattle.esx_types.specs.declared.event.Event.{Event}
-use Rattle.esx_types.specs.declared.event.Answer.{Answer}
-use Rattle.esx_types.specs.declared.event.Refusal.{Refusal}
-use Rattle.esx_types.specs.declared.event.Refusal.TheVariants.{NoSuchNode, NameTaken, NoSuchName, OnPath, Full}
-use Rattle.esx_plain.specs.declared.scene.Scene.{Scene}
-use Rattle.esx_plain.specs.Replay.{opening, next, run, run_from, replay_of, shown_after}
-use Rattle.esx_plain.specs.Tree.{Node, alive, path, on_way, at, IsTree, IsWalk}
-use Rattle.esx_plain.specs.History.{History, cursor, here, opened, done, answered, do_event, scene_or, scene_at, book_at, undone, redone, undo, redo, jumped}
-use Rattle.esx_plain.specs.Branching.{stands, gone_to, goto, visit, mark, prune, dropped, standing_below, is_on_path}
+use Rattle.esx_events.specs.declared.event.Event.{Event}
+use Rattle.esx_events.specs.declared.event.Answer.{Answer}
+use Rattle.esx_events.specs.declared.event.Refusal.{Refusal}
+use Rattle.esx_events.specs.declared.event.Refusal.TheVariants.{NoSuchNode, NameTaken, NoSuchName, OnPath, Full}
+use Rattle.esx_model.specs.declared.scene.Scene.{Scene}
+use Rattle.esx_model.specs.Replay.{opening, next, run, run_from, replay_of, shown_after}
+use Rattle.esx_model.specs.Tree.{Node, alive, path, on_way, at, IsTree, IsWalk}
+use Rattle.esx_model.specs.History.{History, cursor, here, opened, done, answered, do_event, scene_or, scene_at, book_at, undone, redone, undo, redo, jumped}
+use Rattle.esx_model.specs.Branching.{stands, gone_to, goto, visit, mark, prune, dropped, standing_below, is_on_path}
 use Rattle.esx_journal.specs.Marks.{node_named}
 use Rattle.esx_journal.specs.Reached.{IsReached, Opened, Did, Undid, Redid, Went, Visited, Named, Pruned}
 use Rattle.esx_journal.specs.Turns.{Shortens, Lengthens}
@@ -20,7 +20,7 @@ use Rattle.esx_journal.proofs.Sinking.{alive_of, goto_none, goto_some}
 use Rattle.esx_journal.proofs.Pruning.{dropped_length, dropped_path, dropped_way, dropped_tree, dropped_at, dropped_walk, stands_after, still_stands, way_through, false_by}
 use Rattle.esx_journal.proofs.Dropping.{without, off_path, prune_none, prune_refused, prune_done}
 use Rattle.esx_journal.proofs.Paths.{alive_fits, way_zero, newest, parent_new, alive_old, path_new, path_old, way_old, way_below, way_same, walk_ends}
-use Rattle.esx_plain.proofs.Callers.{run_one_more}
+use Rattle.esx_journal.proofs.Runs.{run_one_more}
 use Rattle.esx_journal.proofs.Steps.{IsChild, descents_of, is_child, child_by}
 use Rattle.esx_journal.proofs.Moves.{redone_back}
 use Rattle.esx_journal.proofs.Grows.{node_of, at_grown, walk_grown, way_done}

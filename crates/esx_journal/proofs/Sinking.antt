@@ -2,10 +2,11 @@
 use Rattle.std.proofs.Common.{◌≡◌, ◌≢◌, ℕ, zero, suc, ◌+◌, ◌-◌, ◌<◌, ◌≤◌, ◌==◌, ◌||◌, Bool, true, false, cond, List, [], ◌∷◌, ◌++◌, length, length-append, slice_set, slice_index_or, refl, sym, ap, ◌∙◌, subst, arith, Option, Some, None, Ok, Err, nat_lt, ◌⊎◌, inl, inr}
 use Rattle.std.proofs.lemmas.Bool.Decides.{eqb_tells, nat_tests}
 use Rattle.std.proofs.lemmas.Bool.{eq-eqb}
-use Rattle.esx_types.specs.declared.event.Refusal.TheVariants.{NoSuchNode}
-use Rattle.esx_plain.specs.Tree.{Node, Move, Up, Down, parent, alive, path, at, last_descent, IsTree}
-use Rattle.esx_plain.specs.History.{History, cursor, if_alive, jumped}
-use Rattle.esx_plain.specs.Branching.{line, way, stands, gone_to, goto}
+use Rattle.esx_events.specs.declared.event.Refusal.TheVariants.{NoSuchNode}
+use Rattle.esx_model.specs.Tree.{Node, Move, Up, Down, parent, alive, path, at, last_descent, IsTree}
+use Rattle.esx_model.specs.History.{History, cursor, if_alive, jumped}
+use Rattle.esx_model.specs.Tree.{line, way}
+use Rattle.esx_model.specs.Branching.{stands, gone_to, goto}
 use Rattle.esx_journal.specs.Turns.{above}
 use Rattle.esx_journal.specs.declared.row.Row.{Row}
 use Rattle.esx_journal.specs.Journal.{Kept, IsRow, Aims, Holds}

@@ -2,10 +2,10 @@
 use Rattle.std.proofs.Common.{◌≡◌, ◌≢◌, ℕ, ◌+◌, ◌<◌, ◌≤◌, ◌==◌, ◌||◌, zero, suc, Bool, true, false, cond, List, [], ◌∷◌, length, length-append, slice_set, slice_index_or, is_some, refl, sym, ap, ◌∙◌, subst, arith, Option, Some, None, ◌⊎◌, inl, inr}
 use Rattle.std.proofs.lemmas.Bool.Decides.{eqb_tells}
 use Rattle.esx_machine.specs.Machine as machines
-use Rattle.esx_machine.specs.Changes.{Back}
+use Rattle.esx_machine.specs.Machine.{Back}
 use Rattle.esx_machine.specs.Machine.{Trades}
-use Rattle.esx_plain.specs.Tree.{Node, Move, Up, Down, parent, alive, path, on_way, at, last_descent, IsWalk}
-use Rattle.esx_plain.specs.History.{History, cursor, up_once, down_to, child, if_alive}
+use Rattle.esx_model.specs.Tree.{Node, Move, Up, Down, parent, alive, path, on_way, at, last_descent, IsWalk}
+use Rattle.esx_model.specs.History.{History, cursor, up_once, down_to, child, if_alive}
 use Rattle.esx_journal.specs.declared.row.Row.{Row}
 use Rattle.esx_journal.specs.Row.{FlipsAt, Flipped}
 use Rattle.esx_journal.specs.Journal.{Kept, Leads, IsRow, AreDescents, Aims, Holds, kept_after}

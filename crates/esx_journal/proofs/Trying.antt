@@ -2,17 +2,18 @@
 use Rattle.std.proofs.Common.{◌≡◌, ℕ, ◌≤◌, List, [], ◌∷◌, ◌++◌, length, drop, append_assoc, append-nil, sym, ap, ◌∙◌, arith, Result, Ok, Err}
 use Rattle.std.proofs.lemmas.Grind.{common_steps}
 use Rattle.esx_types.specs.declared.config.Config.{Config}
-use Rattle.esx_types.specs.declared.event.Event.{Event}
-use Rattle.esx_types.specs.declared.event.Answer.{Answer}
-use Rattle.esx_types.specs.declared.event.Refusal.{Refusal}
-use Rattle.esx_types.specs.declared.call.Sum.{Sum}
-use Rattle.esx_plain.specs.declared.scene.Scene.{Scene}
-use Rattle.esx_plain.specs.Show.{shown}
-use Rattle.esx_plain.specs.Readings.{sum_of}
-use Rattle.esx_plain.specs.Replay.{next}
-use Rattle.esx_plain.specs.WhatIf.{tried, scene_then, replies_to, scene_of}
+use Rattle.esx_events.specs.declared.event.Event.{Event}
+use Rattle.esx_events.specs.declared.event.Answer.{Answer}
+use Rattle.esx_events.specs.declared.event.Refusal.{Refusal}
+use Rattle.esx_events.specs.declared.call.Sum.{Sum}
+use Rattle.esx_model.specs.declared.scene.Scene.{Scene}
+use Rattle.esx_model.specs.Show.{shown}
+use Rattle.esx_model.specs.Readings.{sum_of}
+use Rattle.esx_model.specs.Replay.{next}
+use Rattle.esx_model.specs.WhatIf.{tried, scene_then, replies_to, scene_of}
 use Rattle.esx_machine.specs.Machine as machines
-use Rattle.esx_machine.specs.Machine.{Shows, Accepts, Refuses}
+use Rattle.esx_machine.specs.Machine.{Shows, book_in}
+use Rattle.esx_journal.proofs.Runs.{book_shown}
 use Rattle.esx_journal.specs.Trial.{Told, Tells}
 
 abbrev pub Replies : Type 0
@@ -22,8 +23,8 @@ pub no_more : (es : List Event) (i : ℕ) → length es ≤ i → drop i es ≡ 
 no_more es i h = grind (arith, common_steps)
 
 -- the sum of a machine that shows a scene
-pub sum_is : (k : machines.Kept) (t : Scene) (s : Sum) → Shows k t → s ≡ sum_of k.book → s ≡ sum_of (shown k.config t)
-sum_is k t s shows e = e ∙ ap sum_of shows.book
+pub sum_is : (k : machines.Kept) (t : Scene) (s : Sum) → Shows k t → s ≡ sum_of (book_in k) → s ≡ sum_of (shown k.config t)
+sum_is k t s shows e = e ∙ ap sum_of (book_shown k t shows)
 
 -- no event
 pub told_none : (c : Config) (t : Scene) (xs : Replies) (s : Sum) → s ≡ sum_of (shown c t) → Told c t [] xs xs s

@@ -3,10 +3,10 @@ use Rattle.std.proofs.Common.{◌≡◌, ℕ, zero, suc, ◌+◌, ◌-◌, ◌�
 use Rattle.std.proofs.lemmas.List.{length-take-le}
 use Rattle.std.proofs.lemmas.List.Sums.{sum_by-cons}
 use Rattle.std.proofs.lemmas.Bool.Decides.{nat_tests}
-use Rattle.esx_plain.specs.Replay.{run}
-use Rattle.esx_plain.specs.Show.{shown}
-use Rattle.esx_plain.specs.Tree.{Node, Move, parent, alive, path, on_way, at, last_descent, IsTree, IsWalk}
-use Rattle.esx_plain.specs.History.{History, cursor, here, scene_or, if_alive, undone, undo, redone, redo, jumped, then_go}
+use Rattle.esx_model.specs.Replay.{run}
+use Rattle.esx_model.specs.Show.{shown}
+use Rattle.esx_model.specs.Tree.{Node, Move, parent, alive, path, on_way, at, last_descent, IsTree, IsWalk}
+use Rattle.esx_model.specs.History.{History, cursor, here, scene_or, if_alive, undone, undo, redone, redo, jumped, then_go}
 use Rattle.esx_journal.specs.Turns.{Turn, Undo, Redo, turned, back, forward, above, OnlyMoves, IsSamePlace, LeadsTo}
 use Rattle.esx_journal.proofs.Paths.{path_child, parent_fits, walk_ends}
 use Rattle.esx_journal.proofs.Moves.{Looked, redo_some}

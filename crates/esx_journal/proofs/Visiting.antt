@@ -5,14 +5,15 @@ use Rattle.std.proofs.lemmas.List.Folds.{find-append}
 use Rattle.std.proofs.lemmas.Slice.Eq.{bytes_eq-Decides}
 use Rattle.std.specs.Option.{option_or}
 use Rattle.esx_types.specs.declared.config.Config.{Config}
-use Rattle.esx_types.specs.declared.event.Refusal.{Refusal}
-use Rattle.esx_types.specs.declared.event.Refusal.TheVariants.{NoSuchNode, NameTaken, NoSuchName}
-use Rattle.esx_types.specs.declared.call.NameRow.{NameRow}
-use Rattle.esx_plain.specs.Replay.{run, replay_of}
-use Rattle.esx_plain.specs.Show.{shown}
-use Rattle.esx_plain.specs.Tree.{path}
-use Rattle.esx_plain.specs.History.{History, cursor, here, scene_or, jumped}
-use Rattle.esx_plain.specs.Branching.{IsShortest, line, way, stands, gone_to, goto, visit, mark, prune, named}
+use Rattle.esx_events.specs.declared.event.Refusal.{Refusal}
+use Rattle.esx_events.specs.declared.event.Refusal.TheVariants.{NoSuchNode, NameTaken, NoSuchName}
+use Rattle.esx_events.specs.declared.call.NameRow.{NameRow}
+use Rattle.esx_model.specs.Replay.{run, replay_of}
+use Rattle.esx_model.specs.Show.{shown}
+use Rattle.esx_model.specs.Tree.{path}
+use Rattle.esx_model.specs.History.{History, cursor, here, scene_or, jumped}
+use Rattle.esx_model.specs.Tree.{line, way}
+use Rattle.esx_model.specs.Branching.{IsShortest, stands, gone_to, goto, visit, mark, prune, named}
 use Rattle.esx_journal.specs.Reached.{IsReached}
 use Rattle.esx_journal.specs.Marks.{node_named}
 use Rattle.esx_journal.specs.Visits.{Visits, TakesOff}

@@ -5,8 +5,8 @@ use Rattle.std.proofs.lemmas.List.Sums.{common_prefix_len-le}
 use Rattle.std.proofs.lemmas.Grind.{common_steps, replicate_next}
 use Rattle.std.proofs.lemmas.Bool.Decides.{eqb_tells, nat_tests}
 use Rattle.std.proofs.lemmas.Bool.{eq-eqb}
-use Rattle.esx_plain.specs.Tree.{Node, Move, Up, Down, parent, at, IsTree, IsWalk}
-use Rattle.esx_plain.specs.Branching.{line, in_common, way}
+use Rattle.esx_model.specs.Tree.{Node, Move, Up, Down, parent, at, IsTree, IsWalk}
+use Rattle.esx_model.specs.Tree.{line, in_common, way}
 use Rattle.esx_journal.proofs.Paths.{newest, is_other, is_older, parent_new, parent_old, parent_below, parent_zero, walk_ends}
 
 line_new : (x : Node) (older : List Node) (n : ℕ) → n ≡ length older + 1 → line (x ∷ older) n ≡ line older x.parent ++ n ∷ []

@@ -1,21 +1,21 @@
 -- What a journal keeps of a history.
 use Rattle.std.specs.Prelude.{◌≡◌, ◌≢◌, ℕ, ◌+◌, ◌^◌, ◌<◌, ◌≤◌, Bool, true, false, List, [], ◌∷◌, length, Option, Some, None, is_some, slice_index_or, Result, Ok, Err, IsOk}
 use Rattle.esx_types.specs.declared.config.Config.{Config}
-use Rattle.esx_types.specs.declared.event.Event.{Event}
-use Rattle.esx_types.specs.declared.event.Answer.{Answer}
-use Rattle.esx_types.specs.declared.event.Refusal.{Refusal}
-use Rattle.esx_types.specs.declared.event.Refusal.TheVariants.{OutOfMemory}
-use Rattle.esx_types.specs.declared.call.Stand.{Stand}
-use Rattle.esx_types.specs.declared.call.NameRow.{NameRow}
-use Rattle.esx_plain.specs.declared.scene.Scene.{Scene}
-use Rattle.esx_plain.specs.Show.{shown}
-use Rattle.esx_plain.specs.Replay.{run}
-use Rattle.esx_plain.specs.Sound.{IsSound}
-use Rattle.esx_plain.specs.Tree.{Node, Move, Up, Down, parent, alive, path, on_way, last_descent, IsTree, IsWalk}
-use Rattle.esx_plain.specs.History.{History, cursor, here, scene_or, book_at}
-use Rattle.esx_plain.specs.Branching.{stands}
+use Rattle.esx_events.specs.declared.event.Event.{Event}
+use Rattle.esx_events.specs.declared.event.Answer.{Answer}
+use Rattle.esx_events.specs.declared.event.Refusal.{Refusal}
+use Rattle.esx_events.specs.declared.event.Refusal.TheVariants.{OutOfMemory}
+use Rattle.esx_events.specs.declared.call.Stand.{Stand}
+use Rattle.esx_events.specs.declared.call.NameRow.{NameRow}
+use Rattle.esx_model.specs.declared.scene.Scene.{Scene}
+use Rattle.esx_model.specs.Tables.{tables_of}
+use Rattle.esx_model.specs.Replay.{run}
+use Rattle.esx_model.specs.sound.Sound.{IsSound}
+use Rattle.esx_model.specs.Tree.{Node, Move, Up, Down, parent, alive, path, on_way, last_descent, IsTree, IsWalk}
+use Rattle.esx_model.specs.History.{History, cursor, here, scene_or, scene_at}
+use Rattle.esx_model.specs.Branching.{stands}
 use Rattle.esx_machine.specs.Machine as machines
-use Rattle.esx_machine.specs.Changes.{Back}
+use Rattle.esx_machine.specs.Machine.{Back}
 use Rattle.esx_machine.specs.Machine.{Trades}
 use Rattle.esx_journal.specs.declared.row.Row.{Row}
 
@@ -27,13 +27,17 @@ pub record Kept : Type 0 where
   pub nodes : ℕ
   pub marks : List NameRow
 
+-- the machine that shows a scene
+abbrev pub kept_of : Config → Scene → machines.Kept
+kept_of c t = record { config = c; level = t.level; tables = tables_of c t.site }
+
 -- the machine after a path
 unfoldable pub kept_after : Config → List Event → machines.Kept
-kept_after c events = record { config = c; book = shown c (scene_or c (run c events)) }
+kept_after c events = kept_of c (scene_or c (run c events))
 
 -- the machine where the cursor is
 abbrev pub kept_at : History → machines.Kept
-kept_at h = record { config = h.config; book = book_at h }
+kept_at h = kept_of h.config (scene_at h)
 
 -- no event of the path is refused, and the scene that it leads to is sound
 pub record IsAccepted (c : Config) (events : List Event) : Type 0 where
@@ -85,7 +89,7 @@ pub record IsKept (j : Kept) : Type 0 where
   pub aim : List Move
   pub holds : Aims j history aim
   pub fits : length history.nodes ≤ j.nodes
-  pub limit : j.nodes < 2 ^ 32
+  pub limit : j.nodes ≤ 2 ^ 24
 
 -- where the cursor is
 abbrev pub stand_at : History → Stand

@@ -1,10 +1,10 @@
 -- The histories that calls lead to.
 use Rattle.std.specs.Prelude.{◌≡◌, ℕ, List, Some, Ok}
 use Rattle.esx_types.specs.declared.config.Config.{Config}
-use Rattle.esx_types.specs.declared.event.Event.{Event}
-use Rattle.esx_types.specs.declared.event.Answer.{Answer}
-use Rattle.esx_plain.specs.History.{History, opened, do_event, undo, redo}
-use Rattle.esx_plain.specs.Branching.{goto, visit, mark, prune}
+use Rattle.esx_events.specs.declared.event.Event.{Event}
+use Rattle.esx_events.specs.declared.event.Answer.{Answer}
+use Rattle.esx_model.specs.History.{History, opened, do_event, undo, redo}
+use Rattle.esx_model.specs.Branching.{goto, visit, mark, prune}
 
 -- accepted events, moves, marks and prunes lead there from the opening of a site
 pub data IsReached (c : Config) : History → Type 0 where

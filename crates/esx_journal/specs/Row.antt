@@ -1,10 +1,10 @@
 -- What the rows of a journal do.
 use Rattle.std.specs.Prelude.{◌≡◌, ℕ, ◌+◌, ◌<◌, ◌≤◌, ◌==◌, ◌&&◌, ◌||◌, Bool, true, not, List, ◌++◌, ◌∷◌, [], length, Option, Some, None, is_some, slice_index_or, slice_set, if◌then◌else◌}
 use Rattle.esx_machine.specs.Machine as machines
-use Rattle.esx_machine.specs.Changes.{Back}
+use Rattle.esx_machine.specs.Machine.{Back}
 use Rattle.esx_machine.specs.Machine.{Trades}
-use Rattle.esx_plain.specs.Tree.{Node, parent, alive, on_way, IsTree}
-use Rattle.esx_plain.specs.Branching.{standing_below}
+use Rattle.esx_model.specs.Tree.{Node, parent, alive, on_way, IsTree}
+use Rattle.esx_model.specs.Branching.{standing_below}
 use Rattle.esx_journal.specs.declared.row.Row.{Row}
 
 -- the row of a new node

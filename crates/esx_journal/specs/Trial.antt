@@ -1,14 +1,14 @@
 -- What a try of events tells.
 use Rattle.std.specs.Prelude.{◌≡◌, List, ◌++◌, Result, Ok, Err}
 use Rattle.esx_types.specs.declared.config.Config.{Config}
-use Rattle.esx_types.specs.declared.event.Event.{Event}
-use Rattle.esx_types.specs.declared.event.Answer.{Answer}
-use Rattle.esx_types.specs.declared.event.Refusal.{Refusal}
-use Rattle.esx_types.specs.declared.call.Sum.{Sum}
-use Rattle.esx_plain.specs.declared.scene.Scene.{Scene}
-use Rattle.esx_plain.specs.Show.{shown}
-use Rattle.esx_plain.specs.Readings.{sum_of}
-use Rattle.esx_plain.specs.WhatIf.{replies_to, scene_of}
+use Rattle.esx_events.specs.declared.event.Event.{Event}
+use Rattle.esx_events.specs.declared.event.Answer.{Answer}
+use Rattle.esx_events.specs.declared.event.Refusal.{Refusal}
+use Rattle.esx_events.specs.declared.call.Sum.{Sum}
+use Rattle.esx_model.specs.declared.scene.Scene.{Scene}
+use Rattle.esx_model.specs.Show.{shown}
+use Rattle.esx_model.specs.Readings.{sum_of}
+use Rattle.esx_model.specs.WhatIf.{replies_to, scene_of}
 
 -- the replies grow by what the events answer, and the sum is that of the scene to which they lead
 pub record Told (c : Config) (t : Scene) (events : List Event) (old new : List (Result Answer Refusal)) (sum : Sum) : Type 0 where

@@ -1,9 +1,9 @@
 -- Undos and redos, one after another, and where they lead.
 use Rattle.std.specs.Prelude.{◌≡◌, ℕ, zero, suc, ◌-◌, ◌++◌, List, [], ◌∷◌, length, take, Option, Some, true, Ok}
-use Rattle.esx_types.specs.declared.event.Event.{Event}
-use Rattle.esx_plain.specs.Replay.{replay_of}
-use Rattle.esx_plain.specs.Tree.{Node, parent, alive, on_way, last_descent}
-use Rattle.esx_plain.specs.History.{History, cursor, here, book_at, then_go, undo, redo}
+use Rattle.esx_events.specs.declared.event.Event.{Event}
+use Rattle.esx_model.specs.Replay.{replay_of}
+use Rattle.esx_model.specs.Tree.{Node, parent, alive, on_way, last_descent}
+use Rattle.esx_model.specs.History.{History, cursor, here, book_at, then_go, undo, redo}
 
 -- An undo or a redo of so many events.
 pub data Turn : Type 0 where

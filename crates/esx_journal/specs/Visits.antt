@@ -1,9 +1,9 @@
 -- Where a goto leads, and what a prune takes off.
 use Rattle.std.specs.Prelude.{◌≡◌, ℕ, ◌+◌, ◌&&◌, not, length, List, ◌++◌, Ok}
-use Rattle.esx_plain.specs.Replay.{replay_of}
-use Rattle.esx_plain.specs.Tree.{Move, path, alive, on_way}
-use Rattle.esx_plain.specs.History.{History, cursor, here, book_at}
-use Rattle.esx_plain.specs.Branching.{IsShortest, standing_below}
+use Rattle.esx_model.specs.Replay.{replay_of}
+use Rattle.esx_model.specs.Tree.{Move, path, alive, on_way}
+use Rattle.esx_model.specs.History.{History, cursor, here, book_at}
+use Rattle.esx_model.specs.Branching.{IsShortest, standing_below}
 use Rattle.esx_journal.specs.Turns.{OnlyMoves}
 
 -- the cursor came to a node by the fewest moves, one jump was counted, and the tables are those of the node's path

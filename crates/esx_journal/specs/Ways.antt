@@ -1,8 +1,8 @@
 -- The way to a node.
 use Rattle.std.specs.Prelude.{◌≡◌, ℕ, zero, suc, ◌<◌, List, ◌∷◌, ◌++◌}
-use Rattle.esx_plain.specs.Tree.{Node, Move, Up, Down, parent, last_descent}
-use Rattle.esx_plain.specs.History.{History, cursor}
-use Rattle.esx_plain.specs.Branching.{line, way}
+use Rattle.esx_model.specs.Tree.{Node, Move, Up, Down, parent, last_descent}
+use Rattle.esx_model.specs.History.{History, cursor}
+use Rattle.esx_model.specs.Tree.{line, way}
 use Rattle.esx_journal.specs.Turns.{above}
 use Rattle.esx_journal.specs.Journal.{Kept, Aims}
 

@@ -2,19 +2,21 @@
 
 ghost use Rattle.std.specs.Prelude.{◌≡◌, ◌≢◌, ◌<◌, ◌≤◌, ◌+◌, ◌∷◌, ℕ, List, length, IfOk, IfErr, is_some, true, Some, Ok};
 ghost use Rattle.esx_types.specs.Ranges.{IsConfig};
-ghost use Rattle.esx_plain.specs.Replay.{replay_of};
-ghost use Rattle.esx_plain.specs.Tree.{Move, Down, parent, last_descent};
-ghost use Rattle.esx_plain.specs.History.{History, cursor, here, up_once, down_to, if_alive, redone, undo, redo, opened, do_event};
-ghost use Rattle.esx_plain.specs.Branching.{stands, is_on_path, goto, visit, mark, prune};
-ghost use Rattle.esx_plain.specs.WhatIf.{what_if};
+ghost use Rattle.esx_model.specs.Replay.{replay_of};
+ghost use Rattle.esx_model.specs.Tree.{Move, Down, parent, last_descent};
+ghost use Rattle.esx_model.specs.History.{History, cursor, here, up_once, down_to, if_alive, redone, undo, redo, opened, do_event, scene_at, book_at};
+ghost use Rattle.esx_model.specs.Branching.{stands, is_on_path, goto, visit, mark, prune};
+ghost use Rattle.esx_model.specs.WhatIf.{what_if};
+ghost use Rattle.esx_machine.specs.Machine.{Shows, book_in};
 ghost use Rattle.esx_journal.specs.Journal.{Aims, Holds, Moves, Goes, Names, Prunes, Does, stand_at, kept_at};
 ghost use Rattle.esx_journal.specs.Ways.{Climbed};
 
 use crate::marks::Marks;
 use crate::row::{Row, add_child, child_of, drop_below, flip_row, revert, take_room};
 use crate::trial::try_events;
+use esx_events::{Answer, Event, Name, Refusal, Sides, Stand};
 use esx_machine::Machine;
-use esx_types::{Answer, Bytes, Config, Event, Refusal, Rows, Sides, Stand};
+use esx_types::{Config, Rows};
 use std::alloc::{AllocError, Global};
 use std::marker::Model;
 
@@ -96,7 +98,9 @@ impl Journal {
     /// The machine, for questions. Its tables are those of the cursor's path.
     pub fn machine(&self) -> &Machine
         ensures tables { (h : History) → Holds self.now h → result.now ≡ kept_at h }
-        ensures replay { (h : History) → Holds self.now h → replay_of h.config (here h) ≡ Ok result.now.book }
+        ensures shows { (h : History) → Holds self.now h → Shows result.now (scene_at h) }
+        ensures book { (h : History) → Holds self.now h → book_in result.now ≡ book_at h }
+        ensures replay { (h : History) → Holds self.now h → replay_of h.config (here h) ≡ Ok (book_in result.now) }
     {
         &self.machine
     }
@@ -242,10 +246,10 @@ impl Journal {
     }
 
     /// Goes to the node that has a name, as `goto`. `NoSuchName` where no node was given it.
-    pub fn visit(&mut self, name: &[u8]) -> Result<Stand, Refusal>
+    pub fn visit(&mut self, name: &Name) -> Result<Stand, Refusal>
         ensures { (h : History) → Holds self.old h → Goes result self.old self.new (visit name.now h) }
     {
-        match self.marks.node_of(name) {
+        match self.marks.node_of(name.as_str()) {
             Some(node) => self.goto(node),
             None => Err(Refusal::NoSuchName),
         }
@@ -253,10 +257,10 @@ impl Journal {
 
     /// Gives the cursor's node a name, and answers the node. `NameTaken` where the name was given, also
     /// to a node that was pruned since.
-    pub fn mark(&mut self, name: Bytes) -> Result<u32, Refusal>
-        ensures { (h : History) → Holds self.old h → Names result self.old self.new (mark name h) }
+    pub fn mark(&mut self, name: &Name) -> Result<u32, Refusal>
+        ensures { (h : History) → Holds self.old h → Names result self.old self.new (mark name.now h) }
     {
-        if self.marks.node_of(name.as_slice()).is_some() {
+        if self.marks.node_of(name.as_str()).is_some() {
             return Err(Refusal::NameTaken);
         }
         self.marks.add(name, self.cursor)?;

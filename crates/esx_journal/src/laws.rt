@@ -3,12 +3,13 @@
 
 ghost use Rattle.std.specs.Prelude.{◌≡◌, ◌<◌, ◌≤◌, ◌+◌, ◌++◌, ◌∷◌, [], ℕ, List, length, sum_by, Some, None, Ok, Err, IfOk, IsOk, true, false};
 ghost use Rattle.esx_types.specs.declared.config.Config.{Config};
-ghost use Rattle.esx_types.specs.declared.event.Event.{Event};
-ghost use Rattle.esx_plain.specs.Replay.{run, replay_of};
-ghost use Rattle.esx_plain.specs.Tree.{alive, on_way};
-ghost use Rattle.esx_plain.specs.History.{History, cursor, here, done, undo, redo, scene_at};
-ghost use Rattle.esx_types.specs.declared.event.Refusal.TheVariants.{NoSuchNode, NameTaken, NoSuchName};
-ghost use Rattle.esx_plain.specs.Branching.{stands, goto, visit, mark, prune};
+ghost use Rattle.esx_events.specs.declared.event.Event.{Event};
+ghost use Rattle.esx_model.specs.Replay.{run, replay_of};
+ghost use Rattle.esx_model.specs.Tree.{alive, on_way};
+ghost use Rattle.esx_model.specs.History.{History, cursor, here, done, undo, redo, scene_at};
+ghost use Rattle.esx_events.specs.declared.event.Refusal.TheVariants.{NoSuchNode, NameTaken, NoSuchName};
+ghost use Rattle.esx_model.specs.Branching.{stands, goto, visit, mark, prune};
+ghost use Rattle.esx_machine.specs.Machine.{book_in};
 ghost use Rattle.esx_journal.specs.Journal.{Holds};
 ghost use Rattle.esx_journal.specs.Reached.{IsReached};
 ghost use Rattle.esx_journal.specs.Turns.{Turn, turned, back, forward, OnlyMoves, IsSamePlace, Shortens, Lengthens, LeadsTo};
@@ -72,7 +73,7 @@ pub fn ways_stand()
 /// The tables are those of a replay of the cursor's path, and no event of it is refused.
 pub fn path_runs(journal: &Journal)
     ensures scene { (h : History) → Holds journal.now h → run h.config (here h) ≡ Ok (scene_at h) }
-    ensures book { (h : History) → Holds journal.now h → replay_of h.config (here h) ≡ Ok journal.now.machine.book }
+    ensures book { (h : History) → Holds journal.now h → replay_of h.config (here h) ≡ Ok (book_in journal.now.machine) }
 {}
 
 /// An accepted event stands last on the cursor's path.

@@ -15,7 +15,8 @@ pub use marks::Marks;
 #[cfg(test)]
 mod tests {
     use crate::Journal;
-    use esx_types::{Answer, Bytes, Config, Event, Refusal, Stand, VmId, VmSpec};
+    use esx_events::{Answer, Event, Name, Refusal, Stand};
+    use esx_types::{Config, VmId, VmSpec};
     use std::alloc::Global;
     use std::test::Fail;
 
@@ -82,12 +83,14 @@ mod tests {
     fn names_a_node(rt: HostRuntime) -> Result<(), Fail> {
         let vm = VmId::new(0).ok_or("vm")?;
         let mut journal = started(rt.alloc(), vm)?;
-        let node = journal.mark(Bytes::copy_of(rt.alloc(), b"tip")?)?;
+        let name = Name::new(rt.alloc(), "tip")?.ok_or("name")?;
+        let node = journal.mark(&name)?;
         journal.undo(2)?;
-        let there = journal.visit(b"tip")?;
+        let there = journal.visit(&name)?;
         assert!(rt; node == 2);
         assert!(rt; there == Stand { node: 2, depth: 2 });
         assert!(rt; journal.marks().len() == 1);
+        assert!(rt; journal.marks().rows()?.len() == 1);
         Ok(())
     }
 

@@ -1,15 +1,15 @@
 //! What is kept of each node.
 
 ghost use Rattle.std.specs.Prelude.{◌≡◌, ◌<◌, ◌≤◌, ◌^◌, OnOk, IfOk, Some, List, length, slice_index_or, slice_set, vec_len, vec_capacity};
-ghost use Rattle.esx_plain.specs.Tree.{Node};
-ghost use Rattle.esx_machine.specs.Changes.{Back};
+ghost use Rattle.esx_model.specs.Tree.{Node};
+ghost use Rattle.esx_machine.specs.Machine.{Back};
 ghost use Rattle.esx_machine.specs.Machine.{Trades};
 ghost use Rattle.esx_machine.specs.Machine as machines;
 ghost use Rattle.esx_journal.specs.declared.row.Row.{Row};
 ghost use Rattle.esx_journal.specs.Row.{FlipsAt, Flipped, LastsFit, child_at, grown, AreNodes, Drops, emptied, is_gone};
 
+use esx_events::Answer;
 use esx_machine::{Machine, Record};
-use esx_types::Answer;
 use std::alloc::AllocError;
 
 /// A node. Its number is its place among the rows; node 0, the opening, has no record.

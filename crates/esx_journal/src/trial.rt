@@ -1,16 +1,17 @@
 //! Events that are tried and taken back.
 
-ghost use Rattle.std.specs.Prelude.{◌≡◌, ◌≤◌, ◌++◌, drop, length, IfOk};
-ghost use Rattle.esx_plain.specs.declared.scene.Scene.{Scene};
-ghost use Rattle.esx_plain.specs.Readings.{sum_of};
-ghost use Rattle.esx_plain.specs.Show.{shown};
-ghost use Rattle.esx_plain.specs.WhatIf.{replies_to, scene_of};
+ghost use Rattle.std.specs.Prelude.{◌≡◌, ◌≤◌, ◌+◌, ◌^◌, ◌++◌, drop, length, IfOk};
+ghost use Rattle.esx_model.specs.declared.scene.Scene.{Scene};
+ghost use Rattle.esx_model.specs.Epochs.{AreEpochsWithin};
+ghost use Rattle.esx_model.specs.Readings.{sum_of};
+ghost use Rattle.esx_model.specs.Show.{shown};
+ghost use Rattle.esx_model.specs.WhatIf.{replies_to, scene_of};
 ghost use Rattle.esx_machine.specs.Machine.{Shows};
 ghost use Rattle.esx_journal.specs.Trial.{Tells};
 
 use crate::row::revert;
+use esx_events::{Answer, Event, Refusal, Sum};
 use esx_machine::Machine;
-use esx_types::{Answer, Event, Refusal, Sum};
 use std::alloc::AllocError;
 
 /// Tries the events from a place on, up to the first that is refused, and takes them back. Adds what each
@@ -22,7 +23,8 @@ pub fn try_events(
     replies: &mut Vec<Result<Answer, Refusal>>,
 ) -> Result<Sum, AllocError>
     requires within { at ≤ length events.now }
-    requires shows { (scene : Scene) × Shows machine.old scene }
+    requires few { length events.now ≤ 64 }
+    requires shows { (scene : Scene) × Shows machine.old scene × AreEpochsWithin (2 ^ 24 + at) scene.site }
     ensures same { machine.new ≡ machine.old }
     ensures tells { (scene : Scene) → Shows machine.old scene
         → Tells result machine.old.config scene (drop at events.now) replies.old.items replies.new.items }

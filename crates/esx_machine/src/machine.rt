@@ -1,90 +1,93 @@
-//! The machine, and the records of its events.
+//! STUB: the public surface of a machine.
 
-use crate::change::{Change, exchange};
-use crate::copy::copy_book;
-use crate::plan::plan_event;
-use crate::reading::{page_state, sum_of};
-use crate::tables::Tables;
-use esx_level::Thresholds;
-use esx_plain::Book;
-use esx_types::{Answer, Config, Event, Level, Refusal, Said, Sum, VmId};
+ghost use Rattle.std.specs.Prelude.{◌≡◌, ◌≢◌, ◌+◌, IfOk, IfErr, count_by};
+ghost use Rattle.esx_types.specs.Ranges.{IsConfig};
+ghost use Rattle.esx_types.specs.Frames.{is_free};
+ghost use Rattle.esx_events.specs.declared.event.Refusal.TheVariants as refusals;
+ghost use Rattle.esx_model.specs.declared.scene.Scene.{Scene};
+ghost use Rattle.esx_model.specs.Site.{free_count};
+ghost use Rattle.esx_model.specs.Replay.{opening, next};
+ghost use Rattle.esx_model.specs.Readings.{sum_of, table_of, page_state, activity};
+ghost use Rattle.esx_model.specs.Advice.{advice};
+ghost use Rattle.esx_tables.specs.Sizes.{size_of, capped};
+ghost use Rattle.esx_machine.specs.Machine.{Kept, Shows, CanEpochsRise, Trades, Applies, turned, book_in};
+
+use crate::stub::nothing;
+use esx_events::{Activity, Answer, Event, Help, PageState, Refusal, Sum, TableRow};
+use esx_model::Book;
+use esx_tables::{RecordSize, SiteTables};
+use esx_types::{Config, Level, Rows, VmId};
 use std::alloc::{AllocError, Global};
 use std::marker::Model;
-use std::mem;
 
-/// A site's tables.
+/// A machine that makes one event, and flips a record.
 #[derive(Drop)]
 pub struct Machine {
     alloc: Global,
     config: Config,
-    tables: Tables,
+    level: Level,
+    tables: SiteTables,
 }
 
 impl Model for Machine {
     ghost use Rattle.esx_machine.specs.Machine.{Kept, IsKept};
-    ghost use Rattle.esx_machine.specs.Tables.{book_in};
 
     ghost Value = { Kept };
 
-    ghost view = { λ a. record { config = a.config; book = book_in a.tables } };
+    ghost view = { λ a. record { config = a.config; level = a.level; tables = a.tables } };
 
-    ghost invariant = { λ a. IsKept a.config (book_in a.tables) };
+    ghost invariant = { λ a. IsKept (record { config = a.config; level = a.level; tables = a.tables }) };
 }
 
-/// What leads from the tables after an event to those before it, and back.
+/// What leads from one state to another and back.
 #[derive(Drop)]
 pub struct Record {
     level: Level,
-    changes: Vec<Change>,
+    changes: esx_tables::Record,
 }
 
 impl Model for Record {
-    ghost use Rattle.esx_machine.specs.Changes.{Back};
+    ghost use Rattle.esx_machine.specs.Machine.{Back};
 
     ghost Value = { Back };
 
-    ghost view = { λ a. record { level = a.level; changes = a.changes.items } };
+    ghost view = { λ a. record { level = a.level; changes = a.changes } };
 }
 
 impl Machine {
-    ghost use Rattle.std.specs.Prelude.{◌≡◌, ◌≢◌, ◌+◌, count_by, IfOk, IfErr};
-    ghost use Rattle.esx_types.specs.Ranges.{IsConfig};
-    ghost use Rattle.esx_plain.specs.declared.scene.Scene.{Scene};
-    ghost use Rattle.esx_plain.specs.Site.{free_count};
-    ghost use Rattle.esx_plain.specs.Readings.{is_free, sum_of, page_state};
-    ghost use Rattle.esx_plain.specs.Replay.{next, opening};
-    ghost use Rattle.esx_machine.specs.Machine.{Kept, Shows, Trades, turned, Applies, page_answer};
-
-    /// A site with no virtual machines. `BadSpec` where one of its numbers is out of its range.
+    /// A machine with no virtual machine. `BadSpec` where a number of the site is out of its range.
     pub fn open(alloc: Global, config: Config) -> Result<Machine, Refusal>
         ensures shows { IfOk result (λ m. (m.config ≡ config) × Shows m (opening config)) }
         ensures checked { IfOk result (λ m. IsConfig config) }
         ensures refused { IfErr result (λ e. e ≢ Refusal.OutOfMemory → (e ≡ Refusal.BadSpec) × (¬ IsConfig config)) }
         ensures late { IfErr result (λ e. e ≡ Refusal.OutOfMemory → IsConfig config) }
     {
-        let config = config.check()?;
-        let tables = Tables::opening(alloc, &config)?;
-        Ok(Machine {
-            alloc,
-            config,
-            tables,
-        })
+        let _ = alloc;
+        let _ = config;
+        nothing();
+        unreachable!()
     }
 
     /// One event: its answer, and the record that leads back. A refusal is the first that applies, and
     /// changes nothing; neither does want of memory.
     pub fn apply(&mut self, event: &Event) -> Result<(Answer, Record), Refusal>
+        requires rise { CanEpochsRise self.old.tables }
         ensures { (scene : Scene) → Shows self.old scene → Applies result self.old self.new (next self.old.config scene event.now) }
     {
-        let plan = match plan_event(&self.tables, self.alloc, &self.config, event) {
-            Ok(plan) => plan,
-            Err(refusal) => return Err(refusal),
-        };
-        let mut changes = plan.changes;
-        let level = self.tables.level;
-        exchange(&mut self.tables, &mut changes);
-        self.tables.level = Thresholds::of(self.config).next(level, self.tables.free());
-        Ok((plan.answer, Record { level, changes }))
+        let _ = event;
+        nothing();
+        unreachable!()
+    }
+
+    /// Trades the record's rows with the machine's.
+    pub fn flip(&mut self, back: &mut Record)
+        requires fits { (there : Kept) × Trades back.old self.old there }
+        ensures { (there : Kept) → Trades back.old self.old there
+            → (self.new ≡ there) × Trades back.new there self.old × (back.new ≡ turned back.old self.old) }
+    {
+        let _ = back;
+        nothing();
+        unreachable!()
     }
 
     /// The site's numbers, as it was opened.
@@ -94,53 +97,82 @@ impl Machine {
         self.config
     }
 
-    /// A copy of every table.
-    pub fn book(&self) -> Result<Book, AllocError>
-        ensures { IfOk result (λ book. book ≡ self.now.book) }
+    /// How scarce frames are.
+    pub fn level(&self) -> Level
+        ensures { result ≡ self.now.level }
     {
-        copy_book(self.alloc, &self.tables)
+        self.level
     }
 
     /// How many frames are free.
     pub fn free(&self) -> u32
-        ensures rows { result ≡ count_by is_free self.now.book.frames }
+        ensures rows { result ≡ count_by is_free self.now.tables.frames }
         ensures shown { (scene : Scene) → Shows self.now scene → result ≡ free_count self.now.config.frames scene.site }
     {
-        self.tables.free()
+        nothing();
+        unreachable!()
     }
 
     /// How many frames are of each kind, and the level.
     pub fn sum(&self) -> Sum
-        ensures value { result ≡ sum_of self.now.book }
+        ensures value { result ≡ sum_of (book_in self.now) }
         ensures adds_up { result.overhead + result.private + result.shared + result.free ≡ self.now.config.frames }
     {
-        sum_of(&self.tables)
+        nothing();
+        unreachable!()
+    }
+
+    /// A copy of every table.
+    pub fn book(&self) -> Result<Book, AllocError>
+        ensures { IfOk result (λ book. book ≡ book_in self.now) }
+    {
+        nothing();
+        unreachable!()
+    }
+
+    /// A line for each virtual machine.
+    pub fn table(&self) -> Result<Rows<TableRow>, AllocError>
+        ensures { IfOk result (λ rows. rows ≡ table_of (book_in self.now)) }
+    {
+        nothing();
+        unreachable!()
     }
 
     /// Where a page is. `NoVm` where there is no such virtual machine, `OutOfRange` where it has no such page.
-    pub fn of_page(&self, vm: VmId, page: u32) -> Result<Said, Refusal>
-        ensures { result ≡ page_answer (page_state self.now.book vm page) }
+    pub fn of_page(&self, vm: VmId, page: u32) -> Result<PageState, Refusal>
+        ensures { result ≡ page_state (book_in self.now) vm page }
     {
-        match page_state(&self.tables, vm, page) {
-            Ok(state) => Ok(Said::Page { state }),
-            Err(refusal) => Err(refusal),
-        }
+        let _ = vm;
+        let _ = page;
+        nothing();
+        unreachable!()
     }
 
-    /// How scarce frames are.
-    pub fn level(&self) -> Level
-        ensures { result ≡ self.now.book.level }
+    /// The averages and the open period of a virtual machine. `NoVm` where there is no such one.
+    pub fn of_vm(&self, vm: VmId) -> Result<Activity, Refusal>
+        ensures { result ≡ activity (book_in self.now) vm }
     {
-        self.tables.level
+        let _ = vm;
+        nothing();
+        unreachable!()
     }
 
-    /// Trades the record's rows with the machine's.
-    pub fn flip(&mut self, back: &mut Record)
-        requires fits { (there : Kept) × Trades back.old self.old there }
-        ensures { (there : Kept) → Trades back.old self.old there
-            → (self.new ≡ there) × Trades back.new there self.old × (back.new ≡ turned back.old self.old) }
+    /// What lets a write to a page go on.
+    pub fn advise(&self, vm: VmId, page: u32) -> Result<Help, Refusal>
+        ensures { (scene : Scene) → Shows self.now scene → result ≡ advice self.now.config scene vm page }
     {
-        exchange(&mut self.tables, &mut back.changes);
-        mem::swap(&mut self.tables.level, &mut back.level);
+        let _ = vm;
+        let _ = page;
+        nothing();
+        unreachable!()
+    }
+}
+
+impl Record {
+    /// How much it holds.
+    pub fn size(&self) -> RecordSize
+        ensures { result ≡ capped (size_of self.now.changes) }
+    {
+        self.changes.size()
     }
 }

@@ -33,3 +33,5 @@ pub use Rattle.esx_model.proofs.Books.{book_read}
 pub use Rattle.esx_model.proofs.Lists.{row_in_rows, some_below}
 pub use Rattle.esx_model.proofs.Counts.{counts_same}
 pub use Rattle.esx_model.proofs.event.Starting.{starts}
+-- Epochs on a path.
+pub use Rattle.esx_model.proofs.Epochs.{later_within, event_within, path_within, each_within, shown_within}

@@ -17,3 +17,4 @@ pub mod Alone
 pub mod Tables
 pub mod Moved
 pub mod Laws
+pub mod Epochs

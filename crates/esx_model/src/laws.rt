@@ -1,6 +1,7 @@
 //! Laws of the model.
 
 ghost use Rattle.esx_model.specs.Laws.{IsOpeningSound, IsEachEventSound, IsEachPathSound, IsEachPressedSiteFull, IsReadHarmless, HaveSitesTargets, AreAllFramesCounted, IsBookRead, IsEachPathWithinReserves};
+ghost use Rattle.esx_model.specs.Epochs.{IsEpochRaisedOnce, AreEpochsCounted, IsEachEpochCounted, AreEpochsShown};
 
 /// A path begins at a sound site.
 pub fn opening_is_sound()
@@ -45,4 +46,12 @@ pub fn book_is_read()
 /// Each path keeps targets, pages out and hints within their bounds.
 pub fn each_path_is_within_reserves()
     ensures { IsEachPathWithinReserves }
+{}
+
+/// An event raises a machine's epoch by one at most, so on each path it is at most the number of events.
+pub fn epochs_are_counted()
+    ensures event { IsEpochRaisedOnce }
+    ensures path { AreEpochsCounted }
+    ensures each { IsEachEpochCounted }
+    ensures shown { AreEpochsShown }
 {}

@@ -1,6 +1,6 @@
 use Rattle.std.proofs.Common.{◌∙◌, sym, ap}
-use Rattle.esx_plain.specs.Replay.{run}
-use Rattle.esx_plain.specs.History.{here}
+use Rattle.esx_model.specs.Replay.{run}
+use Rattle.esx_model.specs.History.{here}
 use Rattle.esx_journal.proofs.Reaching.{reached_steady, runs_here}
 use Rattle.esx_journal.proofs.laws.reached_path_runs.Goals as goal
 

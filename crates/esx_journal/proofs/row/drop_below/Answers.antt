@@ -1,5 +1,5 @@
 use Rattle.std.proofs.Common.{rules, ◌≡◌, ◌≤◌, ◌<◌, ◌+◌, ◌^◌, slice_index_or, slice_set, ◌&&◌, ℕ, ◌∙◌, sym, ap, subst, arith, refl, length, List}
-use Rattle.esx_plain.specs.Tree.{Node, alive, on_way}
+use Rattle.esx_model.specs.Tree.{Node, alive, on_way}
 use Rattle.esx_journal.specs.declared.row.Row.{Row}
 use Rattle.esx_journal.specs.Row.{AreNodes, emptied, is_gone}
 use Rattle.esx_journal.proofs.Lists.{set_length}

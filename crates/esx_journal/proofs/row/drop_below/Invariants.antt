@@ -1,5 +1,5 @@
 use Rattle.std.proofs.Common.{◌≡◌, ◌≤◌, ◌+◌, length, List}
-use Rattle.esx_plain.specs.Tree.{Node}
+use Rattle.esx_model.specs.Tree.{Node}
 use Rattle.esx_journal.specs.Row.{AreNodes}
 use Rattle.esx_journal.proofs.Dropping.{Dropping}
 use Rattle.esx_journal.proofs.row.drop_below.Given as goal

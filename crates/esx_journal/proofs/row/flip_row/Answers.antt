@@ -1,5 +1,5 @@
 use Rattle.std.proofs.Common.{◌≡◌, ◌∙◌, sym, ap, subst, Some, slice_index_or, slice_set}
-use Rattle.esx_machine.specs.Changes.{Back}
+use Rattle.esx_machine.specs.Machine.{Back}
 use Rattle.esx_machine.specs.Machine.{Trades}
 use Rattle.esx_journal.specs.declared.row.Row.{Row}
 use Rattle.esx_journal.proofs.Lists.{any_default}

@@ -1,11 +1,14 @@
-use Rattle.std.proofs.Common.{◌≡◌, ◌<◌, ◌≢◌, ◌++◌, ◌∷◌, [], drop, length, ◌∙◌, sym, ap, subst, arith, List, ◌+◌, suc, Ok, Err, is_ok, if◌then◌else◌}
+use Rattle.std.proofs.Common.{rules, ℕ, ◌^◌, ◌≡◌, ◌<◌, ◌≢◌, ◌++◌, ◌∷◌, [], drop, length, ◌∙◌, sym, ap, subst, arith, List, ◌+◌, suc, Ok, Err, is_ok, if◌then◌else◌}
 use Rattle.std.proofs.Math.Seq.{drop-cons}
 use Rattle.esx_types.specs.declared.config.Config.{Config}
-use Rattle.esx_types.specs.declared.event.Event.{Event}
-use Rattle.esx_types.specs.declared.event.Refusal.TheVariants.{OutOfMemory}
-use Rattle.esx_plain.specs.Readings.{sum_of}
+use Rattle.esx_events.specs.declared.event.Event.{Event}
+use Rattle.esx_events.specs.declared.event.Refusal.TheVariants.{OutOfMemory}
+use Rattle.esx_model.specs.Readings.{sum_of}
 use Rattle.esx_machine.specs.Machine as machines
-use Rattle.esx_machine.specs.Machine.{Shows, Trades}
+use Rattle.esx_machine.specs.Machine.{Shows, Trades, book_in}
+use Rattle.esx_model.specs.Epochs.{AreEpochsWithin}
+use Rattle.esx_model.proofs.Callers.{event_within}
+use Rattle.esx_journal.proofs.Runs.{can_rise}
 use Rattle.esx_journal.specs.Trial.{Told, Tells}
 use Rattle.esx_journal.proofs.Trying.{Replies, no_more, sum_is, told_none, tells_more, told_refused}
 use Rattle.esx_journal.proofs.trial.+try_events.Goals as goal
@@ -15,6 +18,24 @@ returns-then-at-events-clause-tells t c = λ scene shows.
     let e = c.if-at-events.true in
     let P : List Event → Type 0 = λ es. Told c.args.machine.now.config scene es c.args.replies.now.items c.args.replies.now.items c.sum.result in
     subst P (sym (no_more c.args.events.now c.args.at (omega arith))) (told_none c.args.machine.now.config scene c.args.replies.now.items c.sum.result (sum_is c.args.machine.now scene c.sum.result shows c.sum.ensures.value))
+
+pub apply-requires : goal.apply-requires
+apply-requires t c =
+    let s = c.requires.shows in
+    let within = c.requires.within in
+    let few = c.requires.few in
+    record { rise = can_rise c.args.machine.now s.0 (2 ^ 24 + c.args.at) s.1 s.2 (omega arith) }
+
+pub try_events-after-requires : goal.try_events-after-requires
+try_events-after-requires t c =
+    let s = c.requires.shows in
+    let x = c.in-Ok.ensures s.0 s.1 in
+    let within = c.requires.within in
+    let f = c.if-at-events.false in
+    let next : (2 ^ 24 + c.args.at) + 1 ≡ 2 ^ 24 + (c.args.at + 1) = omega arith in
+    let P : ℕ → Type 0 = λ k. AreEpochsWithin k x.after.site in
+    let epochs = subst P next (event_within c.args.machine.now.config (2 ^ 24 + c.args.at) s.0 c.index-events-at.result (c.in-Ok.answer, x.after) s.2 x.gives) in
+    (search rules, (omega arith, (c.requires.few, (x.after, x.shows, epochs))))
 
 pub returns-in-Ok-clause-same : goal.returns-in-Ok-clause-same
 returns-in-Ok-clause-same t c =
@@ -59,7 +80,7 @@ returns-in_default t c =
     record {
       same = same;
       tells = λ scene shows. (
-          let sum = sum_is k scene c.sum-in_default.result shows (c.sum-in_default.ensures.value ∙ ap (λ (m : machines.Kept). sum_of m.book) same) in
+          let sum = sum_is k scene c.sum-in_default.result shows (c.sum-in_default.ensures.value ∙ ap (λ (m : machines.Kept). sum_of (book_in m)) same) in
           let P : List Event → Type 0 = λ l. Told k.config scene l c.args.replies.now.items c.push-in_default.new.self.items c.sum-in_default.result in
           let R : Replies → Type 0 = λ q. Told k.config scene (e ∷ drop (c.args.at + 1) es) c.args.replies.now.items q c.sum-in_default.result in
           subst P (sym rest) (subst R (sym pushed) (told_refused k.config scene e (drop (c.args.at + 1) es) c.in-Err.refusal c.args.replies.now.items c.sum-in_default.result ((c.in-Err.ensures scene shows).why no) sum)));

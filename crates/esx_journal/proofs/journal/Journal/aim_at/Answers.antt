@@ -1,6 +1,6 @@
 use Rattle.std.proofs.Common.{◌≡◌, ◌≤◌, ◌∙◌, ◌∷◌, sym, ap, subst, arith, length, List}
-use Rattle.esx_plain.specs.Tree.{Move, Down, parent}
-use Rattle.esx_plain.specs.History.{History}
+use Rattle.esx_model.specs.Tree.{Move, Down, parent}
+use Rattle.esx_model.specs.History.{History}
 use Rattle.esx_journal.specs.declared.row.Row.{Row}
 use Rattle.esx_journal.specs.Journal.{Kept, Aims}
 use Rattle.esx_journal.proofs.Paths.{parent_below}

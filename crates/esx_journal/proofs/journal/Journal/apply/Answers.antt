@@ -1,17 +1,17 @@
 use Rattle.std.proofs.Common.{rules, ◌≡◌, ◌∙◌, sym, ap, subst, arith, refl, ◌<◌, ◌+◌, ◌^◌, ◌∷◌, length, List, Result, Ok, Err}
 use Rattle.std.specs.Prelude.{IsErrAnd, IsOk}
-use Rattle.esx_types.specs.declared.event.Answer.{Answer}
-use Rattle.esx_types.specs.declared.event.Refusal.{Refusal}
+use Rattle.esx_events.specs.declared.event.Answer.{Answer}
+use Rattle.esx_events.specs.declared.event.Refusal.{Refusal}
 use Rattle.esx_machine.specs.Machine as machines
 use Rattle.esx_machine.specs.Machine.{Trades}
-use Rattle.esx_plain.specs.Tree.{Down}
-use Rattle.esx_plain.specs.History.{History, do_event, done}
+use Rattle.esx_model.specs.Tree.{Down}
+use Rattle.esx_model.specs.History.{History, do_event, done}
 use Rattle.esx_journal.specs.declared.row.Row.{Row}
 use Rattle.esx_journal.specs.Row.{grown}
 use Rattle.esx_journal.specs.Journal.{Kept, Holds, IsKept, Does, Refused, Accepted}
 use Rattle.esx_journal.proofs.Steps.{cursor_fits}
 use Rattle.esx_journal.proofs.Moves.{depth_small, no_row}
-use Rattle.esx_journal.proofs.Grows.{applied, accepted_is, refused, full_is, trades_back}
+use Rattle.esx_journal.proofs.Grows.{applied, accepted_is, refused, full_is, trades_back, rise_here}
 use Rattle.esx_journal.proofs.journal.Journal.apply.Goals as goal
 
 err_is : (r : Result (Answer × Answer) Refusal) (e : Refusal) → IsErrAnd r (λ x. x ≡ e) → r ≡ Err e
@@ -24,6 +24,13 @@ returns-then-made-self c = λ m h. record {
   why = λ _. full_is m c.args.event.now (let s = h.size in let l = h.limit in let v = ap (λ (x : Kept). x.nodes) c.self.view_is in let w = ap (λ (x : Kept). length x.rows) c.self.view_is in omega arith);
   late = λ o. cc;
 }
+
+pub apply-requires : goal.apply-requires
+apply-requires c =
+    let k = c.self.invariant in
+    let fits = k.fits in
+    let limit = k.limit in
+    record { rise = rise_here _ k.history no_row k.holds (omega arith) }
 
 pub invariant_of-self : goal.invariant_of-self
 invariant_of-self c =

@@ -1,5 +1,5 @@
 use Rattle.std.proofs.Common.{◌≡◌, ◌<◌, ap, arith}
-use Rattle.esx_plain.specs.History.{up_once}
+use Rattle.esx_model.specs.History.{up_once}
 use Rattle.esx_journal.specs.Ways.{ups}
 use Rattle.esx_journal.specs.Journal.{Kept}
 use Rattle.esx_journal.proofs.Sinking.{climb_first, climb_up, climb_aim, climbed, depth_some}

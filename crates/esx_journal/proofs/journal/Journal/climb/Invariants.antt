@@ -1,5 +1,5 @@
 use Rattle.std.proofs.Common.{◌+◌, ◌<◌, ◌≤◌, length}
-use Rattle.esx_plain.specs.History.{History}
+use Rattle.esx_model.specs.History.{History}
 use Rattle.esx_journal.specs.Journal.{Holds}
 use Rattle.esx_journal.proofs.Sinking.{Climbing}
 use Rattle.esx_journal.proofs.journal.Journal.climb.Given as goal

@@ -1,6 +1,6 @@
 use Rattle.std.proofs.Common.{◌≡◌, ◌<◌, ◌∙◌, true, sym, subst, arith, refl, ℕ, ◌-◌}
-use Rattle.esx_plain.specs.History.{jumped}
-use Rattle.esx_plain.specs.Branching.{stands, gone_to}
+use Rattle.esx_model.specs.History.{jumped}
+use Rattle.esx_model.specs.Branching.{stands, gone_to}
 use Rattle.esx_journal.specs.Journal.{Aims, Holds}
 use Rattle.esx_journal.specs.Turns.{above}
 use Rattle.esx_journal.specs.Ways.{downs}

@@ -1,6 +1,6 @@
 use Rattle.std.proofs.Common.{◌≡◌, ◌≤◌, true, length}
-use Rattle.esx_plain.specs.History.{History}
-use Rattle.esx_plain.specs.Branching.{stands}
+use Rattle.esx_model.specs.History.{History}
+use Rattle.esx_model.specs.Branching.{stands}
 use Rattle.esx_journal.specs.Journal.{Aims}
 use Rattle.esx_journal.specs.Ways.{Climbed}
 use Rattle.esx_journal.proofs.Sinking.{sunk}

@@ -1,6 +1,6 @@
 use Rattle.std.proofs.Common.{◌≡◌, ◌<◌, length, List}
-use Rattle.esx_plain.specs.Tree.{Move, on_way}
-use Rattle.esx_plain.specs.History.{History, cursor}
+use Rattle.esx_model.specs.Tree.{Move, on_way}
+use Rattle.esx_model.specs.History.{History, cursor}
 use Rattle.esx_journal.specs.Journal.{Aims}
 use Rattle.esx_journal.proofs.journal.Journal.is_on_path.Given as goal
 

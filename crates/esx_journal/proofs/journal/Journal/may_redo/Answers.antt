@@ -1,5 +1,5 @@
 use Rattle.std.proofs.Common.{◌≡◌, ◌∙◌, Some, sym, ap, subst, arith, ◌+◌, length, List, is_some}
-use Rattle.esx_plain.specs.History.{History}
+use Rattle.esx_model.specs.History.{History}
 use Rattle.esx_journal.specs.declared.row.Row.{Row}
 use Rattle.esx_journal.specs.Row.{LastsFit, child_at}
 use Rattle.esx_journal.specs.Journal.{Kept, Holds}

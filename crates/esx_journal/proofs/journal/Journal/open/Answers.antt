@@ -1,5 +1,5 @@
 use Rattle.std.proofs.Common.{rules, arith, refl, []}
-use Rattle.esx_plain.specs.History.{opened}
+use Rattle.esx_model.specs.History.{opened}
 use Rattle.esx_journal.proofs.Grows.{opens_with}
 use Rattle.esx_journal.proofs.journal.Journal.open.Goals as goal
 
@@ -9,7 +9,7 @@ invariant_of-result c = record {
   aim = [];
   holds = opens_with _ c.args.config c.in_ok-machine.ensures.shows.0 c.in_ok-machine.ensures.shows.1 (search rules) refl refl refl c.new.ensures;
   fits = omega arith;
-  limit = search rules;
+  limit = (let most = c.in_ok-machine.ensures.checked.most_nodes in omega arith);
 }
 
 pub returns-clause-opens : goal.returns-clause-opens

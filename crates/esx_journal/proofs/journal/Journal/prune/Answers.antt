@@ -1,6 +1,6 @@
 use Rattle.std.proofs.Common.{◌≡◌, ◌∙◌, sym, ap, subst, arith, refl, length, false, ℕ, Ok}
-use Rattle.esx_plain.specs.History.{History}
-use Rattle.esx_plain.specs.Branching.{is_on_path}
+use Rattle.esx_model.specs.History.{History}
+use Rattle.esx_model.specs.Branching.{is_on_path}
 use Rattle.esx_journal.specs.Journal.{Kept, Aims, Holds}
 use Rattle.esx_journal.proofs.Dropping.{nodes_of, pruned, without, off_path, prune_none, prune_refused, prune_done}
 use Rattle.esx_journal.proofs.Pruning.{dropped_length}

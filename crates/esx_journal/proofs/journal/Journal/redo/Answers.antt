@@ -1,5 +1,5 @@
 use Rattle.std.proofs.Common.{rules, ◌≡◌, ◌∙◌, sym, ap, subst, arith, refl}
-use Rattle.esx_plain.specs.History.{History, redone, jumped}
+use Rattle.esx_model.specs.History.{History, redone, jumped}
 use Rattle.esx_journal.specs.Journal.{Holds}
 use Rattle.esx_journal.proofs.Steps.{holds_down, is_child, child_by}
 use Rattle.esx_journal.proofs.Moves.{redone_back, none_by, some_by, redo_none, redo_some, holds_jumped}

@@ -1,5 +1,5 @@
 use Rattle.std.proofs.Common.{◌≡◌, Some}
-use Rattle.esx_plain.specs.History.{History, redone}
+use Rattle.esx_model.specs.History.{History, redone}
 use Rattle.esx_journal.specs.Journal.{Holds}
 use Rattle.esx_journal.proofs.journal.Journal.redo.Given as goal
 

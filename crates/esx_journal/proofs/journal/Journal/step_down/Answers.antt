@@ -1,6 +1,6 @@
 use Rattle.std.proofs.Common.{rules, ◌≡◌, ◌∙◌, sym, ap, subst, arith, refl, ◌<◌, ◌+◌, ◌^◌, length, ℕ, Some, List}
-use Rattle.esx_plain.specs.Tree.{Move, last_descent}
-use Rattle.esx_plain.specs.History.{History, cursor, down_to, if_alive}
+use Rattle.esx_model.specs.Tree.{Move, last_descent}
+use Rattle.esx_model.specs.History.{History, cursor, down_to, if_alive}
 use Rattle.esx_journal.specs.declared.row.Row.{Row}
 use Rattle.esx_journal.specs.Row.{LastsFit, child_at}
 use Rattle.esx_journal.specs.Journal.{Kept, Aims}

@@ -1,6 +1,6 @@
 use Rattle.std.proofs.Common.{ap, subst, arith, refl, ◌<◌, ◌-◌, List}
-use Rattle.esx_plain.specs.Tree.{Move, at}
-use Rattle.esx_plain.specs.History.{History, cursor, up_once}
+use Rattle.esx_model.specs.Tree.{Move, at}
+use Rattle.esx_model.specs.History.{History, cursor, up_once}
 use Rattle.esx_journal.specs.declared.row.Row.{Row}
 use Rattle.esx_journal.specs.Journal.{Kept, Aims}
 use Rattle.esx_journal.proofs.Paths.{parent_below}

@@ -1,5 +1,5 @@
 use Rattle.std.proofs.Common.{◌≡◌, sym, ap, subst, arith, refl, ℕ}
-use Rattle.esx_plain.specs.History.{History, undone, jumped}
+use Rattle.esx_model.specs.History.{History, undone, jumped}
 use Rattle.esx_journal.specs.Journal.{Kept, Holds}
 use Rattle.esx_journal.proofs.Steps.{holds_up}
 use Rattle.esx_journal.proofs.Moves.{undone_more, undo_none, undo_some, holds_jumped}

@@ -1,5 +1,5 @@
 use Rattle.std.proofs.Common.{◌≡◌, ◌+◌}
-use Rattle.esx_plain.specs.History.{History, undone}
+use Rattle.esx_model.specs.History.{History, undone}
 use Rattle.esx_journal.specs.Journal.{Holds}
 use Rattle.esx_journal.proofs.journal.Journal.undo.Given as goal
 
