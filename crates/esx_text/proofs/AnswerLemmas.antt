@@ -3,15 +3,15 @@ use Rattle.std.proofs.Common.{◌≡◌, ℕ, Bool, true, false, List, arith, �
 use Rattle.std.specs.Io.KnownBytes.{Appends}
 use Rattle.std.specs.Str.{IsUtf8}
 use Rattle.std.proofs.lemmas.Str.{IsUtf8-from_ascii}
-use Rattle.esx_types.specs.declared.call.Call.{Call}
-use Rattle.esx_types.specs.declared.call.Reply.{Reply}
-use Rattle.esx_plain.specs.Console.{Session, next_reply, lined}
-use Rattle.esx_text.specs.Writing.{WritesFront}
-use Rattle.esx_text.specs.Replies.{reply_text}
+use Rattle.esx_events.specs.declared.call.Call.{Call}
+use Rattle.esx_events.specs.declared.call.Reply.{Reply}
+use Rattle.esx_model.specs.Console.{Session, next_reply, lined}
+use Rattle.esx_writing.specs.Writing.{WritesFront}
+use Rattle.esx_replies.specs.Replies.{reply_text}
 use Rattle.esx_text.specs.Lines.{IsSilent, Keeps}
 use Rattle.esx_text.specs.Answers.{IsAsked, IsAnswered}
 use Rattle.esx_text.specs.Answers.IsAnswered.{asked}
-use Rattle.esx_text.proofs.CommandLemmas.{ascii_command}
+use Rattle.esx_words.proofs.CommandLemmas.{ascii_command}
 
 pub asked_is_utf8 : (line : List ℕ) (call : Call) → IsAsked line call → IsUtf8 line
 asked_is_utf8 line call is = IsUtf8-from_ascii line (ascii_command line call is.command)

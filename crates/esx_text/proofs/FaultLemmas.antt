@@ -6,12 +6,12 @@ use Rattle.std.proofs.lemmas.Bool.{cases_eq}
 use Rattle.std.proofs.lemmas.Grind.{flat_map-append}
 use Rattle.std.proofs.lemmas.List.{length-map, map-append}
 use Rattle.std.proofs.lemmas.List.Elements.{All-nil, All-cons, All-append, All-head, All-tail}
-use Rattle.esx_plain.specs.Console.{Session}
+use Rattle.esx_model.specs.Console.{Session}
 use Rattle.esx_text.specs.declared.fault.ServeFault.{ServeFault}
 use Rattle.esx_text.specs.declared.fault.ServeFault.TheVariants.{Read, Write, OutOfMemory}
 use Rattle.esx_text.specs.Lines.{HasNoFeed, EndsIn, line_of, last_line, lines, Keeps, Held}
 use Rattle.esx_text.specs.Answers.{IsAnswered, IsServed, Progress, Stops}
-use Rattle.esx_text.proofs.WritingLemmas.{appends_more}
+use Rattle.esx_writing.proofs.WritingLemmas.{appends_more}
 use Rattle.esx_text.proofs.LineLemmas.{ended_keeps, last_keeps}
 use Rattle.esx_text.proofs.ProgressLemmas.{some_held}
 

@@ -1,5 +1,3 @@
-pub mod CommandLemmas
-pub mod WritingLemmas
 pub mod LineLemmas
 pub mod AnswerLemmas
 pub mod ProgressLemmas

@@ -3,10 +3,10 @@ use Rattle.std.proofs.Common.{◌≡◌, ℕ, Bool, true, false, List, [], ◌�
 use Rattle.std.specs.Io.KnownBytes.{Appends, Consumes, IsAtEnd}
 use Rattle.std.proofs.lemmas.List.Elements.{All-nil}
 use Rattle.std.proofs.lemmas.List.{length-map, map-append}
-use Rattle.esx_plain.specs.Console.{Session}
+use Rattle.esx_model.specs.Console.{Session}
 use Rattle.esx_text.specs.Lines.{HasNoFeed, line_of, last_line, lines, Keeps, Held, Holds, IsHeld}
 use Rattle.esx_text.specs.Answers.{IsAnswered, AreAnswered, Progress, Answers}
-use Rattle.esx_text.proofs.WritingLemmas.{appends_more, appends_nothing}
+use Rattle.esx_writing.proofs.WritingLemmas.{appends_more, appends_nothing}
 use Rattle.esx_text.proofs.LineLemmas.{ends_more, ends_on, ended_keeps, last_keeps}
 
 pub answered_more : (n k caller : ℕ) (before : Session) (xs : List (List ℕ)) (text : List ℕ) (middle : Session) (line last : List ℕ) (after : Session)

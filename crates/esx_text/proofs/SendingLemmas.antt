@@ -3,12 +3,12 @@ use Rattle.std.proofs.Common.{◌≡◌, ℕ, List, [], ◌+◌, ◌⊎◌, inl,
 use Rattle.std.specs.Io.KnownBytes.{Keeps, Appends, Consumes}
 use Rattle.std.specs.Result.{IfOk, IfErr, IsErrAnd, IsErrOf}
 use Rattle.std.proofs.lemmas.List.Elements.{All-nil}
-use Rattle.esx_plain.specs.Console.{Session}
+use Rattle.esx_model.specs.Console.{Session}
 use Rattle.esx_text.specs.declared.fault.ServeFault.{ServeFault}
 use Rattle.esx_text.specs.declared.fault.ServeFault.TheVariants.{Read, Write, OutOfMemory}
 use Rattle.esx_text.specs.Lines.{HasNoFeed, line_of, last_line, lines, Held}
 use Rattle.esx_text.specs.Answers.{Progress, Answers, First, Stops, Faults, Ends, Reaches, read_faults}
-use Rattle.esx_text.proofs.WritingLemmas.{appends_nothing}
+use Rattle.esx_writing.proofs.WritingLemmas.{appends_nothing}
 use Rattle.esx_text.proofs.ProgressLemmas.{consumes_nothing}
 
 pub appends_kept : (a b c : Option (List ℕ)) (x : List ℕ) → Appends a b x → Keeps b c → Appends a c x

@@ -1,19 +1,19 @@
 -- What is written for what is read, and the session after it.
 use Rattle.std.specs.Prelude.{ℕ, List, [], ◌∷◌, ◌++◌, ◌≡◌, ◌+◌, ◌≤◌, ◌⊎◌, codes, decimal, length, map, Option, None, Some, Result, Ok, Err}
 use Rattle.std.specs.Io.KnownBytes.{Appends, Consumes, IsAtEnd}
-use Rattle.esx_types.specs.declared.call.Call.{Call}
-use Rattle.esx_plain.specs.Console.{Session, next_reply, lined}
+use Rattle.esx_events.specs.declared.call.Call.{Call}
+use Rattle.esx_model.specs.Console.{Session, next_reply, lined}
 use Rattle.esx_text.specs.declared.fault.ServeFault.{ServeFault}
 use Rattle.esx_text.specs.declared.fault.ServeFault.TheVariants.{Read, Write, OutOfMemory}
-use Rattle.esx_text.specs.Command.{IsCommand}
-use Rattle.esx_text.specs.Replies.{reply_text}
+use Rattle.esx_words.specs.Commands.{Spells}
+use Rattle.esx_replies.specs.Replies.{reply_text}
 use Rattle.esx_text.specs.Lines.{EndsIn, lines, line_of, IsSilent, Held, Holds}
-use Rattle.esx_text.specs.Writing.{WritesFront}
+use Rattle.esx_writing.specs.Writing.{WritesFront}
 
 -- the line is a command's, and not too long
 pub record IsAsked (line : List ℕ) (call : Call) : Type 0 where
   pub short : length line ≤ 16384
-  pub command : IsCommand line call
+  pub command : Spells line call
 
 -- the answer to line n, where it is no command
 abbrev pub unknown_text : ℕ → List ℕ

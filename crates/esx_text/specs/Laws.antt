@@ -1,8 +1,8 @@
 -- What is written for an input is determined.
 use Rattle.std.specs.Prelude.{ℕ, List, ◌≡◌}
-use Rattle.esx_types.specs.declared.call.Call.{Call}
-use Rattle.esx_plain.specs.Console.{Session}
-use Rattle.esx_text.specs.Command.{IsCommand}
+use Rattle.esx_events.specs.declared.call.Call.{Call}
+use Rattle.esx_model.specs.Console.{Session}
+use Rattle.esx_words.specs.Commands.{Spells}
 use Rattle.esx_text.specs.Lines.{EndsIn, IsSilent}
 use Rattle.esx_text.specs.Answers.{Serves}
 
@@ -10,13 +10,9 @@ use Rattle.esx_text.specs.Answers.{Serves}
 abbrev pub HasOneSplit : List ℕ → Type 0
 HasOneSplit text = (ended others : List (List ℕ)) (rest last : List ℕ) → EndsIn text ended rest → EndsIn text others last → (ended ≡ others) × (rest ≡ last)
 
--- a text is the line of one call at most
-abbrev pub SpellsOneCall : List ℕ → Type 0
-SpellsOneCall text = (a b : Call) → IsCommand text a → IsCommand text b → a ≡ b
-
 -- a text that is answered by nothing is the line of no call
 abbrev pub SpellsNoCall : List ℕ → Type 0
-SpellsNoCall text = IsSilent text → (call : Call) → IsCommand text call → ⊥
+SpellsNoCall text = IsSilent text → (call : Call) → Spells text call → ⊥
 
 -- an input is served in one way from each session
 abbrev pub HasOneAnswer : List ℕ → Type 0

@@ -1,12 +1,10 @@
-pub use Rattle.esx_types.specs.Numbers
-pub use Rattle.esx_plain.specs.Console
-pub use Rattle.hex.specs.Hex
+pub use Rattle.esx_model.specs.Console
 pub use Rattle.esx_reading.specs.Faults
 pub use Rattle.esx_reading.specs.Fields
 pub use Rattle.esx_reading.specs.Written
-pub mod Command
-pub mod Replies
-pub mod Writing
+pub use Rattle.esx_words.specs.Commands
+pub use Rattle.esx_replies.specs.Replies
+pub use Rattle.esx_writing.specs.Writing
 pub mod Lines
 pub mod Answers
 pub mod Laws

@@ -1,18 +1,19 @@
 //! The answer to a line.
 
 ghost use Rattle.std.specs.Prelude.{◌≡◌, ◌+◌, [], ℕ, List, IfOk, OnOk, MatchOption, IsTrue, ◌↔◌, IsErrOf};
-ghost use Rattle.esx_types.specs.declared.call.Call.{Call};
-ghost use Rattle.esx_plain.specs.Console.{Session};
+ghost use Rattle.esx_events.specs.declared.call.Call.{Call};
+ghost use Rattle.esx_model.specs.Console.{Session};
 ghost use Rattle.esx_text.specs.Lines.{Keeps, IsSilent};
 ghost use Rattle.esx_text.specs.Answers.{IsAsked, IsServed, write_faults};
 
-use crate::command::parse_command;
+use esx_words::parse_command;
 use crate::fault::ServeFault;
-use crate::reply::write_reply;
-use crate::writing::{AnswerBuffer, Piece, write_pieces};
+use esx_replies::write_reply;
+use esx_writing::{AnswerBuffer, Piece, write_pieces};
 use esx_console::Console;
 use esx_reading::TextFault;
-use esx_types::{Call, Sink};
+use esx_events::Call;
+use esx_types::Sink;
 use std::alloc::{AllocError, Global};
 
 /// The longest line of a command, in bytes.

@@ -2,16 +2,11 @@
 //! session before.
 
 ghost use Rattle.std.specs.Prelude.{ℕ, List};
-ghost use Rattle.esx_text.specs.Laws.{HasOneSplit, SpellsOneCall, SpellsNoCall, HasOneAnswer};
+ghost use Rattle.esx_text.specs.Laws.{HasOneSplit, SpellsNoCall, HasOneAnswer};
 
 /// A text has its lines in one way.
 pub fn one_split()
     ensures { (text : List ℕ) → HasOneSplit text }
-{}
-
-/// A line spells one call at most.
-pub fn one_call()
-    ensures { (text : List ℕ) → SpellsOneCall text }
 {}
 
 /// A line that is answered by nothing spells no call.

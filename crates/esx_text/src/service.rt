@@ -3,14 +3,14 @@
 ghost use Rattle.std.specs.Prelude.{◌≡◌, ◌+◌, ◌-◌, ◌<◌, ◌≤◌, ◌^◌, ◌++◌, ◌∷◌, [], ℕ, List, Option, Ok, None, IfOk, IfErr, OnOk, IsErrOf, ◌⊎◌, length};
 ghost use Rattle.std.specs.Io.KnownBytes.{Keeps, Consumes, IsAtEnd};
 ghost use Rattle.esx_types.specs.Ends.{call_successes};
-ghost use Rattle.esx_plain.specs.Console.{Session};
+ghost use Rattle.esx_model.specs.Console.{Session};
 ghost use Rattle.esx_text.specs.Lines.{Holds, HasNoFeed};
 ghost use Rattle.esx_text.specs.Answers.{Progress, Answers, Stops, Faults, Reaches, Ends, fault_writes, read_faults, write_faults};
 
 use crate::answer::{Asked, answer_line};
 use crate::fault::ServeFault;
 use crate::line::{LineBuffer, split_line, without_return};
-use crate::writing::AnswerBuffer;
+use esx_writing::AnswerBuffer;
 use esx_console::Console;
 use esx_types::{Sink, SinkFailed, Source};
 use std::alloc::{AllocError, Global};

@@ -1,6 +1,6 @@
 use Rattle.std.proofs.Common.{[]}
 use Rattle.esx_text.specs.Answers.IsAnswered.{silent}
-use Rattle.esx_text.proofs.WritingLemmas.{appends_nothing}
+use Rattle.esx_writing.proofs.WritingLemmas.{appends_nothing}
 use Rattle.esx_text.proofs.AnswerLemmas.{silent_as_kept, long_unasked, kept_whole}
 use Rattle.esx_text.proofs.answer.answer_line.Goals as goal
 

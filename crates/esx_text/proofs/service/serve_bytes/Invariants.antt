@@ -1,5 +1,5 @@
 use Rattle.std.proofs.Common.{◌≡◌, ◌+◌, ◌≤◌, ◌++◌, [], length, ℕ, List, Option}
-use Rattle.esx_plain.specs.Console.{Session}
+use Rattle.esx_model.specs.Console.{Session}
 use Rattle.esx_text.specs.Answers.{Progress}
 use Rattle.esx_text.proofs.service.serve_bytes.Given as goal
 

@@ -1,5 +1,0 @@
-mod Keeps
-mod Outcomes
-mod Logs
-mod Reaching
-mod Lines

@@ -1,5 +1,0 @@
-use Rattle.esx_text.proofs.LawLemmas.{one_call}
-use Rattle.esx_text.proofs.laws.one_call.Goals as goal
-
-pub returns : goal.returns
-returns c = λ text a b p q. one_call text a b p q

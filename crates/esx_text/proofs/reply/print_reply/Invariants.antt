@@ -1,4 +1,0 @@
-use Rattle.esx_text.proofs.reply.print_reply.Given as goal
-
-abbrev pub ghosts-reply_bytes : goal.ghosts-reply_bytes
-ghosts-reply_bytes a = record { name = a.blank.name; parts = a.blank.parts }

@@ -1,8 +1,0 @@
-use Rattle.esx_text.specs.Replies.{reply_text}
-use Rattle.esx_text.proofs.WritingLemmas.{ends_writing}
-use Rattle.esx_text.proofs.reply.write_reply.Goals as goal
-
-pub returns-clause-bytes : goal.returns-clause-bytes
-returns-clause-bytes g c =
-    ends_writing (g.W.Sink.contents c.args.sink.now) (g.W.Sink.contents c.put_reply.new.sink) (g.W.Sink.contents c.write_held.new.sink)
-    c.args.held.now c.put_reply.new.held (reply_text c.args.reply.now) c.write_held.result c.requires c.in_ok-put_reply.ensures.bytes c.write_held.ensures.bytes
