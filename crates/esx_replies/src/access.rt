@@ -4,8 +4,8 @@ ghost use Rattle.std.specs.Prelude.{◌≡◌, ◌+◌, OnOk, IsUtf8};
 ghost use Rattle.esx_writing.specs.Writing.{Puts, sink_faults};
 ghost use Rattle.esx_replies.specs.Texts.{bytes_text};
 
-use esx_writing::{AnswerBuffer, Piece, put_pieces};
 use esx_types::{Bytes, Sink, SinkFailed};
+use esx_writing::{AnswerBuffer, Piece, put_pieces};
 
 /// The bytes that were read.
 pub fn put_bytes<W: Sink>(

@@ -5,8 +5,8 @@ ghost use Rattle.esx_writing.specs.Writing.{Puts, sink_faults};
 ghost use Rattle.esx_replies.specs.Texts.{admitted_text, started_text};
 
 use crate::names::running_name;
-use esx_writing::{AnswerBuffer, Piece, put_pieces};
 use esx_types::{Sink, SinkFailed};
+use esx_writing::{AnswerBuffer, Piece, put_pieces};
 
 /// Frames and slots that are reserved, of all.
 pub fn put_admitted<W: Sink>(

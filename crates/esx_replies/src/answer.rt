@@ -12,9 +12,9 @@ use crate::paging::{put_paged_out, put_replaced, put_shared_out};
 use crate::refusals::put_refusal;
 use crate::sampling::{put_opened, put_rebalanced};
 use crate::sharing::put_looked;
-use esx_writing::{AnswerBuffer, Piece, put_pieces};
 use esx_events::{Answer, Refusal};
 use esx_types::{Sink, SinkFailed};
+use esx_writing::{AnswerBuffer, Piece, put_pieces};
 
 /// The answer of an event.
 pub fn put_answer<W: Sink>(

@@ -4,8 +4,8 @@ ghost use Rattle.std.specs.Prelude.{◌≡◌, ◌+◌, OnOk, IsUtf8};
 ghost use Rattle.esx_writing.specs.Writing.{Puts, sink_faults};
 ghost use Rattle.esx_replies.specs.Texts.{goal_text, reset_text, lent_text, taken_back_text};
 
-use esx_writing::{AnswerBuffer, Piece, put_pieces};
 use esx_types::{Sink, SinkFailed};
+use esx_writing::{AnswerBuffer, Piece, put_pieces};
 
 /// How many pages are to be lent, how many are, and in which epoch.
 pub fn put_goal<W: Sink>(

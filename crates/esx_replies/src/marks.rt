@@ -5,9 +5,9 @@ ghost use Rattle.esx_writing.specs.Writing.{Puts, sink_faults};
 ghost use Rattle.esx_replies.specs.Texts.{sum_text};
 ghost use Rattle.esx_replies.specs.Replies.{marks_head, mark_text, marks_text};
 
-use esx_writing::{AnswerBuffer, Piece, put_pieces};
 use esx_events::NameRow;
 use esx_types::{Sink, SinkFailed};
+use esx_writing::{AnswerBuffer, Piece, put_pieces};
 
 /// A name and its node.
 fn put_mark<W: Sink>(sink: &mut W, held: &mut AnswerBuffer, row: &NameRow) -> Result<(), SinkFailed>

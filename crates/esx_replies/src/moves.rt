@@ -4,9 +4,9 @@ ghost use Rattle.std.specs.Prelude.{◌≡◌, ◌+◌, OnOk, IsUtf8};
 ghost use Rattle.esx_writing.specs.Writing.{Puts, sink_faults};
 ghost use Rattle.esx_replies.specs.Texts.{stand_text, marked_text, pruned_text};
 
-use esx_writing::{AnswerBuffer, Piece, put_pieces};
 use esx_events::{Name, Stand};
 use esx_types::{Sink, SinkFailed};
+use esx_writing::{AnswerBuffer, Piece, put_pieces};
 
 /// Where the cursor is, and how many jumps it has made.
 pub fn put_stand<W: Sink>(

@@ -4,8 +4,8 @@ ghost use Rattle.std.specs.Prelude.{◌≡◌, ◌+◌, OnOk, IsUtf8};
 ghost use Rattle.esx_writing.specs.Writing.{Puts, sink_faults};
 ghost use Rattle.esx_replies.specs.Texts.{paged_out_text, shared_out_text, replaced_text};
 
-use esx_writing::{AnswerBuffer, Piece, put_pieces};
 use esx_types::{Sink, SinkFailed};
+use esx_writing::{AnswerBuffer, Piece, put_pieces};
 
 /// The page that went out, and its slot.
 pub fn put_paged_out<W: Sink>(

@@ -5,9 +5,9 @@ ghost use Rattle.esx_writing.specs.Writing.{Puts, sink_faults};
 ghost use Rattle.esx_replies.specs.Texts.{sum_text, activity_text, private_text, hinted_text, shared_text, out_text, page_out_text, page_text, help_text};
 
 use crate::names::level_name;
-use esx_writing::{AnswerBuffer, Piece, put_pieces};
 use esx_events::{Activity, Help, PageState, Sum};
 use esx_types::{Sink, SinkFailed, VmId};
+use esx_writing::{AnswerBuffer, Piece, put_pieces};
 
 /// How many frames are of each kind, and the level.
 pub fn put_sum<W: Sink>(sink: &mut W, held: &mut AnswerBuffer, sum: Sum) -> Result<(), SinkFailed>

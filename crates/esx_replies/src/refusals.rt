@@ -4,9 +4,9 @@ ghost use Rattle.std.specs.Prelude.{◌≡◌, ◌+◌, OnOk, IsUtf8};
 ghost use Rattle.esx_writing.specs.Writing.{Puts, sink_faults};
 ghost use Rattle.esx_replies.specs.Texts.{refusal_text, refusal_ending};
 
-use esx_writing::{AnswerBuffer, Piece, put_pieces};
 use esx_events::Refusal;
 use esx_types::{Level, Sink, SinkFailed};
+use esx_writing::{AnswerBuffer, Piece, put_pieces};
 
 /// The end of a refusal's line.
 fn ending(refusal: Refusal) -> &'static str

@@ -4,8 +4,8 @@ ghost use Rattle.std.specs.Prelude.{◌≡◌, ◌+◌, OnOk, IsUtf8};
 ghost use Rattle.esx_writing.specs.Writing.{Puts, sink_faults};
 ghost use Rattle.esx_replies.specs.Texts.{opened_text, rebalanced_text};
 
-use esx_writing::{AnswerBuffer, Piece, put_pieces};
 use esx_types::{Sink, SinkFailed};
+use esx_writing::{AnswerBuffer, Piece, put_pieces};
 
 /// A period is open.
 pub fn put_opened<W: Sink>(

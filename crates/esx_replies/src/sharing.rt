@@ -4,9 +4,9 @@ ghost use Rattle.std.specs.Prelude.{◌≡◌, ◌+◌, OnOk, IsUtf8};
 ghost use Rattle.esx_writing.specs.Writing.{Puts, sink_faults};
 ghost use Rattle.esx_replies.specs.Texts.{found_shared_text, looked_text};
 
-use esx_writing::{AnswerBuffer, Piece, put_pieces};
 use esx_events::Scanned;
 use esx_types::{Sink, SinkFailed};
+use esx_writing::{AnswerBuffer, Piece, put_pieces};
 
 /// The frame that is shared now, and how many pages it has.
 pub fn put_found_shared<W: Sink>(

@@ -7,9 +7,9 @@ ghost use Rattle.esx_replies.specs.Replies.{accepted, number_head, numbered_text
 
 use crate::answer::put_tried;
 use crate::questions::put_sum;
-use esx_writing::{AnswerBuffer, Piece, put_pieces};
 use esx_events::{Answer, Refusal, Sides, Sum};
 use esx_types::{Sink, SinkFailed};
+use esx_writing::{AnswerBuffer, Piece, put_pieces};
 
 /// The number of a tried event.
 fn put_number<W: Sink>(sink: &mut W, held: &mut AnswerBuffer, number: u64) -> Result<(), SinkFailed>

@@ -7,9 +7,9 @@ ghost use Rattle.esx_replies.specs.Replies.{table_head, row_text, table_text};
 
 use crate::names::state_name;
 use crate::questions::put_sum;
-use esx_writing::{AnswerBuffer, Piece, put_pieces};
 use esx_events::{Sum, TableRow};
 use esx_types::{Sink, SinkFailed};
+use esx_writing::{AnswerBuffer, Piece, put_pieces};
 
 /// The line of a virtual machine.
 fn put_row<W: Sink>(sink: &mut W, held: &mut AnswerBuffer, row: &TableRow) -> Result<(), SinkFailed>

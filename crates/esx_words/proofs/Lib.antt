@@ -7,3 +7,4 @@ pub mod SampleLemmas
 pub mod OperandLemmas
 pub mod CommandLemmas
 pub mod PrintingLemmas
+pub mod LetterLemmas

@@ -1,6 +1,6 @@
 -- Events parted by semicolons: their words, their text, and that a text has them in one way.
-use Rattle.std.proofs.Common.{◌≡◌, ◌<◌, ◌≤◌, ◌+◌, ℕ, List, [], ◌∷◌, ◌++◌, length, arith, refl, ap, sym, ◌∙◌, append_assoc, codes, false, lit<}
-use Rattle.std.specs.List.{All, AllByRecursion, slice_split, join_with_byte, position_or_len, before_first, after_first}
+use Rattle.std.proofs.Common.{◌≡◌, ◌<◌, ◌≤◌, ℕ, List, [], ◌∷◌, ◌++◌, length, arith, refl, ap, sym, ◌∙◌, append_assoc, codes, false, lit<}
+use Rattle.std.specs.List.{AllByRecursion, slice_split, join_with_byte, position_or_len, before_first, after_first}
 use Rattle.std.proofs.Math.Dec.{eqb}
 use Rattle.std.proofs.lemmas.List.Splits.{slice_split_first, slice_split_none, slice_split_at, join_with_byte-slice_split, length-slice_split}
 use Rattle.std.proofs.lemmas.List.Sums.{fails_before_first}

@@ -1,5 +1,5 @@
 -- Spellings made part by part.
-use Rattle.std.proofs.Common.{◌≡◌, ℕ, List, [], ◌∷◌, ◌++◌, Option, Result, refl, sym, ◌∙◌, ap, append_assoc, append-nil, codes, decimal}
+use Rattle.std.proofs.Common.{◌≡◌, ℕ, List, [], ◌∷◌, ◌++◌, Option, Result, sym, ◌∙◌, ap, append_assoc, append-nil, codes, decimal}
 use Rattle.std.specs.Prelude.{flat_map, map, OnOk}
 use Rattle.std.specs.Str.{IsUtf8}
 use Rattle.esx_events.specs.declared.event.Event.{Event}

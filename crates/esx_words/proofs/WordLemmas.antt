@@ -1,5 +1,5 @@
 -- Words of commands: fields without a semicolon.
-use Rattle.std.proofs.Common.{◌≡◌, ◌<◌, ◌^◌, ◌/◌, ◌%◌, inl, inr, ℕ, List, [], ◌∷◌, ◌++◌, length, get_or, arith, refl, ap, true, false, nat_lt, nat_le, decimal, codes, lit<}
+use Rattle.std.proofs.Common.{◌≡◌, ◌<◌, ◌^◌, ◌/◌, ◌%◌, inl, inr, ℕ, List, [], ◌∷◌, length, get_or, arith, refl, ap, true, false, nat_lt, nat_le, decimal, codes}
 use Rattle.std.specs.Prelude.{Bool, not, ◌&&◌, map}
 use Rattle.std.specs.List.{All, AllByRecursion, list_all}
 use Rattle.std.proofs.Math.Dec.{eqb}

@@ -1,7 +1,9 @@
 -- The grammar of commands: a table with a line for each.
-use Rattle.std.specs.Prelude.{ℕ, List, [], ◌∷◌, ◌++◌, ◌≡◌, ◌≤◌, length}
+use Rattle.std.specs.Prelude.{ℕ, IsTrue, List, [], ◌∷◌, ◌++◌, ◌≡◌, ◌≤◌, length}
 use Rattle.std.specs.List.{AllByRecursion}
+use Rattle.std.specs.Str.{IsAscii}
 use Rattle.esx_events.specs.Lists.{IsTriable}
+use Rattle.esx_events.specs.Names.{starts_lower}
 use Rattle.esx_events.specs.declared.event.Event.{Event}
 use Rattle.esx_events.specs.declared.event.Event.TheVariants as event
 use Rattle.esx_events.specs.declared.call.Call.{Call}
@@ -189,3 +191,10 @@ pub record Spells (text : List ℕ) (call : Call) : Type 0 where
 -- a text spells one call at most
 abbrev pub SpellsOneCall : List ℕ → Type 0
 SpellsOneCall text = (a b : Call) → Spells text a → Spells text b → a ≡ b
+
+-- the line of a call is ASCII, and begins with a lower-case letter
+abbrev pub SpellsInAscii : List ℕ → Type 0
+SpellsInAscii text = (call : Call) → Spells text call → IsAscii text
+
+abbrev pub SpellsFromLetter : List ℕ → Type 0
+SpellsFromLetter text = (call : Call) → Spells text call → IsTrue (starts_lower text)

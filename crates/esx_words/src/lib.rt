@@ -12,5 +12,5 @@ mod tests;
 mod verbs;
 
 pub use commands::parse_command;
-pub use laws::one_call;
+pub use laws::{ascii_command, lower_command, one_call};
 pub use printing::{print_command, put_command, write_command};

@@ -8,8 +8,8 @@ ghost use Rattle.esx_reading.specs.Faults.{Refuses};
 ghost use Rattle.esx_words.specs.Commands.{IsEventInRange, SpellsEvent, event_text, list_text, list_words, AreListed};
 
 use crate::event::event_of_text;
-use esx_events::{Event, Events};
 use esx_events::events::MAX_EVENTS;
+use esx_events::{Event, Events};
 use esx_reading::{Fields, TextFault};
 use std::alloc::Global;
 
@@ -27,10 +27,7 @@ fn cut<'a>(text: &'a str) -> Option<(&'a str, Option<&'a str>)>
 }
 
 /// The first of some events, and the text of the others, if there are any.
-fn first_event<'a>(
-    alloc: Global,
-    text: &'a str,
-) -> Result<(Event, Option<&'a str>), TextFault>
+fn first_event<'a>(alloc: Global, text: &'a str) -> Result<(Event, Option<&'a str>), TextFault>
     ensures range { IfOk result (λ p. IsEventInRange p.0) }
     ensures found { IfOk result (λ p. MatchOption p.1 (text.now ≡ event_text p.0) (λ later. text.now ≡ event_text p.0 ++ (codes "; " ++ later.now))) }
     ensures only { IfErr result (λ e. Refuses e ((events : List Event) → AreListed events → text.now ≡ list_text events → ⊥)) }

@@ -8,8 +8,8 @@ ghost use Rattle.esx_events.specs.Names.{IsName};
 ghost use Rattle.esx_reading.specs.Written.{IsWritten};
 ghost use Rattle.esx_reading.specs.Faults.{Refuses};
 
-use esx_reading::{Fields, TextFault, written_bytes};
 use esx_events::{Boxed, Name};
+use esx_reading::{Fields, TextFault, written_bytes};
 use esx_types::{Bytes, Rows, VmId, VmSpec};
 use std::alloc::Global;
 

@@ -9,9 +9,9 @@ ghost use Rattle.esx_words.specs.Printing.{word_text, next_text, sample_head};
 ghost use Rattle.esx_events.specs.Lists.{IsTriable};
 ghost use Rattle.esx_events.specs.declared.call.Call.TheVariants as calls;
 
-use esx_writing::{AnswerBuffer, Piece, put_texts, write_held};
 use esx_events::{Call, Event, Name};
 use esx_types::{MemorySink, Sink, SinkFailed, VmId, VmSpec};
+use esx_writing::{AnswerBuffer, Piece, put_texts, write_held};
 use std::alloc::{AllocError, Global};
 use std::marker::Brand;
 use std::sync::ledger::{Blank, Ledger};
