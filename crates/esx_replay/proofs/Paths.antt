@@ -1,14 +1,17 @@
 -- Paths, one event at a time.
-use Rattle.std.proofs.Common.{◌≡◌, ◌≢◌, ℕ, ◌+◌, ◌<◌, ◌≤◌, List, [], ◌∷◌, length, get_or, drop, sym, ap, ◌∙◌, arith, Result, Ok, Err}
+use Rattle.std.proofs.Common.{◌≡◌, ◌≢◌, ℕ, ◌+◌, ◌<◌, ◌≤◌, List, [], ◌∷◌, length, get_or, drop, refl, sym, ap, ◌∙◌, arith, Result, Ok, Err}
+use Rattle.std.specs.Result.{IsOk}
 use Rattle.std.proofs.lemmas.Grind.{common_steps}
 use Rattle.esx_types.specs.declared.config.Config.{Config}
+use Rattle.esx_types.specs.declared.level.Level.{Level}
 use Rattle.esx_events.specs.declared.event.Event.{Event}
 use Rattle.esx_events.specs.declared.event.Refusal.{Refusal}
 use Rattle.esx_events.specs.declared.event.Refusal.TheVariants.{NoVm, VmThere, BadSpec, NoMemoryReserve, NoSwapReserve, NotRunning, OutOfRange, Held, Short, OverGoal, NotLent, LentAlready, NotNow, AtTarget, NotResident, BadWords, NotNeeded, PagesLeft, NothingToUndo, NothingToRedo, NoSuchNode, NameTaken, NoSuchName, OnPath, Full, OutOfMemory, SampleOpen}
 use Rattle.esx_model.specs.declared.scene.Scene.{Scene}
 use Rattle.esx_model.specs.declared.book.Book.{Book}
 use Rattle.esx_model.specs.Show.{shown}
-use Rattle.esx_model.specs.Replay.{next, after_one, run_from, run, shown_after, replay_of}
+use Rattle.esx_model.specs.event.Outcome.{Outcome}
+use Rattle.esx_model.specs.Replay.{settled, next, after_one, run_from, run, shown_after, replay_of}
 use Rattle.esx_replay.specs.declared.fault.PlainFault.{PlainFault}
 use Rattle.esx_replay.specs.declared.fault.PlainFault.TheVariants as faults
 use Rattle.esx_replay.specs.Runs.{Runs, Replays, fault_at}
@@ -57,6 +60,12 @@ fault_runs i NoSuchName d h = h (λ x. cc)
 fault_runs i OnPath d h = h (λ x. cc)
 fault_runs i Full d h = h (λ x. cc)
 fault_runs i SampleOpen d h = h (λ x. cc)
+
+-- one event is accepted where its step is
+
+pub ok_settled : (c : Config) (level : Level) (d : Outcome) → IsOk d → IsOk (settled c level d)
+ok_settled c level (Ok r) h = refl
+ok_settled c level (Err e) h = cc
 
 -- The tables at the end of a path.
 

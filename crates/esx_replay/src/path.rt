@@ -41,7 +41,7 @@ fn opening(alloc: Global, config: &Config) -> Result<Scene, AllocError>
 }
 
 /// One event, and the level after it.
-#[tactic(auto, unfolding(esx_model::specs::Replay::next))]
+#[tactic(auto, unfolding(esx_model::specs::Replay::next), using(crate::proofs::Paths::ok_settled))]
 fn next(
     alloc: Global,
     config: &Config,

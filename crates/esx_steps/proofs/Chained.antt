@@ -1,5 +1,5 @@
 -- A machine after its balloon popped and one of its pages was placed.
-use Rattle.std.proofs.Common.{◌≡◌, ℕ, ◌≤◌, ◌<◌, List, length, get_or, set, arith, sym, ap, ◌∙◌, refl, Option, Some, None, option_map}
+use Rattle.std.proofs.Common.{◌≡◌, ℕ, ◌≤◌, ◌<◌, length, get_or, set, arith, sym, ap, ◌∙◌, refl, Option, Some, None, option_map}
 use Rattle.std.proofs.lemmas.List.{get_or-set_same, length-set}
 use Rattle.esx_types.specs.declared.config.Config.{Config}
 use Rattle.esx_types.specs.declared.config.TheConstants.{VM_NUMBERS}

@@ -1,5 +1,5 @@
 -- The first element of the lists that a list leads to, at which a test passes.
-use Rattle.std.proofs.Common.{◌≡◌, ℕ, ◌+◌, ◌<◌, Bool, List, [], ◌∷◌, ◌++◌, length, get_or, take, drop, ap, ◌∙◌, Option, Some, None}
+use Rattle.std.proofs.Common.{◌≡◌, ℕ, ◌+◌, ◌<◌, Bool, List, [], ◌∷◌, ◌++◌, length, get_or, take, drop, ap, ◌∙◌, Some, None}
 use Rattle.std.specs.Option.{option_or}
 use Rattle.std.specs.List.{flat_map, find}
 use Rattle.std.proofs.lemmas.Grind.{flat_map-append}

@@ -5,3 +5,4 @@ pub mod KeyPlaces
 pub mod Draws
 pub mod Few
 pub mod Rows
+pub mod Late

@@ -1,5 +1,5 @@
 -- The numbers of a machine of a sound site.
-use Rattle.std.proofs.Common.{◌≡◌, ℕ, ◌≤◌, ◌<◌, length, arith, Option, Some, None, refl, All, subst}
+use Rattle.std.proofs.Common.{◌≡◌, ℕ, ◌≤◌, length, arith, Option, Some, None, subst}
 use Rattle.std.proofs.lemmas.List.Elements.{All-from_recursion}
 use Rattle.esx_types.specs.declared.config.Config.{Config}
 use Rattle.esx_types.specs.declared.vm.VmState.{VmState}

@@ -1,5 +1,5 @@
 -- The rows of the machines from a number on.
-use Rattle.std.proofs.Common.{◌≡◌, ℕ, ◌+◌, ◌<◌, ◌≤◌, List, [], ◌∷◌, length, get_or, drop, refl, ap, ◌∙◌, arith, Option, Some, None}
+use Rattle.std.proofs.Common.{◌≡◌, ℕ, ◌+◌, ◌<◌, ◌∷◌, length, drop, ap, ◌∙◌, arith, Some, None}
 use Rattle.std.proofs.lemmas.List.{at_drop_more}
 use Rattle.esx_types.specs.declared.config.Config.{Config}
 use Rattle.esx_formulas.specs.Ratio.{AreRows}

@@ -1,5 +1,5 @@
 -- The numbers of a machine on a path, as far as they have to fit their types.
-use Rattle.std.specs.Prelude.{◌≡◌, ℕ, ◌≤◌, ◌<◌, length, Option, Some, None, ⊤, All}
+use Rattle.std.specs.Prelude.{◌≡◌, ◌≤◌, ◌<◌, length, Some, All}
 use Rattle.esx_formulas.specs.declared.activity.Period.{Period}
 use Rattle.esx_formulas.specs.Estimates.{IsEstimate}
 use Rattle.esx_model.specs.declared.scene.Vm.{Vm}

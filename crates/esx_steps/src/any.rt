@@ -20,6 +20,30 @@ use esx_model::Site;
 use esx_types::{Config, Level};
 use std::alloc::Global;
 
+/// The number of the machine that an event names, if it names one.
+fn number_in(event: &Event) -> Option<u8>
+    ensures { NamesVm event.now }
+{
+    match event {
+        Event::Rebalance | Event::SetTax { .. } => None,
+        Event::Admit { vm, .. } => Some(vm.number()),
+        Event::Start { vm } => Some(vm.number()),
+        Event::Read { vm, .. } => Some(vm.number()),
+        Event::Write { vm, .. } => Some(vm.number()),
+        Event::Ask { vm } => Some(vm.number()),
+        Event::Lend { vm, .. } => Some(vm.number()),
+        Event::TakeBack { vm, .. } => Some(vm.number()),
+        Event::Sample { vm, .. } => Some(vm.number()),
+        Event::Scan { vm, .. } => Some(vm.number()),
+        Event::SwapOut { vm, .. } => Some(vm.number()),
+        Event::Replace { vm, .. } => Some(vm.number()),
+        Event::SetShares { vm, .. } => Some(vm.number()),
+        Event::Stop { vm } => Some(vm.number()),
+        Event::DropPage { vm, .. } => Some(vm.number()),
+        Event::Gone { vm } => Some(vm.number()),
+    }
+}
+
 /// What an event does, and what it answers, or the first refusal that applies.
 pub fn step(
     alloc: Global,
@@ -33,6 +57,7 @@ pub fn step(
     ensures gives { Gives result (step config.now site level event.now) }
     ensures named { NamesVm event.now }
 {
+    let _number = number_in(event);
     match event {
         Event::Admit { vm, spec } => admit(alloc, config, site, *vm, *spec),
         Event::Start { vm } => start(config, site, *vm),

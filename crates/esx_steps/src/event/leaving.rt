@@ -117,12 +117,7 @@ fn without_last(alloc: Global, site: Site, number: usize) -> Result<Site, AllocE
 
 /// Gives back an overhead frame; with the last one the machine goes.
 #[tactic(auto, unfolding(esx_model::specs::event::Leaving::gone))]
-pub fn gone(
-    alloc: Global,
-    config: &Config,
-    site: Site,
-    vm: VmId,
-) -> Result<(Answer, Site), Refusal>
+pub fn gone(alloc: Global, config: &Config, site: Site, vm: VmId) -> Result<(Answer, Site), Refusal>
     requires { IsSound config.now site }
     ensures { Gives result (gone site vm) }
 {

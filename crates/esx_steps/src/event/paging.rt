@@ -67,9 +67,7 @@ fn is_too_early(level: Level, vm: &Vm) -> bool
 {
     match level {
         Level::High => true,
-        Level::Soft => {
-            vm.state == VmState::Running && lent(vm) < vm.spec.balloon_max as usize
-        }
+        Level::Soft => { vm.state == VmState::Running && lent(vm) < vm.spec.balloon_max as usize }
         Level::Hard | Level::Low => false,
     }
 }

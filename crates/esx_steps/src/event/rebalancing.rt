@@ -177,11 +177,7 @@ fn at_max(alloc: Global, vms: Vec<Option<Vm>>) -> Result<Vec<Option<Vm>>, AllocE
 }
 
 #[tactic(auto, using(crate::proofs::Rows::rows_fit))]
-fn share_out(
-    alloc: Global,
-    config: &Config,
-    site: Site,
-) -> Result<(Answer, Site), Refusal>
+fn share_out(alloc: Global, config: &Config, site: Site) -> Result<(Answer, Site), Refusal>
     requires config { IsConfig config.now }
     requires sound { IsSound config.now site }
     ensures { Gives result (share_out config.now site) }

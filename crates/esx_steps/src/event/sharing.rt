@@ -214,13 +214,7 @@ fn others(alloc: Global, hints: &[Hint], new: &Hint) -> Result<Vec<Hint>, AllocE
 }
 
 /// The page becomes the hint under its key.
-fn hinted(
-    alloc: Global,
-    site: Site,
-    vm: VmId,
-    page: u32,
-    bytes: &[u8],
-) -> Result<Site, AllocError>
+fn hinted(alloc: Global, site: Site, vm: VmId, page: u32, bytes: &[u8]) -> Result<Site, AllocError>
     ensures { IfOk result (λ t. t ≡ hinted site vm page bytes.now) }
 {
     let new = Hint {

@@ -21,7 +21,7 @@ returns-in-Err c =
     let events = c.args.events.now in
     let steps = c.in-Err.ensures.steps in
     let more = run_more config events c.loop-index.index c.index-events-index.result c.loop-index.scene (omega arith) c.index-events-index.is in
-    record { runs = rw c.fault_at.ensures (fault_runs c.loop-index.index c.in-Err.refusal (run config events) (λ other. sym c.loop-index.invariant.rest ∙ more ∙ ap (λ o. after_one c.loop-index.index o (run_from config (c.loop-index.index + 1) (drop (c.loop-index.index + 1) events))) (steps other))); sound = tt }
+    record { runs = rw c.fault_at.ensures (fault_runs c.loop-index.index c.in-Err.refusal (run config events) (λ other. sym c.loop-index.invariant.rest ∙ more ∙ ap (λ o. after_one c.loop-index.index o (run_from config (c.loop-index.index + 1) (drop (c.loop-index.index + 1) events))) (steps.0 other))); sound = tt }
 
 pub loop-index-preserved : goal.loop-index-preserved
 loop-index-preserved c =

@@ -1,5 +1,4 @@
-use Rattle.std.proofs.Common.{◌≡◌, ℕ, ◌≤◌, length, sym, ap, ◌∙◌, Option, Some}
-use Rattle.esx_formulas.specs.declared.activity.Period.{Period}
+use Rattle.std.proofs.Common.{sym, ap, ◌∙◌, Option}
 use Rattle.esx_model.specs.declared.scene.Vm.{Vm}
 use Rattle.esx_model.specs.declared.scene.Site.{Site}
 use Rattle.esx_model.specs.Site.{vm_at}
