@@ -1,7 +1,6 @@
 -- The rows of the machines before a number.
-use Rattle.std.proofs.Common.{◌≡◌, ℕ, ◌+◌, ◌<◌, List, [], ◌∷◌, ◌++◌, length, get_or, take, map, refl, ap, ◌∙◌, Option, Some, None, option_map}
+use Rattle.std.proofs.Common.{◌≡◌, ℕ, ◌+◌, ◌<◌, [], ◌∷◌, ◌++◌, length, take, map, ap, ◌∙◌, None, option_map}
 use Rattle.std.proofs.lemmas.List.{take_more, map-append}
-use Rattle.esx_model.specs.declared.scene.Vm.{Vm}
 use Rattle.esx_model.specs.declared.scene.Site.{Site}
 use Rattle.esx_model.specs.Site.{vm_at}
 use Rattle.esx_model.specs.Show.{vm_row, vm_rows}

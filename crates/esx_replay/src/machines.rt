@@ -91,7 +91,12 @@ fn vm_row(alloc: Global, vm: &Vm) -> Result<VmRow, AllocError>
 }
 
 /// The row at a machine's number.
-fn row_at(alloc: Global, config: &Config, site: &Site, number: usize) -> Result<Option<VmRow>, AllocError>
+fn row_at(
+    alloc: Global,
+    config: &Config,
+    site: &Site,
+    number: usize,
+) -> Result<Option<VmRow>, AllocError>
     requires { IsSound config.now site.now }
     ensures { IfOk result (λ row. row ≡ option_map vm_row (vm_at site.now number)) }
 {
@@ -102,7 +107,11 @@ fn row_at(alloc: Global, config: &Config, site: &Site, number: usize) -> Result<
 }
 
 #[tactic(auto, using(crate::proofs::Tables::rows_more))]
-pub fn vm_rows(alloc: Global, config: &Config, site: &Site) -> Result<Rows<Option<VmRow>>, AllocError>
+pub fn vm_rows(
+    alloc: Global,
+    config: &Config,
+    site: &Site,
+) -> Result<Rows<Option<VmRow>>, AllocError>
     requires { IsSound config.now site.now }
     ensures { IfOk result (λ rows. rows ≡ vm_rows site.now.vms) }
 {
