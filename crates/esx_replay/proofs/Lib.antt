@@ -1,7 +1,4 @@
-pub mod Numbers
-pub mod Chained
-pub mod Finds
-pub mod KeyPlaces
-pub mod Draws
-pub mod Few
-pub mod Rows
+pub mod Lists
+pub mod FirstPages
+pub mod Tables
+pub mod Paths

@@ -1,6 +1,13 @@
-//! The plain, slow program of all events: it follows the definitions word for word, on a site as data.
+//! The plain, slow program of whole paths: it follows the definitions word for word, on a site as data.
 #![tactic(auto)]
 
-mod event;
-mod site;
-mod vm;
+mod fault;
+mod keys;
+mod machines;
+mod path;
+mod show;
+#[cfg(test)]
+mod tests;
+
+pub use fault::PlainFault;
+pub use path::{replay, run};

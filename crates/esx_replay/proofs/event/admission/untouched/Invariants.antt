@@ -1,6 +1,0 @@
-use Rattle.std.proofs.Common.{◌≡◌, replicate}
-use Rattle.esx_model.specs.declared.scene.Place.TheVariants.{Untouched}
-use Rattle.esx_replay.proofs.event.admission.untouched.Given as goal
-
-abbrev pub invariant-loop-page : goal.invariant-loop-page
-invariant-loop-page l = l.places ≡ replicate l._page Untouched
