@@ -4,145 +4,124 @@ use Rattle.std.specs.Result.{IsOk}
 use Rattle.std.specs.List.{count_by}
 use Rattle.esx_types.specs.declared.config.Config.{Config}
 use Rattle.esx_types.specs.declared.level.Level.{Level}
-use Rattle.esx_types.specs.declared.event.Event.{Event}
-use Rattle.esx_types.specs.declared.event.Event.TheVariants.{Admit, Start, Read, Write}
-use Rattle.esx_types.specs.declared.event.Answer.{Answer}
-use Rattle.esx_types.specs.declared.event.Refusal.{Refusal}
-use Rattle.esx_plain.specs.declared.scene.Site.{Site}
-use Rattle.esx_plain.specs.declared.scene.Scene.{Scene}
-use Rattle.esx_plain.specs.declared.book.Book.{Book}
-use Rattle.esx_plain.specs.Readings.{is_free}
-use Rattle.esx_plain.specs.Level.{next_level}
-use Rattle.esx_plain.specs.Show.{book_of, shown}
-use Rattle.esx_plain.specs.Step.{Outcome, step}
-use Rattle.esx_plain.specs.Sound.{IsSound, NamesVm}
-use Rattle.esx_plain.specs.Replay.{next, settled}
-use Rattle.esx_plain.proofs.Callers.{step_keeps_sound, next_keeps_sound, free_rows}
-use Rattle.esx_machine.specs.declared.change.Change.{Change}
-use Rattle.esx_machine.specs.Tables.{Effect, next_tables, settled_tables, step_tables}
-use Rattle.esx_machine.specs.Changes.{Back, exchanged, flipped}
-use Rattle.esx_machine.specs.Plans.{Refused}
-use Rattle.esx_machine.specs.Machine.{Kept, IsKept, Shows, Trades, Accepts, Refuses}
-use Rattle.esx_machine.proofs.Shown.{shown_outcome, outcome_after, after_shown}
-use Rattle.esx_machine.proofs.Admits.{admit_refines}
-use Rattle.esx_machine.proofs.Starts.{start_refines}
-use Rattle.esx_machine.proofs.Accesses.{read_refines, write_refines}
-use Rattle.esx_machine.proofs.Back.{flipped_back}
-use Rattle.esx_machine.proofs.Flips.{two_steps, level_stays}
+use Rattle.esx_types.specs.Frames.{is_free}
+use Rattle.esx_events.specs.declared.event.Event.{Event}
+use Rattle.esx_events.specs.declared.event.Answer.{Answer}
+use Rattle.esx_events.specs.declared.event.Refusal.{Refusal}
+use Rattle.esx_events.specs.declared.event.Refusal.TheVariants.{OutOfMemory}
+use Rattle.esx_formulas.specs.Level.{next_level}
+use Rattle.esx_model.specs.declared.scene.Site.{Site}
+use Rattle.esx_model.specs.declared.scene.Scene.{Scene}
+use Rattle.esx_model.specs.declared.tables.Tables.{Tables}
+use Rattle.esx_model.specs.Site.{free_count}
+use Rattle.esx_model.specs.Tables.{tables_of}
+use Rattle.esx_model.specs.event.Outcome.{Outcome}
+use Rattle.esx_model.specs.Step.{step}
+use Rattle.esx_model.specs.Replay.{next, settled}
+use Rattle.esx_model.specs.sound.Sound.{IsSound, NamesVm}
+use Rattle.esx_model.proofs.Callers.{every_event_sound, free_rows}
+use Rattle.esx_tables.specs.declared.change.Change.{Change}
+use Rattle.esx_tables.specs.Changes.{exchanged}
+use Rattle.esx_tables.proofs.Back.{exchanged_back}
+use Rattle.esx_plans.specs.plan.Planned.{Planned, Makes, Refines}
+use Rattle.esx_plans.specs.plan.Event.{plan_of, IsPlanned}
+use Rattle.esx_plans.proofs.refines.Event.{plan_refines}
+use Rattle.esx_machine.specs.Machine.{Kept, IsKept, Shows, Back, flipped, Trades, Accepts, Refuses}
 
-step_after : (c : Config) (s : Site) (level : Level) (e : Event) → NamesVm e → IsSound c s → step_tables c (book_of c s level) e ≡ outcome_after c s level (step c s level e)
-step_after c s level (Admit n spec) small sound = admit_refines c s level n spec small sound
-step_after c s level (Start n) small sound = start_refines c s level n
-step_after c s level (Read n page at len) small sound = read_refines c s level n page at len sound
-step_after c s level (Write n page at new) small sound = write_refines c s level n page at new sound
+-- the machine's plan refines the event on the scene
+at_scene : (k : Kept) (t : Scene) (e : Event) → Shows k t → NamesVm e → IsPlanned e → Refines k.config t.site (plan_of k.config k.tables k.level e) (step k.config t.site t.level e)
+at_scene k t e shows named planned =
+    let P : Tables → Type 0 = λ x. Refines k.config t.site (plan_of k.config x k.level e) (step k.config t.site t.level e) in
+    let Q : Level → Type 0 = λ l. Refines k.config t.site (plan_of k.config (tables_of k.config t.site) l e) (step k.config t.site t.level e) in
+    subst P (sym shows.tables) (subst Q (sym shows.level) (plan_refines k.config t.site t.level e shows.sound named planned))
 
-step_refines : (c : Config) (s : Site) (level : Level) (e : Event) → NamesVm e → IsSound c s → step_tables c (book_of c s level) e ≡ shown_outcome c level (step c s level e)
-step_refines c s level e small sound =
-    step_after c s level e small sound ∙ after_shown c s level (step c s level e) sound (λ r h. step_keeps_sound c s level e r small sound h)
+-- what is planned comes
+comes : (c : Config) (s : Site) (a : Answer) (cs : List Change) (o : Outcome) → Refines c s (Ok (a, cs)) o → (t : Site) × (o ≡ Ok (a, t)) × Makes c s cs t
+comes c s a cs (Ok r) h = (r.1, ap (λ x. let o : Outcome = Ok (x, r.1) in o) (sym h.0), h.1)
+comes c s a cs (Err f) h = absurd h
 
-abbrev shown_next : Config → Result (Answer × Scene) Refusal → Effect
-shown_next c (Err e) = Err e
-shown_next c (Ok r) = Ok (r.0, shown c r.1)
+fails : (c : Config) (s : Site) (e : Refusal) (o : Outcome) → Refines c s (Err e) o → o ≡ Err e
+fails c s e (Ok r) h = absurd h
+fails c s e (Err f) h = ap (λ x. let o : Outcome = Err x in o) (sym h)
 
-settled_same : (c : Config) (level : Level) (o : Outcome) → settled_tables c level (shown_outcome c level o) ≡ shown_next c (settled c level o)
-settled_same c level (Err e) = refl
-settled_same c level (Ok r) = ap (λ k. let d : Effect = Ok (r.0, record (book_of c r.1 level) { level = next_level c level k }) in d) (free_rows r.1 c.frames)
+goes : (c : Config) (s : Site) (d : Planned) (o : Outcome) → IsOk d → Refines c s d o → IsOk o
+goes c s (Ok p) (Ok r) ok h = refl
+goes c s (Ok p) (Err f) ok h = absurd h
+goes c s (Err e) o ok h = cc
 
-next_refines : (c : Config) (t : Scene) (e : Event) → NamesVm e → IsSound c t.site → next_tables c (shown c t) e ≡ shown_next c (next c t e)
-unfolding next next_tables
-next_refines c t e small sound = ap (settled_tables c t.level) (step_refines c t.site t.level e small sound) ∙ settled_same c t.level (step c t.site t.level e)
-
-ok_same : {A E : Type 0} (x y : A) → (let a : Result A E = Ok x in a) ≡ Ok y → y ≡ x
-ok_same x y h = cc
-
--- what an accepted event on the tables tells of the scene
-accepted_scene : (c : Config) (d : Result (Answer × Scene) Refusal) (a : Answer) (b : Book) → shown_next c d ≡ Ok (a, b) → (u : Scene) × (d ≡ Ok (a, u)) × (b ≡ shown c u)
-accepted_scene c (Err e) a b h = cc
-accepted_scene c (Ok r) a b h =
-    let e = ok_same (r.0, shown c r.1) (a, b) h in
-    (r.1, ap (λ x. let d : Result (Answer × Scene) Refusal = Ok (x, r.1) in d) (sym (ap (λ (x : Answer × Book). x.0) e)), ap (λ (x : Answer × Book). x.1) e)
-
-refused_scene : (c : Config) (d : Result (Answer × Scene) Refusal) (e : Refusal) → shown_next c d ≡ Err e → d ≡ Err e
-refused_scene c (Err x) e h = cc
-refused_scene c (Ok r) e h = cc
-
-at_scene : (k : Kept) (t : Scene) (e : Event) (d : Effect) → Shows k t → NamesVm e → next_tables k.config k.book e ≡ d → shown_next k.config (next k.config t e) ≡ d
-at_scene k t e d shows small h = sym (next_refines k.config t e small shows.sound) ∙ ap (λ b. next_tables k.config b e) (sym shows.book) ∙ h
-
--- the scene after an event
-record Leads (k : Kept) (t : Scene) (e : Event) (a : Answer) (b : Book) : Type 0 where
-  after : Scene
-  gives : next k.config t e ≡ Ok (a, after)
-  shows : Shows (record { config = k.config; book = b }) after
-
-leads : (k : Kept) (t : Scene) (e : Event) (a : Answer) (b : Book) → Shows k t → NamesVm e → next_tables k.config k.book e ≡ Ok (a, b) → Leads k t e a b
-leads k t e a b shows small h =
-    let found = accepted_scene k.config (next k.config t e) a b (at_scene k t e (Ok (a, b)) shows small h) in
-    record { after = found.0; gives = found.1; shows = record { sound = next_keeps_sound k.config t found.0 e a small shows.sound found.1; book = found.2 } }
-
--- An event made by trading changes.
-pub record Made (c : Config) (b mid : Book) (cs ds : List Change) (e : Event) (a : Answer) (level : Level) : Type 0 where
+-- An event made by exchanging changes: t and ds are what the exchange gives, and the level follows.
+pub record Made (k : Kept) (e : Event) (a : Answer) (cs : List Change) (t : Tables) (ds : List Change) (level : Level) : Type 0 where
   pub named : NamesVm e
-  pub step : step_tables c b e ≡ Ok (a, (exchanged b cs).0)
-  pub tables : mid ≡ (exchanged b cs).0
-  pub changes : ds ≡ (exchanged b cs).1
-  pub follows : level ≡ next_level c b.level (count_by is_free mid.frames)
+  pub planned : IsPlanned e
+  pub plan : plan_of k.config k.tables k.level e ≡ Ok (a, cs)
+  pub tables : t ≡ (exchanged k.tables cs).0
+  pub changes : ds ≡ (exchanged k.tables cs).1
+  pub follows : level ≡ next_level k.config k.level (count_by is_free t.frames)
 
-next_made : (c : Config) (b mid : Book) (cs ds : List Change) (e : Event) (a : Answer) (level : Level) → Made c b mid cs ds e a level → next_tables c b e ≡ Ok (a, record mid { level = level })
-unfolding next_tables
-next_made c b mid cs ds e a level m =
-    ap (settled_tables c b.level) (m.step ∙ ap (λ (x : Book). let d : Effect = Ok (a, x) in d) (sym m.tables)) ∙ ap (λ (x : Level). let d : Effect = Ok (a, record mid { level = x }) in d) (sym m.follows)
+abbrev pub after : Kept → Tables → Level → Kept
+after k t level = record k { level = level; tables = t }
 
-trades_back : (c : Config) (b mid : Book) (cs ds : List Change) (e : Event) (a : Answer) (level : Level) → IsKept c b → Made c b mid cs ds e a level
-    → Trades (record { level = b.level; changes = ds }) (record { config = c; book = record mid { level = level } }) (record { config = c; book = b })
-trades_back c b mid cs ds e a level kept m =
-    let r : Back = record { level = level; changes = cs } in
-    let s : Back = record { level = b.level; changes = ds } in
-    let new : Book = record mid { level = level } in
-    let steps : flipped b r ≡ (new, s) = two_steps b mid r ds level b.level m.tables m.changes refl (sym (ap (λ (x : Book). x.level) m.tables ∙ level_stays b r)) in
-    let again : flipped new s ≡ (b, r) = ap (λ (x : Book × Back). flipped x.0 x.1) (sym steps) ∙ flipped_back b r in
-    record { config = refl; book = sym (ap (λ (x : Book × Back). x.0) again); kept = kept }
+abbrev pub back : Kept → List Change → Back
+back k ds = record { level = k.level; changes = ds }
 
-pub accepted : (c : Config) (b mid : Book) (cs ds : List Change) (e : Event) (a : Answer) (level : Level) → IsKept c b → Made c b mid cs ds e a level
-    → (scene : Scene) → Shows (record { config = c; book = b }) scene
-    → Accepts (record { config = c; book = b }) (record { config = c; book = record mid { level = level } }) a (record { level = b.level; changes = ds }) (next c scene e)
-accepted c b mid cs ds e a level kept m scene shows =
-    let old : Kept = record { config = c; book = b } in
-    let k = leads old scene e a (record mid { level = level }) shows m.named (next_made c b mid cs ds e a level m) in
-    record { after = k.after; gives = k.gives; shows = k.shows; config = refl; back = trades_back c b mid cs ds e a level kept m }
+-- the record leads back
+record_leads : (k : Kept) (e : Event) (a : Answer) (cs : List Change) (t : Tables) (ds : List Change) (level : Level) → IsKept k → Made k e a cs t ds level → Trades (back k ds) (after k t level) k
+record_leads k e a cs t ds level kept m =
+    let once : (exchanged t ds).0 ≡ k.tables =
+    ap (λ (x : Tables). (exchanged x ds).0) m.tables ∙ ap (λ (x : List Change). (exchanged (exchanged k.tables cs).0 x).0) m.changes ∙ ap (λ (x : Tables × List Change). x.0) (exchanged_back k.tables cs) in
+    record { makes = ap (λ (x : Tables). record k { tables = x }) (sym once); kept = kept }
+
+pub accepted : (k : Kept) (e : Event) (a : Answer) (cs : List Change) (t : Tables) (ds : List Change) (level : Level) → IsKept k → Made k e a cs t ds level
+    → (scene : Scene) → Shows k scene → Accepts k (after k t level) a (back k ds) (next k.config scene e)
+unfolding next
+accepted k e a cs t ds level kept m scene shows =
+    let c : Config = k.config in
+    let s : Site = scene.site in
+    let P : Planned → Type 0 = λ d. Refines c s d (step c s scene.level e) in
+    let come = comes c s a cs (step c s scene.level e) (subst P m.plan (at_scene k scene e shows m.named m.planned)) in
+    let u : Scene = record { site = come.0; level = next_level c scene.level (free_count c.frames come.0) } in
+    let gives : next c scene e ≡ Ok (a, u) = ap (settled c scene.level) come.1 in
+    let tables : t ≡ tables_of c come.0 = m.tables ∙ ap (λ (x : Tables). (exchanged x cs).0) shows.tables ∙ come.2 in
+    let free : count_by is_free t.frames ≡ free_count c.frames come.0 = ap (λ (x : Tables). count_by is_free x.frames) tables ∙ free_rows come.0 c.frames in
+    record {
+      after = u;
+      gives = gives;
+      shows = record {
+        sound = every_event_sound c scene e (a, u) shows.sound m.named gives;
+        tables = tables;
+        level = m.follows ∙ ap (λ n. next_level c k.level n) free ∙ ap (λ l. next_level c l (free_count c.frames come.0)) shows.level;
+      };
+      config = refl;
+      back = record_leads k e a cs t ds level kept m;
+    }
 
 -- the tables after it are those of a sound site
-pub kept_after : (c : Config) (b mid : Book) (cs ds : List Change) (e : Event) (a : Answer) (level : Level) → IsKept c b → Made c b mid cs ds e a level → IsKept c (record mid { level = level })
-kept_after c b mid cs ds e a level kept m =
-    let old : Kept = record { config = c; book = b } in
-    let scene : Scene = record { site = kept.site; level = b.level } in
-    let k = leads old scene e a (record mid { level = level }) (record { sound = kept.sound; book = kept.shows }) m.named (next_made c b mid cs ds e a level m) in
-    record { config = kept.config; site = k.after.site; sound = k.shows.sound; shows = k.shows.book ∙ ap (λ l. book_of c k.after.site l) (sym (ap (λ (x : Book). x.level) k.shows.book)) }
+pub kept_after : (k : Kept) (e : Event) (a : Answer) (cs : List Change) (t : Tables) (ds : List Change) (level : Level) → IsKept k → Made k e a cs t ds level → IsKept (after k t level)
+kept_after k e a cs t ds level kept m =
+    let scene : Scene = record { site = kept.site; level = k.level } in
+    let r = accepted k e a cs t ds level kept m scene (record { sound = kept.sound; tables = kept.shows; level = refl }) in
+    record { config = kept.config; site = r.after.site; sound = r.shows.sound; shows = r.shows.tables }
 
-refused_next : (c : Config) (b : Book) (e : Event) (r : Refusal) → step_tables c b e ≡ Err r → next_tables c b e ≡ Err r
-unfolding next_tables
-refused_next c b e r h = ap (settled_tables c b.level) h
+settled_fails : (c : Config) (level : Level) (o : Outcome) (e : Refusal) → o ≡ Err e → settled c level o ≡ Err e
+settled_fails c level o e h = ap (settled c level) h
 
--- what is accepted on the tables is accepted of the scene
-ok_settled : (c : Config) (level : Level) (d : Effect) → IsOk d → IsOk (settled_tables c level d)
-ok_settled c level (Ok r) h = refl
-ok_settled c level (Err e) h = cc
+settled_goes : (c : Config) (level : Level) (o : Outcome) → IsOk o → IsOk (settled c level o)
+settled_goes c level (Ok r) h = refl
+settled_goes c level (Err e) h = cc
 
-ok_next : (c : Config) (b : Book) (e : Event) → IsOk (step_tables c b e) → IsOk (next_tables c b e)
-unfolding next_tables
-ok_next c b e h = ok_settled c b.level (step_tables c b e) h
-
-ok_scene : (c : Config) (d : Result (Answer × Scene) Refusal) → IsOk (shown_next c d) → IsOk d
-ok_scene c (Ok r) h = refl
-ok_scene c (Err e) h = cc
-
-pub refused : (c : Config) (b : Book) (e : Event) (r : Refusal) → NamesVm e → Refused r (step_tables c b e)
-    → (scene : Scene) → Shows (record { config = c; book = b }) scene → Refuses (record { config = c; book = b }) (record { config = c; book = b }) r (next c scene e)
-refused c b e r small h scene shows =
-    let k : Kept = record { config = c; book = b } in
-    let P : Effect → Type 0 = IsOk in
+-- a refusal, or want of memory
+pub refused : (k : Kept) (e : Event) (r : Refusal) → NamesVm e → IsPlanned e
+    → ((r ≡ OutOfMemory → ⊥) → plan_of k.config k.tables k.level e ≡ Err r) × (r ≡ OutOfMemory → IsOk (plan_of k.config k.tables k.level e))
+    → (scene : Scene) → Shows k scene → Refuses k k r (next k.config scene e)
+unfolding next
+refused k e r named planned h scene shows =
+    let c : Config = k.config in
+    let s : Site = scene.site in
+    let o : Outcome = step c s scene.level e in
+    let refines = at_scene k scene e shows named planned in
+    let P : Planned → Type 0 = λ d. Refines c s d o in
     record {
       same = refl;
-      why = λ other. refused_scene c (next c scene e) r (at_scene k scene e (Err r) shows small (refused_next c b e r (h.why other)));
-      late = λ no_memory. ok_scene c (next c scene e) (subst P (sym (at_scene k scene e (next_tables c b e) shows small refl)) (ok_next c b e (h.late no_memory)));
+      why = λ other. settled_fails c scene.level o r (fails c s r o (subst P (h.0 other) refines));
+      late = λ no_memory. settled_goes c scene.level o (goes c s (plan_of k.config k.tables k.level e) o (h.1 no_memory) refines);
     }

@@ -1,46 +1,60 @@
 -- What a machine keeps, what its records do, and what an event gives.
-use Rattle.std.specs.Prelude.{◌≡◌, ◌≢◌, Result, Ok, Err, IsOk}
+use Rattle.std.specs.Prelude.{◌≡◌, ◌≢◌, List, Result, Ok, Err, IsOk}
 use Rattle.esx_types.specs.Ranges.{IsConfig}
 use Rattle.esx_types.specs.declared.config.Config.{Config}
-use Rattle.esx_types.specs.declared.event.Answer.{Answer}
-use Rattle.esx_types.specs.declared.event.Refusal.{Refusal}
-use Rattle.esx_types.specs.declared.event.Refusal.TheVariants.{OutOfMemory}
-use Rattle.esx_types.specs.declared.call.PageState.{PageState}
-use Rattle.esx_types.specs.declared.call.Said.{Said}
-use Rattle.esx_types.specs.declared.call.Said.TheVariants as said
-use Rattle.esx_plain.specs.declared.scene.Site.{Site}
-use Rattle.esx_plain.specs.declared.scene.Scene.{Scene}
-use Rattle.esx_plain.specs.declared.book.Book.{Book}
-use Rattle.esx_plain.specs.Show.{book_of, shown}
-use Rattle.esx_plain.specs.Sound.{IsSound}
-use Rattle.esx_machine.specs.Changes.{Back, flipped}
+use Rattle.esx_types.specs.declared.level.Level.{Level}
+use Rattle.esx_events.specs.declared.event.Answer.{Answer}
+use Rattle.esx_events.specs.declared.event.Refusal.{Refusal}
+use Rattle.esx_events.specs.declared.event.Refusal.TheVariants.{OutOfMemory}
+use Rattle.esx_model.specs.declared.scene.Site.{Site}
+use Rattle.esx_model.specs.declared.scene.Scene.{Scene}
+use Rattle.esx_model.specs.declared.book.Book.{Book}
+use Rattle.esx_model.specs.declared.tables.Tables.{Tables}
+use Rattle.esx_model.specs.Tables.{tables_of, book_from}
+use Rattle.esx_model.specs.sound.Sound.{IsSound}
+use Rattle.esx_tables.specs.declared.change.Change.{Change}
+use Rattle.esx_tables.specs.Changes.{exchanged}
 
--- a site's numbers and its tables
+-- a site's numbers, the level and the tables
 pub record Kept : Type 0 where
   pub config : Config
-  pub book : Book
+  pub level : Level
+  pub tables : Tables
 
 -- the tables are those of some sound site
-pub record IsKept (c : Config) (b : Book) : Type 0 where
-  pub config : IsConfig c
+pub record IsKept (k : Kept) : Type 0 where
+  pub config : IsConfig k.config
   pub site : Site
-  pub sound : IsSound c site
-  pub shows : b ≡ book_of c site b.level
+  pub sound : IsSound k.config site
+  pub shows : k.tables ≡ tables_of k.config site
 
 -- the tables are those of this scene
 pub record Shows (k : Kept) (t : Scene) : Type 0 where
   pub sound : IsSound k.config t.site
-  pub book : k.book ≡ shown k.config t
+  pub tables : k.tables ≡ tables_of k.config t.site
+  pub level : k.level ≡ t.level
+
+-- the book that is read from the tables
+abbrev pub book_in : Kept → Book
+book_in k = book_from k.tables k.level
+
+-- a record: the level, and the changes
+pub record Back : Type 0 where
+  pub level : Level
+  pub changes : List Change
+
+-- a record traded with what the machine keeps
+abbrev pub flipped : Kept → Back → Kept × Back
+flipped k r = (record k { level = r.level; tables = (exchanged k.tables r.changes).0 }, record { level = k.level; changes = (exchanged k.tables r.changes).1 })
 
 -- A record leads from one state to another: its rows traded with the tables there make the other's.
 pub record Trades (r : Back) (here there : Kept) : Type 0 where
-  pub config : there.config ≡ here.config
-  pub book : there.book ≡ (flipped here.book r).0
-  pub kept : IsKept there.config there.book
+  pub makes : there ≡ (flipped here r).0
+  pub kept : IsKept there
 
 -- a record after its flip
 abbrev pub turned : Back → Kept → Back
-turned r here = (flipped here.book r).1
+turned r here = (flipped here r).1
 
 -- An event was accepted, where d is what it does to the scene that was shown.
 pub record Accepts (old new : Kept) (answer : Answer) (r : Back) (d : Result (Answer × Scene) Refusal) : Type 0 where
@@ -56,11 +70,7 @@ pub record Refuses (old new : Kept) (e : Refusal) (d : Result (Answer × Scene) 
   pub why : e ≢ OutOfMemory → d ≡ Err e
   pub late : e ≡ OutOfMemory → IsOk d
 
+-- what a call that makes one event may give
 abbrev pub Applies : Result (Answer × Back) Refusal → Kept → Kept → Result (Answer × Scene) Refusal → Type 0
 Applies (Ok r) old new d = Accepts old new r.0 r.1 d
 Applies (Err e) old new d = Refuses old new e d
-
--- what is said of a page, or why there is no such page
-abbrev pub page_answer : Result PageState Refusal → Result Said Refusal
-page_answer (Ok state) = Ok (said.Page state)
-page_answer (Err e) = Err e

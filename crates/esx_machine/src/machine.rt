@@ -1,59 +1,75 @@
 //! The machine, and the records of its events.
 
-use crate::change::{Change, exchange};
-use crate::copy::copy_book;
-use crate::plan::plan_event;
-use crate::reading::{page_state, sum_of};
-use crate::tables::Tables;
+use crate::advice::advise;
+use crate::reading::{activity, page_state};
+use crate::table::table_of;
+use esx_events::{Activity, Answer, Event, Help, PageState, Refusal, Sum, TableRow};
 use esx_level::Thresholds;
-use esx_plain::Book;
-use esx_types::{Answer, Config, Event, Level, Refusal, Said, Sum, VmId};
+use esx_model::Book;
+use esx_plans::plan::event::plan_event;
+use esx_tables::{Record as Changes, RecordSize, SiteTables};
+use esx_types::{Config, Level, Rows, VmId};
 use std::alloc::{AllocError, Global};
 use std::marker::Model;
 use std::mem;
 
-/// A site's tables.
+/// A site's numbers, how scarce its frames are, and its tables.
 #[derive(Drop)]
 pub struct Machine {
     alloc: Global,
     config: Config,
-    tables: Tables,
+    level: Level,
+    tables: SiteTables,
 }
 
 impl Model for Machine {
     ghost use Rattle.esx_machine.specs.Machine.{Kept, IsKept};
-    ghost use Rattle.esx_machine.specs.Tables.{book_in};
 
     ghost Value = { Kept };
 
-    ghost view = { λ a. record { config = a.config; book = book_in a.tables } };
+    ghost view = { λ a. record { config = a.config; level = a.level; tables = a.tables } };
 
-    ghost invariant = { λ a. IsKept a.config (book_in a.tables) };
+    ghost invariant = { λ a. IsKept (record { config = a.config; level = a.level; tables = a.tables }) };
 }
 
 /// What leads from the tables after an event to those before it, and back.
 #[derive(Drop)]
 pub struct Record {
     level: Level,
-    changes: Vec<Change>,
+    changes: Changes,
 }
 
 impl Model for Record {
-    ghost use Rattle.esx_machine.specs.Changes.{Back};
+    ghost use Rattle.esx_machine.specs.Machine.{Back};
 
     ghost Value = { Back };
 
-    ghost view = { λ a. record { level = a.level; changes = a.changes.items } };
+    ghost view = { λ a. record { level = a.level; changes = a.changes } };
+}
+
+impl Record {
+    ghost use Rattle.std.specs.Prelude.{◌≡◌};
+    ghost use Rattle.esx_tables.specs.Sizes.{size_of, capped};
+
+    /// How much it holds.
+    pub fn size(&self) -> RecordSize
+        ensures { result ≡ capped (size_of self.now.changes) }
+    {
+        self.changes.size()
+    }
 }
 
 impl Machine {
     ghost use Rattle.std.specs.Prelude.{◌≡◌, ◌≢◌, ◌+◌, count_by, IfOk, IfErr};
     ghost use Rattle.esx_types.specs.Ranges.{IsConfig};
-    ghost use Rattle.esx_plain.specs.declared.scene.Scene.{Scene};
-    ghost use Rattle.esx_plain.specs.Site.{free_count};
-    ghost use Rattle.esx_plain.specs.Readings.{is_free, sum_of, page_state};
-    ghost use Rattle.esx_plain.specs.Replay.{next, opening};
-    ghost use Rattle.esx_machine.specs.Machine.{Kept, Shows, Trades, turned, Applies, page_answer};
+    ghost use Rattle.esx_types.specs.Frames.{is_free};
+    ghost use Rattle.esx_model.specs.declared.scene.Scene.{Scene};
+    ghost use Rattle.esx_model.specs.Site.{free_count};
+    ghost use Rattle.esx_model.specs.Readings.{sum_of, page_state, activity, table_of};
+    ghost use Rattle.esx_model.specs.Advice.{advice};
+    ghost use Rattle.esx_model.specs.Replay.{next, opening};
+    ghost use Rattle.esx_plans.specs.plan.Event.{CanEpochsRise};
+    ghost use Rattle.esx_machine.specs.Machine.{Kept, Shows, Trades, turned, Applies, book_in};
 
     /// A site with no virtual machines. `BadSpec` where one of its numbers is out of its range.
     pub fn open(alloc: Global, config: Config) -> Result<Machine, Refusal>
@@ -62,29 +78,46 @@ impl Machine {
         ensures refused { IfErr result (λ e. e ≢ Refusal.OutOfMemory → (e ≡ Refusal.BadSpec) × (¬ IsConfig config)) }
         ensures late { IfErr result (λ e. e ≡ Refusal.OutOfMemory → IsConfig config) }
     {
-        let config = config.check()?;
-        let tables = Tables::opening(alloc, &config)?;
+        let Ok(config) = config.check() else {
+            return Err(Refusal::BadSpec);
+        };
+        let tables = SiteTables::open(alloc, &config)?;
         Ok(Machine {
             alloc,
             config,
+            level: Level::High,
             tables,
         })
     }
 
     /// One event: its answer, and the record that leads back. A refusal is the first that applies, and
     /// changes nothing; neither does want of memory.
+    ///
+    /// condition: each machine's epoch can rise
     pub fn apply(&mut self, event: &Event) -> Result<(Answer, Record), Refusal>
+        requires rise { CanEpochsRise self.old.tables }
         ensures { (scene : Scene) → Shows self.old scene → Applies result self.old self.new (next self.old.config scene event.now) }
     {
-        let plan = match plan_event(&self.tables, self.alloc, &self.config, event) {
+        let plan = match plan_event(&self.tables, self.alloc, &self.config, self.level, event) {
             Ok(plan) => plan,
             Err(refusal) => return Err(refusal),
         };
         let mut changes = plan.changes;
-        let level = self.tables.level;
-        exchange(&mut self.tables, &mut changes);
-        self.tables.level = Thresholds::of(self.config).next(level, self.tables.free());
+        let level = self.level;
+        self.tables.exchange(&mut changes);
+        let free = self.tables.counts().free;
+        self.level = Thresholds::of(self.config).next(level, free);
         Ok((plan.answer, Record { level, changes }))
+    }
+
+    /// Trades the record's changes and level with the machine's tables and level.
+    pub fn flip(&mut self, back: &mut Record)
+        requires fits { (there : Kept) × Trades back.old self.old there }
+        ensures { (there : Kept) → Trades back.old self.old there
+            → (self.new ≡ there) × Trades back.new there self.old × (back.new ≡ turned back.old self.old) }
+    {
+        self.tables.exchange(&mut back.changes);
+        mem::swap(&mut self.level, &mut back.level);
     }
 
     /// The site's numbers, as it was opened.
@@ -94,53 +127,69 @@ impl Machine {
         self.config
     }
 
-    /// A copy of every table.
-    pub fn book(&self) -> Result<Book, AllocError>
-        ensures { IfOk result (λ book. book ≡ self.now.book) }
+    /// How scarce frames are.
+    pub fn level(&self) -> Level
+        ensures { result ≡ self.now.level }
     {
-        copy_book(self.alloc, &self.tables)
+        self.level
     }
 
     /// How many frames are free.
     pub fn free(&self) -> u32
-        ensures rows { result ≡ count_by is_free self.now.book.frames }
+        ensures rows { result ≡ count_by is_free self.now.tables.frames }
         ensures shown { (scene : Scene) → Shows self.now scene → result ≡ free_count self.now.config.frames scene.site }
     {
-        self.tables.free()
+        self.tables.counts().free
     }
 
     /// How many frames are of each kind, and the level.
+    #[tactic(auto, unfolding(esx_model::specs::Readings::sum_of))]
     pub fn sum(&self) -> Sum
-        ensures value { result ≡ sum_of self.now.book }
+        ensures value { result ≡ sum_of (book_in self.now) }
         ensures adds_up { result.overhead + result.private + result.shared + result.free ≡ self.now.config.frames }
     {
-        sum_of(&self.tables)
-    }
-
-    /// Where a page is. `NoVm` where there is no such virtual machine, `OutOfRange` where it has no such page.
-    pub fn of_page(&self, vm: VmId, page: u32) -> Result<Said, Refusal>
-        ensures { result ≡ page_answer (page_state self.now.book vm page) }
-    {
-        match page_state(&self.tables, vm, page) {
-            Ok(state) => Ok(Said::Page { state }),
-            Err(refusal) => Err(refusal),
+        let counts = self.tables.counts();
+        Sum {
+            overhead: counts.overhead,
+            private: counts.private,
+            shared: counts.shared,
+            free: counts.free,
+            level: self.level,
         }
     }
 
-    /// How scarce frames are.
-    pub fn level(&self) -> Level
-        ensures { result ≡ self.now.book.level }
+    /// A copy of every table, as it is read.
+    pub fn book(&self) -> Result<Book, AllocError>
+        ensures { IfOk result (λ book. book ≡ book_in self.now) }
     {
-        self.tables.level
+        self.tables.book(self.alloc, self.level)
     }
 
-    /// Trades the record's rows with the machine's.
-    pub fn flip(&mut self, back: &mut Record)
-        requires fits { (there : Kept) × Trades back.old self.old there }
-        ensures { (there : Kept) → Trades back.old self.old there
-            → (self.new ≡ there) × Trades back.new there self.old × (back.new ≡ turned back.old self.old) }
+    /// A line for each virtual machine, in order of number.
+    pub fn table(&self) -> Result<Rows<TableRow>, AllocError>
+        ensures { IfOk result (λ rows. rows ≡ table_of (book_in self.now)) }
     {
-        exchange(&mut self.tables, &mut back.changes);
-        mem::swap(&mut self.tables.level, &mut back.level);
+        table_of(self.alloc, &self.tables)
+    }
+
+    /// Where a page is. `NoVm` where there is no such virtual machine, `OutOfRange` where it has no such page.
+    pub fn of_page(&self, vm: VmId, page: u32) -> Result<PageState, Refusal>
+        ensures { result ≡ page_state (book_in self.now) vm page }
+    {
+        page_state(&self.tables, vm, page)
+    }
+
+    /// A virtual machine's averages and open period. `NoVm` where there is no such virtual machine.
+    pub fn of_vm(&self, vm: VmId) -> Result<Activity, Refusal>
+        ensures { result ≡ activity (book_in self.now) vm }
+    {
+        activity(&self.tables, vm)
+    }
+
+    /// What lets a write to a page go on, or why its virtual machine can make none.
+    pub fn advise(&self, vm: VmId, page: u32) -> Result<Help, Refusal>
+        ensures { (scene : Scene) → Shows self.now scene → result ≡ advice self.now.config scene vm page }
+    {
+        advise(&self.tables, self.level, vm, page)
     }
 }

@@ -1,71 +1,88 @@
-//! What questions read from the tables.
+//! What questions read of one machine's row and one frame's.
 
-ghost use Rattle.std.specs.Prelude.{◌≡◌, ◌<◌, ◌^◌, length, count_by, ◌==◌, ◌&&◌};
-ghost use Rattle.esx_plain.specs.Readings.{is_overhead, is_private, is_shared, is_hint, state_in, state_at, page_state, sum_of};
-ghost use Rattle.esx_machine.specs.Tables.{book_in};
+ghost use Rattle.std.specs.Prelude.{◌≡◌, ◌≤◌};
+ghost use Rattle.esx_types.specs.Frames.{frame_at};
+ghost use Rattle.esx_types.specs.Listings.{listing_at};
+ghost use Rattle.esx_formulas.specs.Estimates.{IsEstimate};
+ghost use Rattle.esx_model.specs.Readings.{active_now, activity_in, activity_of, period_so_far, state_in};
+ghost use Rattle.esx_tables.specs.Readings.{row_at};
+ghost use Rattle.esx_machine.specs.Questions.{CanTell, AreReadable, is_hinted, state_of, page_from};
 
-use crate::tables::Tables;
-use esx_types::{FrameRow, MapRow, PageState, Refusal, Sum, VmId};
+use esx_events::{Activity, PageState, Refusal};
+use esx_model::PeriodRow;
+use esx_tables::{SiteTables, VmTable};
+use esx_types::{FrameRow, Listing, MapRow, VmId};
 
-fn is_overhead(row: &FrameRow) -> bool
-    ensures { result ≡ is_overhead row.now }
+/// How many of the sampled pages of a period were touched.
+fn touched(period: &PeriodRow) -> u32
+    requires { IsEstimate (period_so_far period.now) }
+    ensures { result ≡ (period_so_far period.now).touched }
 {
-    matches!(row, FrameRow::Overhead)
+    period.marks.as_slice().iter().filter(|mark| mark.touched).count() as u32
 }
 
-fn is_private(row: &FrameRow) -> bool
-    ensures { result ≡ is_private row.now }
+/// How many pages a period samples.
+fn sampled(period: &PeriodRow) -> u32
+    requires { IsEstimate (period_so_far period.now) }
+    ensures { result ≡ (period_so_far period.now).pages }
 {
-    matches!(row, FrameRow::Private { .. })
+    period.marks.len() as u32
 }
 
-fn is_shared(row: &FrameRow) -> bool
-    ensures { result ≡ is_shared row.now }
+/// The share of a machine's memory that counts as in use.
+pub fn active(vm: &VmTable) -> u32
+    requires { CanTell vm.now.period }
+    ensures value { result ≡ active_now vm.now }
+    ensures most { result ≤ 65536 }
 {
-    matches!(row, FrameRow::Shared { .. })
-}
-
-fn count_overhead(rows: &[FrameRow]) -> u32
-    requires { length rows.now < 2 ^ 32 }
-    ensures { result ≡ count_by is_overhead rows.now }
-{
-    rows.iter().filter(|row| is_overhead(row)).count() as u32
-}
-
-fn count_private(rows: &[FrameRow]) -> u32
-    requires { length rows.now < 2 ^ 32 }
-    ensures { result ≡ count_by is_private rows.now }
-{
-    rows.iter().filter(|row| is_private(row)).count() as u32
-}
-
-fn count_shared(rows: &[FrameRow]) -> u32
-    requires { length rows.now < 2 ^ 32 }
-    ensures { result ≡ count_by is_shared rows.now }
-{
-    rows.iter().filter(|row| is_shared(row)).count() as u32
-}
-
-/// How many frames are of each kind, and the level.
-#[tactic(auto, unfolding(esx_plain::specs::Readings::sum_of))]
-pub fn sum_of(tables: &Tables) -> Sum
-    requires { length tables.now.frames < 2 ^ 32 }
-    ensures { result ≡ sum_of (book_in tables.now) }
-{
-    let frames = tables.frames.as_slice();
-    Sum {
-        overhead: count_overhead(frames),
-        private: count_private(frames),
-        shared: count_shared(frames),
-        free: tables.free(),
-        level: tables.level,
+    let averages = vm.averages();
+    match vm.period() {
+        None => averages.active(None),
+        Some(period) => averages.active(Some((touched(period), sampled(period)))),
     }
 }
 
-fn is_hint(tables: &Tables, vm: VmId, page: u32) -> bool
-    ensures { result ≡ is_hint (book_in tables.now) vm page }
+fn activity_in(vm: &VmTable) -> Activity
+    requires { CanTell vm.now.period }
+    ensures { result ≡ activity_in vm.now vm.now.period }
 {
-    tables.hints.as_slice().iter().any(|hint| hint.vm.number() == vm.number() && hint.page == page)
+    let averages = vm.averages();
+    let closed = Activity {
+        slow: averages.slow(),
+        fast: averages.fast(),
+        active: active(vm),
+        done: 0,
+        length: 0,
+        touched: 0,
+        pages: 0,
+    };
+    match vm.period() {
+        None => closed,
+        Some(period) => Activity {
+            done: period.done,
+            length: period.length,
+            touched: touched(period),
+            pages: sampled(period),
+            ..closed
+        },
+    }
+}
+
+/// A machine's averages and open period, or that there is no such machine.
+pub fn activity(tables: &SiteTables, vm: VmId) -> Result<Activity, Refusal>
+    requires { AreReadable tables.now }
+    ensures { result ≡ activity_of (row_at tables.now vm) }
+{
+    match tables.vm(vm) {
+        None => Err(Refusal::NoVm),
+        Some(row) => Ok(activity_in(row)),
+    }
+}
+
+fn is_hinted(listing: Listing) -> bool
+    ensures { result ≡ is_hinted listing }
+{
+    matches!(listing, Listing::Hinted { .. })
 }
 
 fn state_in(hinted: bool, frame: u32, row: &FrameRow) -> PageState
@@ -87,30 +104,36 @@ fn state_in(hinted: bool, frame: u32, row: &FrameRow) -> PageState
     }
 }
 
-fn state_here(tables: &Tables, vm: VmId, page: u32, frame: u32) -> PageState
-    ensures { result ≡ state_at (book_in tables.now) vm page (MapRow.Here frame) }
+fn state_here(tables: &SiteTables, frame: u32) -> PageState
+    ensures { result ≡ state_in (is_hinted (listing_at tables.now.listings frame)) frame (frame_at tables.now.frames frame) }
 {
-    match tables.frames.as_slice().get(frame as usize) {
-        Some(row) => state_in(is_hint(tables, vm, page), frame, row),
+    match tables.frame(frame) {
+        Some(row) => state_in(is_hinted(tables.listing(frame)), frame, row),
         None => PageState::Untouched,
     }
 }
 
-fn state_at(tables: &Tables, vm: VmId, page: u32, row: MapRow) -> PageState
-    ensures { result ≡ state_at (book_in tables.now) vm page row }
+/// Where a page is by its row; a loan of an epoch that is over counts as untouched.
+fn state_of(tables: &SiteTables, epoch: u32, row: MapRow) -> PageState
+    ensures { result ≡ state_of tables.now epoch row }
 {
     match row {
         MapRow::Untouched => PageState::Untouched,
-        MapRow::Here { frame } => state_here(tables, vm, page, frame),
+        MapRow::Here { frame } => state_here(tables, frame),
         MapRow::Out { slot } => PageState::Out { slot },
-        MapRow::Lent { .. } => PageState::Lent,
+        MapRow::Lent { epoch: lent } => {
+            if lent == epoch {
+                PageState::Lent
+            } else {
+                PageState::Untouched
+            }
+        }
     }
 }
 
 /// Where a page is, or why there is no such page.
-#[tactic(auto, unfolding(esx_plain::specs::Readings::page_state))]
-pub fn page_state(tables: &Tables, vm: VmId, page: u32) -> Result<PageState, Refusal>
-    ensures { result ≡ page_state (book_in tables.now) vm page }
+pub fn page_state(tables: &SiteTables, vm: VmId, page: u32) -> Result<PageState, Refusal>
+    ensures { result ≡ page_from tables.now page (row_at tables.now vm) }
 {
     let Some(row) = tables.vm(vm) else {
         return Err(Refusal::NoVm);
@@ -118,5 +141,5 @@ pub fn page_state(tables: &Tables, vm: VmId, page: u32) -> Result<PageState, Ref
     if row.spec().max <= page {
         return Err(Refusal::OutOfRange);
     }
-    Ok(state_at(tables, vm, page, row.page(page)))
+    Ok(state_of(tables, row.facts().epoch, row.page(page)))
 }

@@ -1,8 +1,10 @@
 //! Plans, a file for each mechanism.
 
+pub mod event;
 pub mod leaving;
 pub mod rebalancing;
 pub mod starting;
+mod stub;
 
 use esx_events::Answer;
 use esx_tables::Record;

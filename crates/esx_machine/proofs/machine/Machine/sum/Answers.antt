@@ -1,14 +1,13 @@
 use Rattle.std.proofs.Common.{◌∙◌, ◌+◌, ap, ℕ}
-use Rattle.esx_types.specs.declared.call.Sum.{Sum}
-use Rattle.esx_machine.specs.Tables.{book_in}
+use Rattle.esx_frames.specs.declared.counts.Counts.{Counts}
+use Rattle.esx_model.specs.Readings.{sum_of}
 use Rattle.esx_machine.specs.Machine.{Kept}
-use Rattle.esx_machine.proofs.Sums.{adds_up, kept_small}
+use Rattle.esx_machine.proofs.Read.{adds_up}
 use Rattle.esx_machine.proofs.machine.Machine.sum.Goals as goal
 
-pub sum_of-requires : goal.sum_of-requires
-sum_of-requires c = kept_small c.self.inside.config (book_in c.self.inside.tables) c.self.invariant
-
 pub returns-clause-adds_up : goal.returns-clause-adds_up
+unfolding sum_of
 returns-clause-adds_up c =
-    let all : Sum → ℕ = λ s. s.overhead + s.private + s.shared + s.free in
-    ap all c.sum_of.ensures ∙ adds_up c.self.inside.config (book_in c.self.inside.tables) c.self.invariant ∙ ap (λ (k : Kept). k.config.frames) c.self.view_is
+    let k : Kept = record { config = c.self.inside.config; level = c.self.inside.level; tables = c.self.inside.tables } in
+    let all : Counts → ℕ = λ s. s.overhead + s.private + s.shared + s.free in
+    ap all c.counts.ensures ∙ adds_up k c.self.invariant ∙ ap (λ (x : Kept). x.config.frames) c.self.view_is

@@ -1,0 +1,8 @@
+use Rattle.esx_machine.specs.Machine.{Kept}
+use Rattle.esx_machine.proofs.Readable.{kept_readable}
+use Rattle.esx_machine.proofs.machine.Machine.table.Goals as goal
+
+pub table_of-requires : goal.table_of-requires
+table_of-requires c =
+    let k : Kept = record { config = c.self.inside.config; level = c.self.inside.level; tables = c.self.inside.tables } in
+    kept_readable k c.self.invariant

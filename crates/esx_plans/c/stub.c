@@ -1,0 +1,1 @@
+unsigned esx_stub(void) { return 0; }
