@@ -5,3 +5,4 @@ pub mod Read
 pub mod Framed
 pub mod Paged
 pub mod Advised
+pub mod Loops

@@ -1,6 +1,7 @@
 -- What is read of the raw tables is what is read of the book.
-use Rattle.std.proofs.Common.{zero, suc, ◌≡◌, ℕ, ◌+◌, ◌<◌, Bool, true, false, List, [], ◌∷◌, length, get_or, map, count_by, refl, sym, ap, ◌∙◌, subst, cond, Option, Some, None, ◌==◌}
+use Rattle.std.proofs.Common.{zero, suc, ◌≡◌, ℕ, ◌+◌, ◌<◌, Bool, true, false, List, [], ◌∷◌, length, get_or, map, count_by, refl, sym, ap, ◌∙◌, subst, cond, Option, Some, None, ◌==◌, Result, Ok, Err}
 use Rattle.std.specs.Option.{option_map}
+use Rattle.std.specs.Result.{IfOk}
 use Rattle.std.proofs.lemmas.List.FromFn.{length-map-range_with_len}
 use Rattle.esx_types.specs.declared.config.Config.{Config}
 use Rattle.esx_types.specs.declared.level.Level.{Level}
@@ -97,3 +98,7 @@ lines_read n (Some v ∷ os) = ap (λ (x : TableRow). x ∷ table_from (n + 1) (
 pub table_read : (t : Tables) (level : Level) → table_of (book_from t level) ≡ table_from 0 t.vms
 unfolding table_of
 table_read t level = lines_read 0 t.vms
+
+pub lines_told : {E : Type 0} (t : Tables) (level : Level) (r : Result (List TableRow) E) → IfOk r (λ rows. rows ≡ table_from 0 t.vms) → IfOk r (λ rows. rows ≡ table_of (book_from t level))
+lines_told t level (Ok rows) h = h ∙ sym (table_read t level)
+lines_told t level (Err e) h = tt

@@ -14,6 +14,7 @@ use Rattle.esx_events.specs.declared.call.Help.{Help}
 use Rattle.esx_events.specs.declared.call.Help.TheVariants as helps
 use Rattle.esx_events.specs.declared.call.PageState.{PageState}
 use Rattle.esx_events.specs.declared.call.PageState.TheVariants as states
+use Rattle.esx_events.specs.declared.call.TableRow.{TableRow}
 use Rattle.esx_events.specs.declared.event.Refusal.{Refusal}
 use Rattle.esx_events.specs.declared.event.Refusal.TheVariants.{NoVm, OutOfRange}
 use Rattle.esx_formulas.specs.declared.targets.Row.{Row}
@@ -24,7 +25,7 @@ use Rattle.esx_model.specs.declared.book.PeriodRow.{PeriodRow}
 use Rattle.esx_model.specs.declared.book.VmRow.{VmRow}
 use Rattle.esx_model.specs.declared.tables.Tables.{Tables}
 use Rattle.esx_model.specs.Tables.{standing_of}
-use Rattle.esx_model.specs.Readings.{active_now, period_so_far, state_in}
+use Rattle.esx_model.specs.Readings.{active_now, period_so_far, state_in, table_row}
 use Rattle.esx_model.specs.Advice.{help_by}
 use Rattle.esx_model.specs.event.Access.{is_blocked}
 use Rattle.esx_model.specs.event.Outcome.{unless, page_gate}
@@ -109,3 +110,8 @@ help_from t level v page = if can_go t level v page then helps.Go else help_by (
 abbrev pub advice_from : Tables → Level → ℕ → Option VmRow → Result Help Refusal
 advice_from t level page None = Err NoVm
 advice_from t level page (Some v) = unless (page_gate (standing_of v) page) (Ok (help_from t level v page))
+
+-- the line of a place of a machine
+abbrev pub line_of : ℕ → Option VmRow → List TableRow
+line_of n None = []
+line_of n (Some v) = table_row n v ∷ []

@@ -26,13 +26,23 @@ fn is_blocked(level: Level, standing: &Standing) -> bool
     matches!(level, Level::Low) && standing.target < standing.resident
 }
 
+fn ref_count(row: &FrameRow) -> u32
+    ensures { result ≡ ref_count row.now }
+{
+    match row {
+        FrameRow::Free | FrameRow::Overhead | FrameRow::Private { .. } => 0,
+        FrameRow::Shared { count, .. } => *count,
+    }
+}
+
 /// How many pages are in a shared frame; 0 for any other.
-fn ref_count(tables: &SiteTables, frame: u32) -> u32
+#[tactic(auto, using(crate::proofs::Loops::no_frame))]
+fn users(tables: &SiteTables, frame: u32) -> u32
     ensures { result ≡ ref_count (frame_at tables.now.frames frame) }
 {
     match tables.frame(frame) {
-        Some(FrameRow::Shared { count, .. }) => *count,
-        _ => 0,
+        Some(row) => ref_count(row),
+        None => 0,
     }
 }
 
@@ -42,7 +52,7 @@ fn has_frame(tables: &SiteTables, row: MapRow) -> bool
 {
     match row {
         MapRow::Here { frame } => {
-            ref_count(tables, frame) <= 1 || tables.least_frame().is_some()
+            users(tables, frame) <= 1 || tables.least_frame().is_some()
         }
         _ => tables.least_frame().is_some(),
     }

@@ -10,4 +10,4 @@ unfolding sum_of
 returns-clause-adds_up c =
     let k : Kept = record { config = c.self.inside.config; level = c.self.inside.level; tables = c.self.inside.tables } in
     let all : Counts → ℕ = λ s. s.overhead + s.private + s.shared + s.free in
-    ap all c.counts.ensures ∙ adds_up k c.self.invariant ∙ ap (λ (x : Kept). x.config.frames) c.self.view_is
+    ap all c.counts-counts.ensures ∙ adds_up k c.self.invariant ∙ ap (λ (x : Kept). x.config.frames) c.self.view_is
