@@ -1,4 +1,6 @@
 pub mod Planned
+pub mod Admission
 pub mod Leaving
 pub mod Rebalancing
 pub mod Starting
+pub mod Sampling

@@ -1,7 +1,9 @@
 //! Plans, a file for each mechanism.
 
+pub mod admission;
 pub mod leaving;
 pub mod rebalancing;
+pub mod sampling;
 pub mod starting;
 
 use esx_events::Answer;
