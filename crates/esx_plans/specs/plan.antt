@@ -1,6 +1,7 @@
 pub mod Planned
 pub mod Admission
 pub mod Leaving
+pub mod Ratios
 pub mod Rebalancing
 pub mod Starting
 pub mod Sampling

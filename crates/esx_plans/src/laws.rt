@@ -3,6 +3,7 @@
 ghost use Rattle.std.specs.Prelude.{◌≡◌, ℕ, ◌<◌, List, length};
 ghost use Rattle.esx_types.specs.declared.config.Config.{Config};
 ghost use Rattle.esx_types.specs.declared.config.TheConstants.{VM_NUMBERS};
+ghost use Rattle.esx_types.specs.declared.level.Level.{Level};
 ghost use Rattle.esx_types.specs.declared.vm.VmSpec.{VmSpec};
 ghost use Rattle.esx_model.specs.declared.scene.Vm.{Vm};
 ghost use Rattle.esx_model.specs.declared.scene.Site.{Site};
@@ -10,14 +11,15 @@ ghost use Rattle.esx_model.specs.Tables.{vm_table, standing_of, tables_of};
 ghost use Rattle.esx_model.specs.event.Outcome.{standing};
 ghost use Rattle.esx_model.specs.event.Admission.{admit};
 ghost use Rattle.esx_model.specs.event.Leaving.{stop};
-ghost use Rattle.esx_model.specs.event.Rebalancing.{set_tax, set_shares};
+ghost use Rattle.esx_model.specs.event.Rebalancing.{rebalance, set_tax, set_shares};
 ghost use Rattle.esx_model.specs.event.Sampling.{sample};
 ghost use Rattle.esx_model.specs.event.Starting.{start};
 ghost use Rattle.esx_model.specs.sound.Sound.{IsSound};
 ghost use Rattle.esx_plans.specs.plan.Planned.{Refines};
 ghost use Rattle.esx_plans.specs.plan.Admission.{admit_plan};
 ghost use Rattle.esx_plans.specs.plan.Leaving.{stop_plan};
-ghost use Rattle.esx_plans.specs.plan.Rebalancing.{tax_plan, shares_plan};
+ghost use Rattle.esx_plans.specs.plan.Ratios.{HaveRatios};
+ghost use Rattle.esx_plans.specs.plan.Rebalancing.{rebalance_plan, tax_plan, shares_plan};
 ghost use Rattle.esx_plans.specs.plan.Sampling.{sample_plan};
 ghost use Rattle.esx_plans.specs.plan.Starting.{start_plan};
 
@@ -49,4 +51,11 @@ pub fn admit_refines()
 /// The plan of a sample period that opens does to the tables what the event does to the site.
 pub fn sample_refines()
     ensures { (c : Config) (s : Site) (n len : ℕ) (words : List ℕ) → Refines c s (sample_plan (tables_of c s) n len words) (sample s n len words) }
+{}
+
+/// The plan of new targets does to the tables what the event does to the site, and the tables of a sound
+/// site have all that it needs.
+pub fn rebalance_refines()
+    ensures ratios { (c : Config) (s : Site) → IsSound c s → HaveRatios (tables_of c s) }
+    ensures plan { (c : Config) (s : Site) (level : Level) → Refines c s (rebalance_plan c (tables_of c s) level) (rebalance c s level) }
 {}

@@ -2,6 +2,7 @@
 
 pub mod admission;
 pub mod leaving;
+pub mod ratios;
 pub mod rebalancing;
 pub mod sampling;
 pub mod starting;
