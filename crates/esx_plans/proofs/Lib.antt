@@ -1,4 +1,6 @@
 pub mod Refining
 pub mod Made
 pub mod Found
+pub mod Ratios
+pub mod Retargeted
 pub mod refines

@@ -2,3 +2,5 @@ pub mod Rebalancing
 pub mod Leaving
 pub mod Starting
 pub mod Event
+pub mod Admission
+pub mod Sampling

@@ -1,5 +1,8 @@
 pub mod Planned
+pub mod Admission
 pub mod Leaving
+pub mod Ratios
 pub mod Rebalancing
 pub mod Starting
 pub mod Event
+pub mod Sampling

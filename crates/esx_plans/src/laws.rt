@@ -1,18 +1,26 @@
 //! Laws of plans. A function here does nothing: its contract is the law.
 
-ghost use Rattle.std.specs.Prelude.{◌≡◌, ℕ};
+ghost use Rattle.std.specs.Prelude.{◌≡◌, ℕ, ◌<◌, List, length};
 ghost use Rattle.esx_types.specs.declared.config.Config.{Config};
+ghost use Rattle.esx_types.specs.declared.config.TheConstants.{VM_NUMBERS};
+ghost use Rattle.esx_types.specs.declared.level.Level.{Level};
+ghost use Rattle.esx_types.specs.declared.vm.VmSpec.{VmSpec};
 ghost use Rattle.esx_model.specs.declared.scene.Vm.{Vm};
 ghost use Rattle.esx_model.specs.declared.scene.Site.{Site};
 ghost use Rattle.esx_model.specs.Tables.{vm_table, standing_of, tables_of};
 ghost use Rattle.esx_model.specs.event.Outcome.{standing};
+ghost use Rattle.esx_model.specs.event.Admission.{admit};
 ghost use Rattle.esx_model.specs.event.Leaving.{stop};
-ghost use Rattle.esx_model.specs.event.Rebalancing.{set_tax, set_shares};
+ghost use Rattle.esx_model.specs.event.Rebalancing.{rebalance, set_tax, set_shares};
+ghost use Rattle.esx_model.specs.event.Sampling.{sample};
 ghost use Rattle.esx_model.specs.event.Starting.{start};
 ghost use Rattle.esx_model.specs.sound.Sound.{IsSound};
 ghost use Rattle.esx_plans.specs.plan.Planned.{Refines};
+ghost use Rattle.esx_plans.specs.plan.Admission.{admit_plan};
 ghost use Rattle.esx_plans.specs.plan.Leaving.{stop_plan};
-ghost use Rattle.esx_plans.specs.plan.Rebalancing.{tax_plan, shares_plan};
+ghost use Rattle.esx_plans.specs.plan.Ratios.{HaveRatios};
+ghost use Rattle.esx_plans.specs.plan.Rebalancing.{rebalance_plan, tax_plan, shares_plan};
+ghost use Rattle.esx_plans.specs.plan.Sampling.{sample_plan};
 ghost use Rattle.esx_plans.specs.plan.Starting.{start_plan};
 
 /// What gates read of a machine's row is what they read of the machine.
@@ -31,4 +39,23 @@ pub fn settings_refine()
 /// The plan of a start does to the tables of a sound site what the event does to the site.
 pub fn start_refines()
     ensures { (c : Config) (s : Site) (n : ℕ) → IsSound c s → Refines c s (start_plan (tables_of c s) n) (start c s n) }
+{}
+
+/// The plan of an admission does to the tables of a sound site what the event does to the site, and such
+/// tables have a place for each machine.
+pub fn admit_refines()
+    ensures places { (c : Config) (s : Site) → IsSound c s → length (tables_of c s).vms ≡ VM_NUMBERS }
+    ensures plan { (c : Config) (s : Site) (n : ℕ) (spec : VmSpec) → IsSound c s → n < VM_NUMBERS → Refines c s (admit_plan c (tables_of c s) n spec) (admit c s n spec) }
+{}
+
+/// The plan of a sample period that opens does to the tables what the event does to the site.
+pub fn sample_refines()
+    ensures { (c : Config) (s : Site) (n len : ℕ) (words : List ℕ) → Refines c s (sample_plan (tables_of c s) n len words) (sample s n len words) }
+{}
+
+/// The plan of new targets does to the tables what the event does to the site, and the tables of a sound
+/// site have all that it needs.
+pub fn rebalance_refines()
+    ensures ratios { (c : Config) (s : Site) → IsSound c s → HaveRatios (tables_of c s) }
+    ensures plan { (c : Config) (s : Site) (level : Level) → Refines c s (rebalance_plan c (tables_of c s) level) (rebalance c s level) }
 {}

@@ -1,8 +1,11 @@
 //! Plans, a file for each mechanism.
 
 pub mod event;
+pub mod admission;
 pub mod leaving;
+pub mod ratios;
 pub mod rebalancing;
+pub mod sampling;
 pub mod starting;
 mod stub;
 
