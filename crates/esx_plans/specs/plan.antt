@@ -1,4 +1,6 @@
 pub mod Planned
+pub mod Leaves
+pub mod Balloon
 pub mod Leaving
 pub mod Rebalancing
 pub mod Starting

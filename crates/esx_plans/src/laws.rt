@@ -6,12 +6,12 @@ ghost use Rattle.esx_model.specs.declared.scene.Vm.{Vm};
 ghost use Rattle.esx_model.specs.declared.scene.Site.{Site};
 ghost use Rattle.esx_model.specs.Tables.{vm_table, standing_of, tables_of};
 ghost use Rattle.esx_model.specs.event.Outcome.{standing};
-ghost use Rattle.esx_model.specs.event.Leaving.{stop};
+ghost use Rattle.esx_model.specs.event.Leaving.{stop, drop_page, gone};
 ghost use Rattle.esx_model.specs.event.Rebalancing.{set_tax, set_shares};
 ghost use Rattle.esx_model.specs.event.Starting.{start};
 ghost use Rattle.esx_model.specs.sound.Sound.{IsSound};
 ghost use Rattle.esx_plans.specs.plan.Planned.{Refines};
-ghost use Rattle.esx_plans.specs.plan.Leaving.{stop_plan};
+ghost use Rattle.esx_plans.specs.plan.Leaving.{stop_plan, drop_plan, gone_plan};
 ghost use Rattle.esx_plans.specs.plan.Rebalancing.{tax_plan, shares_plan};
 ghost use Rattle.esx_plans.specs.plan.Starting.{start_plan};
 
@@ -31,4 +31,10 @@ pub fn settings_refine()
 /// The plan of a start does to the tables of a sound site what the event does to the site.
 pub fn start_refines()
     ensures { (c : Config) (s : Site) (n : ℕ) → IsSound c s → Refines c s (start_plan (tables_of c s) n) (start c s n) }
+{}
+
+/// The plan of a drop, and of an overhead frame that is given back, does to the tables of a sound site what
+/// the event does to the site.
+pub fn leaving_refines()
+    ensures drop_page { (c : Config) (s : Site) (n page : ℕ) → IsSound c s → Refines c s (drop_plan (tables_of c s) n page) (drop_page s n page) }
 {}

@@ -1,5 +1,7 @@
 //! Plans, a file for each mechanism.
 
+pub mod balloon;
+mod leaves;
 pub mod leaving;
 pub mod rebalancing;
 pub mod starting;
