@@ -6,11 +6,13 @@ ghost use Rattle.esx_model.specs.declared.scene.Vm.{Vm};
 ghost use Rattle.esx_model.specs.declared.scene.Site.{Site};
 ghost use Rattle.esx_model.specs.Tables.{vm_table, standing_of, tables_of};
 ghost use Rattle.esx_model.specs.event.Outcome.{standing};
+ghost use Rattle.esx_model.specs.event.Balloon.{ask, lend, take_back};
 ghost use Rattle.esx_model.specs.event.Leaving.{stop, drop_page, gone};
 ghost use Rattle.esx_model.specs.event.Rebalancing.{set_tax, set_shares};
 ghost use Rattle.esx_model.specs.event.Starting.{start};
 ghost use Rattle.esx_model.specs.sound.Sound.{IsSound};
 ghost use Rattle.esx_plans.specs.plan.Planned.{Refines};
+ghost use Rattle.esx_plans.specs.plan.Balloon.{ask_plan, lend_plan, take_back_plan};
 ghost use Rattle.esx_plans.specs.plan.Leaving.{stop_plan, drop_plan, gone_plan};
 ghost use Rattle.esx_plans.specs.plan.Rebalancing.{tax_plan, shares_plan};
 ghost use Rattle.esx_plans.specs.plan.Starting.{start_plan};
@@ -37,4 +39,12 @@ pub fn start_refines()
 /// the event does to the site.
 pub fn leaving_refines()
     ensures drop_page { (c : Config) (s : Site) (n page : ℕ) → IsSound c s → Refines c s (drop_plan (tables_of c s) n page) (drop_page s n page) }
+{}
+
+/// The plan of what a balloon driver asks, of a loan and of its end does to the tables what the event does
+/// to the site.
+pub fn balloon_refines()
+    ensures ask { (c : Config) (s : Site) (n : ℕ) → Refines c s (ask_plan (tables_of c s) n) (ask s n) }
+    ensures lend { (c : Config) (s : Site) (n page : ℕ) → IsSound c s → Refines c s (lend_plan (tables_of c s) n page) (lend s n page) }
+    ensures take_back { (c : Config) (s : Site) (n page : ℕ) → IsSound c s → Refines c s (take_back_plan (tables_of c s) n page) (take_back s n page) }
 {}
