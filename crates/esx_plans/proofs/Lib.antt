@@ -2,4 +2,5 @@ pub mod Refining
 pub mod Made
 pub mod Found
 pub mod Leaves
+pub mod Overhead
 pub mod refines

@@ -39,6 +39,7 @@ pub fn start_refines()
 /// the event does to the site.
 pub fn leaving_refines()
     ensures drop_page { (c : Config) (s : Site) (n page : ℕ) → IsSound c s → Refines c s (drop_plan (tables_of c s) n page) (drop_page s n page) }
+    ensures gone { (c : Config) (s : Site) (n : ℕ) → IsSound c s → Refines c s (gone_plan (tables_of c s) n) (gone s n) }
 {}
 
 /// The plan of what a balloon driver asks, of a loan and of its end does to the tables what the event does
