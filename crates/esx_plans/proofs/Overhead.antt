@@ -1,5 +1,5 @@
 -- Overhead frames: one that is given back stood under nothing.
-use Rattle.std.proofs.Common.{zero, suc, ◌≡◌, ℕ, ◌+◌, ◌-◌, ◌<◌, ◌≤◌, ◌||◌, ◌&&◌, ◌==◌, Bool, true, nat_lt, nat_le, List, [], ◌∷◌, length, get_or, set, take, map, refl, sym, ap, ◌∙◌, arith, cond, Option, Some, None, inl, inr}
+use Rattle.std.proofs.Common.{zero, suc, ◌≡◌, ℕ, ◌-◌, ◌<◌, ◌≤◌, ◌||◌, ◌&&◌, ◌==◌, Bool, true, nat_lt, nat_le, List, [], ◌∷◌, length, get_or, set, take, map, refl, sym, ap, ◌∙◌, arith, cond, Option, Some, None, inl, inr}
 use Rattle.std.specs.List.{find, flat_map, range_with_len}
 use Rattle.std.proofs.lemmas.Bool.{cases_lt, or_right, eq-eqb}
 use Rattle.std.proofs.lemmas.Bool.Decides.{nat_tests}

@@ -71,15 +71,17 @@ pub lend_refines : (c : Config) (s : Site) (n page : ℕ) → IsSound c s → Re
 unfolding event.lend lend_plan
 lend_refines c s n page sound = needs_vm c s n _ _ (λ v there. passes_same c s _ _ _ _ (page_gate_same v page) (λ pass.
     due_same c s n v _ _ there (passes_same c s _ _ _ _ (lend_gate_same v page) (λ passed.
-    let same : v.epoch ≤ v.epoch = omega arith in
-    (ap lent_told (standing_shown v),
-      page_leaves_made c s n page v (Lent v.epoch) sound there (below_max v.spec.max page pass.1.0) (past_start v (runs v.state (not_not _ pass.0))) same (room_lent c s (place_at v page) v.epoch) refl (λ t. refl))))))
+    let same : v.epoch ≤ v.epoch = omega arith in (
+      ap lent_told (standing_shown v),
+      page_leaves_made c s n page v (Lent v.epoch) sound there (below_max v.spec.max page pass.1.0) (past_start v (runs v.state (not_not _ pass.0))) same (room_lent c s (place_at v page) v.epoch) refl (λ t. refl),
+    )))))
 
 -- A loan that ends.
 
 pub take_back_refines : (c : Config) (s : Site) (n page : ℕ) → IsSound c s → Refines c s (take_back_plan (tables_of c s) n page) (event.take_back s n page)
 unfolding event.take_back take_back_plan
 take_back_refines c s n page sound = needs_vm c s n _ _ (λ v there. passes_same c s _ _ _ _ (page_gate_same v page) (λ pass.
-    due_same c s n v _ _ there (passes_same c s _ _ _ _ (ap event.take_back_gate (lent_now_same v page)) (λ passed.
-    (ap taken_back (standing_shown v),
-      page_leaves_made c s n page v Untouched sound there (below_max v.spec.max page pass.1.0) (past_start v (runs v.state (not_not _ pass.0))) tt (room_nowhere c s (place_at v page)) refl (λ t. refl))))))
+    due_same c s n v _ _ there (passes_same c s _ _ _ _ (ap event.take_back_gate (lent_now_same v page)) (λ passed. (
+      ap taken_back (standing_shown v),
+      page_leaves_made c s n page v Untouched sound there (below_max v.spec.max page pass.1.0) (past_start v (runs v.state (not_not _ pass.0))) tt (room_nowhere c s (place_at v page)) refl (λ t. refl),
+    )))))

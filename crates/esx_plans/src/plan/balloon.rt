@@ -1,6 +1,7 @@
 //! A guest asks how much its balloon is to lend, lends a page, and takes one back.
 
 ghost use Rattle.std.specs.Prelude.{◌≡◌, ◌+◌, ◌<◌, ◌^◌, IfOk};
+ghost use Rattle.esx_events.specs.declared.event.Answer.TheVariants.{Reset};
 ghost use Rattle.esx_model.specs.event.Outcome.{goal};
 ghost use Rattle.esx_plans.specs.plan.Planned.{Plans};
 ghost use Rattle.esx_plans.specs.plan.Balloon.{CanEpochsRise, is_lent_now, reset_changes, goal_told, lent_told, taken_back, ask_plan, lend_plan, take_back_plan};
@@ -44,6 +45,20 @@ fn reset_changes(alloc: Global, vm: VmId, row: &VmTable) -> Result<Vec<Change>, 
     Ok(vec![in alloc; Change::OfVm { vm, part }]?)
 }
 
+/// The reset that is due.
+fn reset(alloc: Global, vm: VmId, row: &VmTable) -> Result<Plan, AllocError>
+    requires { row.now.epoch + 1 < 2 ^ 32 }
+    ensures answer { IfOk result (λ plan. plan.answer ≡ Reset (row.now.epoch + 1)) }
+    ensures changes { IfOk result (λ plan. plan.changes ≡ reset_changes vm row.now) }
+{
+    let changes = reset_changes(alloc, vm, row)?;
+    let epoch = row.facts().epoch + 1;
+    Ok(Plan {
+        answer: Answer::Reset { epoch },
+        changes: Record::of(changes),
+    })
+}
+
 fn goal_told(standing: &Standing, epoch: u32) -> Answer
     ensures { result ≡ goal_told standing.now epoch }
 {
@@ -69,12 +84,7 @@ pub fn plan_ask(tables: &SiteTables, alloc: Global, vm: VmId) -> Result<Plan, Re
         VmState::Running => {}
     }
     if facts.due {
-        let epoch = facts.epoch + 1;
-        let changes = reset_changes(alloc, vm, row)?;
-        return Ok(Plan {
-            answer: Answer::Reset { epoch },
-            changes: Record::of(changes),
-        });
+        return Ok(reset(alloc, vm, row)?);
     }
     Ok(Plan {
         answer: goal_told(&row.standing(), facts.epoch),
@@ -111,12 +121,7 @@ pub fn plan_lend(tables: &SiteTables, alloc: Global, vm: VmId, page: u32) -> Res
         return Err(Refusal::OutOfRange);
     }
     if facts.due {
-        let epoch = facts.epoch + 1;
-        let changes = reset_changes(alloc, vm, row)?;
-        return Ok(Plan {
-            answer: Answer::Reset { epoch },
-            changes: Record::of(changes),
-        });
+        return Ok(reset(alloc, vm, row)?);
     }
     if is_lent_now(row, page) {
         return Err(Refusal::LentAlready);
@@ -156,12 +161,7 @@ pub fn plan_take_back(
         return Err(Refusal::OutOfRange);
     }
     if facts.due {
-        let epoch = facts.epoch + 1;
-        let changes = reset_changes(alloc, vm, row)?;
-        return Ok(Plan {
-            answer: Answer::Reset { epoch },
-            changes: Record::of(changes),
-        });
+        return Ok(reset(alloc, vm, row)?);
     }
     if !is_lent_now(row, page) {
         return Err(Refusal::NotLent);

@@ -1,6 +1,8 @@
 //! A machine stops, drops its pages, and gives back its overhead frames.
 
 ghost use Rattle.std.specs.Prelude.{◌≡◌, IfOk};
+ghost use Rattle.esx_types.specs.declared.table.FrameRow.TheVariants.{Free};
+ghost use Rattle.esx_tables.specs.declared.change.Change.TheVariants.{FrameAt};
 ghost use Rattle.esx_plans.specs.plan.Planned.{Plans};
 ghost use Rattle.esx_plans.specs.plan.Leaving.{stop_plan, drop_plan, given_back, give_back_changes, gone_plan};
 
@@ -88,28 +90,25 @@ fn given_back(row: &VmTable) -> Answer
     }
 }
 
+fn freed(frame: u32) -> Change
+    ensures { result ≡ FrameAt frame Free }
+{
+    Change::FrameAt {
+        frame,
+        row: FrameRow::Free,
+    }
+}
+
 fn give_back_changes(alloc: Global, vm: VmId, row: &VmTable) -> Result<Vec<Change>, AllocError>
     ensures { IfOk result (λ changes. changes.items ≡ give_back_changes vm row.now) }
 {
     match row.overhead() {
         [] => Ok(vec![in alloc; Change::VmAt { vm, row: None }]?),
-        [frame] => Ok(vec![in alloc;
-            Change::FrameAt {
-                frame: *frame,
-                row: FrameRow::Free
-            },
-            Change::VmAt { vm, row: None },
-        ]?),
-        [.., last] => Ok(vec![in alloc;
-            Change::FrameAt {
-                frame: *last,
-                row: FrameRow::Free
-            },
-            Change::OfVm {
-                vm,
-                part: VmPart::OverheadTop { frame: None }
-            },
-        ]?),
+        [frame] => Ok(vec![in alloc; freed(*frame), Change::VmAt { vm, row: None }]?),
+        [.., last] => {
+            let part = VmPart::OverheadTop { frame: None };
+            Ok(vec![in alloc; freed(*last), Change::OfVm { vm, part }]?)
+        }
     }
 }
 
