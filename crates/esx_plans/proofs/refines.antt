@@ -1,3 +1,4 @@
+pub mod Balloon
 pub mod Rebalancing
 pub mod Leaving
 pub mod Starting

@@ -1,5 +1,7 @@
 pub mod Planned
 pub mod Admission
+pub mod Leaves
+pub mod Balloon
 pub mod Leaving
 pub mod Ratios
 pub mod Rebalancing

@@ -10,17 +10,19 @@ ghost use Rattle.esx_model.specs.declared.scene.Site.{Site};
 ghost use Rattle.esx_model.specs.Tables.{vm_table, standing_of, tables_of};
 ghost use Rattle.esx_model.specs.event.Outcome.{standing};
 ghost use Rattle.esx_model.specs.event.Admission.{admit};
-ghost use Rattle.esx_model.specs.event.Leaving.{stop};
+ghost use Rattle.esx_model.specs.event.Leaving.{stop, drop_page, gone};
 ghost use Rattle.esx_model.specs.event.Rebalancing.{rebalance, set_tax, set_shares};
 ghost use Rattle.esx_model.specs.event.Sampling.{sample};
 ghost use Rattle.esx_model.specs.event.Starting.{start};
 ghost use Rattle.esx_model.specs.sound.Sound.{IsSound};
 ghost use Rattle.esx_plans.specs.plan.Planned.{Refines};
 ghost use Rattle.esx_plans.specs.plan.Admission.{admit_plan};
-ghost use Rattle.esx_plans.specs.plan.Leaving.{stop_plan};
+ghost use Rattle.esx_plans.specs.plan.Leaving.{stop_plan, drop_plan, gone_plan};
 ghost use Rattle.esx_plans.specs.plan.Ratios.{HaveRatios};
 ghost use Rattle.esx_plans.specs.plan.Rebalancing.{rebalance_plan, tax_plan, shares_plan};
 ghost use Rattle.esx_plans.specs.plan.Sampling.{sample_plan};
+ghost use Rattle.esx_model.specs.event.Balloon.{ask, lend, take_back};
+ghost use Rattle.esx_plans.specs.plan.Balloon.{ask_plan, lend_plan, take_back_plan};
 ghost use Rattle.esx_plans.specs.plan.Starting.{start_plan};
 
 /// What gates read of a machine's row is what they read of the machine.
@@ -58,4 +60,19 @@ pub fn sample_refines()
 pub fn rebalance_refines()
     ensures ratios { (c : Config) (s : Site) → IsSound c s → HaveRatios (tables_of c s) }
     ensures plan { (c : Config) (s : Site) (level : Level) → Refines c s (rebalance_plan c (tables_of c s) level) (rebalance c s level) }
+{}
+
+/// The plan of a drop, and of an overhead frame that is given back, does to the tables of a sound site what
+/// the event does to the site.
+pub fn leaving_refines()
+    ensures drop_page { (c : Config) (s : Site) (n page : ℕ) → IsSound c s → Refines c s (drop_plan (tables_of c s) n page) (drop_page s n page) }
+    ensures gone { (c : Config) (s : Site) (n : ℕ) → IsSound c s → Refines c s (gone_plan (tables_of c s) n) (gone s n) }
+{}
+
+/// The plan of what a balloon driver asks, of a loan and of its end does to the tables what the event does
+/// to the site.
+pub fn balloon_refines()
+    ensures ask { (c : Config) (s : Site) (n : ℕ) → Refines c s (ask_plan (tables_of c s) n) (ask s n) }
+    ensures lend { (c : Config) (s : Site) (n page : ℕ) → IsSound c s → Refines c s (lend_plan (tables_of c s) n page) (lend s n page) }
+    ensures take_back { (c : Config) (s : Site) (n page : ℕ) → IsSound c s → Refines c s (take_back_plan (tables_of c s) n page) (take_back s n page) }
 {}

@@ -2,6 +2,8 @@
 
 pub mod event;
 pub mod admission;
+pub mod balloon;
+mod leaves;
 pub mod leaving;
 pub mod ratios;
 pub mod rebalancing;
