@@ -4,11 +4,15 @@ ghost use Rattle.std.specs.Prelude.{◌<◌};
 ghost use Rattle.esx_types.specs.declared.config.TheConstants.{VM_NUMBERS};
 ghost use Rattle.esx_model.specs.sound.Sound.{NamesVm};
 ghost use Rattle.esx_plans.specs.plan.Planned.{Plans};
-ghost use Rattle.esx_plans.specs.plan.Event.{plan_of, CanEpochsRise, IsPlanned};
+ghost use Rattle.esx_plans.specs.plan.Balloon.{CanEpochsRise};
+ghost use Rattle.esx_plans.specs.plan.Event.{ArePlannable, plan_of, IsPlanned};
 
 use crate::plan::Plan;
-use crate::plan::leaving::plan_stop;
-use crate::plan::rebalancing::{plan_shares, plan_tax};
+use crate::plan::admission::plan_admit;
+use crate::plan::balloon::{plan_ask, plan_lend, plan_take_back};
+use crate::plan::leaving::{plan_drop_page, plan_gone, plan_stop};
+use crate::plan::rebalancing::{plan_rebalance, plan_shares, plan_tax};
+use crate::plan::sampling::plan_sample;
 use crate::plan::starting::plan_start;
 use crate::plan::stub::missing;
 use esx_events::{Event, Refusal};
@@ -56,6 +60,7 @@ pub fn plan_event(
     level: Level,
     event: &Event,
 ) -> Result<Plan, Refusal>
+    requires whole { ArePlannable config.now tables.now }
     requires rise { CanEpochsRise tables.now }
     ensures plans { Plans result (plan_of config.now tables.now level event.now) }
     ensures named { NamesVm event.now }
@@ -63,10 +68,20 @@ pub fn plan_event(
 {
     names_vm(event);
     match event {
+        Event::Admit { vm, spec } => plan_admit(tables, alloc, config, *vm, *spec),
         Event::Start { vm } => plan_start(tables, alloc, *vm),
+        Event::Ask { vm } => plan_ask(tables, alloc, *vm),
+        Event::Lend { vm, page } => plan_lend(tables, alloc, *vm, *page),
+        Event::TakeBack { vm, page } => plan_take_back(tables, alloc, *vm, *page),
+        Event::Sample { vm, length, words } => {
+            plan_sample(tables, alloc, *vm, *length, words.get().as_slice())
+        }
+        Event::Rebalance => plan_rebalance(tables, alloc, config, level),
         Event::SetShares { vm, shares } => plan_shares(tables, alloc, *vm, *shares),
         Event::SetTax { tau } => plan_tax(alloc, *tau),
         Event::Stop { vm } => plan_stop(tables, alloc, *vm),
+        Event::DropPage { vm, page } => plan_drop_page(tables, alloc, *vm, *page),
+        Event::Gone { vm } => plan_gone(tables, alloc, *vm),
         _ => missing(),
     }
 }
