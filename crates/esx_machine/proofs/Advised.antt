@@ -40,8 +40,9 @@ use Rattle.std.proofs.lemmas.List.{length-map}
 use Rattle.esx_tables.specs.Readings.{row_at}
 use Rattle.esx_plans.proofs.Refining.{row_there, page_row, standing_shown}
 use Rattle.esx_plans.proofs.Found.{frame_found}
+use Rattle.esx_plans.proofs.Ratios.{rows_shown}
 use Rattle.esx_machine.specs.Machine.{Kept, Shows}
-use Rattle.esx_machine.specs.Questions.{written_frame, can_go, is_above, ratio_row, ratio_rows, help_from, advice_from}
+use Rattle.esx_machine.specs.Questions.{written_frame, can_go, is_above, target_rows, help_from, advice_from}
 use Rattle.esx_machine.proofs.Framed.{IsAt, private_at, shared_at}
 
 -- The frame of a write.
@@ -75,45 +76,14 @@ any_above_same : (vms : List (Option Vm)) → list_any is_above (map (option_map
 any_above_same [] = refl
 any_above_same (o ∷ os) = ap (λ (b : Bool). b || list_any is_above (map (option_map vm_table) os)) (above_same o) ∙ ap (λ (b : Bool). is_above_min o || b) (any_above_same os)
 
--- What machines have.
-
-period_same : (p : Period) → period_so_far (period_row p) ≡ so_far p
-period_same p =
-    let mark : ℕ → Mark = λ page. record { page = page; touched = is_touched p page } in
-    let told : ℕ → ℕ → Estimate = λ touched pages. record { touched = touched; pages = pages } in
-    ap (λ (k : ℕ). told k (length (map mark p.pages))) (counts_same (λ (m : Mark). m.touched) (is_touched p) mark (λ page. refl) p.pages)
-    ∙ ap (λ (k : ℕ). told (count_by (is_touched p) p.pages) k) (length-map p.pages mark)
-
-open_same : (o : Option Period) → option_map period_so_far (option_map period_row o) ≡ option_map so_far o
-open_same None = refl
-open_same (Some p) = ap (λ (e : Estimate). Some e) (period_same p)
-
-active_same : (v : Vm) → active_now (vm_table v) ≡ active v
-active_same v = ap (λ (o : Option Estimate). active_share (slow_average v.closed) (fast_average v.closed) o) (open_same v.period)
-
-row_same : (n : ℕ) (v : Vm) → ratio_row n (vm_table v) ≡ row_of_vm n v.target v
-row_same n v =
-    ap (λ (m : Standing). record (ratio_row n (vm_table v)) { pages = m.resident }) (standing_shown v)
-    ∙ ap (λ (a : ℕ). record (row_of_vm n v.target v) { active = a }) (active_same v)
-
-rows_same : (n : ℕ) (vms : List (Option Vm)) → ratio_rows n (map (option_map vm_table) vms) ≡ rows_from target_of n vms
-rows_same n [] = refl
-rows_same n (None ∷ os) = rows_same (n + 1) os
-rows_same n (Some v ∷ os) =
-    ap (λ (r : Row). r ∷ ratio_rows (n + 1) (map (option_map vm_table) os)) (row_same n v) ∙ ap (λ (rs : List Row). row_of_vm n v.target v ∷ rs) (rows_same (n + 1) os)
-
-ratio_rows_shown : (s : Site) → ratio_rows 0 (map (option_map vm_table) s.vms) ≡ rows_of target_of s
-unfolding rows_of
-ratio_rows_shown s = rows_same 0 s.vms
-
 -- Advice.
 
 help_same : (c : Config) (t : Scene) (n page : ℕ) (v : Vm) → IsSound c t.site → vm_at t.site n ≡ Some v → help_from (tables_of c t.site) t.level (vm_table v) page ≡ help_for c t v page
 help_same c t n page v sound there =
     let tables : Tables = tables_of c t.site in
-    ap (λ (b : Bool). cond b helps.Go (help_by (list_any is_above tables.vms) (first_claim tables.tau (ratio_rows 0 tables.vms)))) (go_same c t n page v sound there)
-    ∙ ap (λ (b : Bool). cond (can_write c t v page) helps.Go (help_by b (first_claim tables.tau (ratio_rows 0 tables.vms)))) (any_above_same t.site.vms)
-    ∙ ap (λ (rows : List Row). cond (can_write c t v page) helps.Go (help_by (list_any is_above_min t.site.vms) (first_claim t.site.tau rows))) (ratio_rows_shown t.site)
+    ap (λ (b : Bool). cond b helps.Go (help_by (list_any is_above tables.vms) (first_claim tables.tau (target_rows 0 tables.vms)))) (go_same c t n page v sound there)
+    ∙ ap (λ (b : Bool). cond (can_write c t v page) helps.Go (help_by b (first_claim tables.tau (target_rows 0 tables.vms)))) (any_above_same t.site.vms)
+    ∙ ap (λ (rows : List Row). cond (can_write c t v page) helps.Go (help_by (list_any is_above_min t.site.vms) (first_claim t.site.tau rows))) (rows_shown (λ (w : VmRow). w.target) target_of (λ v. refl) c t.site)
 
 advice_same : (c : Config) (t : Scene) (n page : ℕ) (o : Option Vm) → IsSound c t.site → vm_at t.site n ≡ o → advice_from (tables_of c t.site) t.level page (option_map vm_table o) ≡ help_at c t o page
 advice_same c t n page None sound there = refl

@@ -24,9 +24,13 @@ use Rattle.esx_tables.specs.declared.change.Change.{Change}
 use Rattle.esx_tables.specs.Changes.{exchanged}
 use Rattle.esx_tables.proofs.Back.{exchanged_back}
 use Rattle.esx_plans.specs.plan.Planned.{Planned, Makes, Refines}
-use Rattle.esx_plans.specs.plan.Event.{plan_of, IsPlanned}
-use Rattle.esx_plans.proofs.refines.Event.{plan_refines}
+use Rattle.esx_plans.specs.plan.Event.{ArePlannable, plan_of, IsPlanned}
+use Rattle.esx_plans.proofs.refines.Event.{plannable, plan_refines}
 use Rattle.esx_machine.specs.Machine.{Kept, IsKept, Shows, Back, flipped, Trades, Accepts, Refuses}
+
+-- what plans rest on
+pub kept_plannable : (k : Kept) → IsKept k → ArePlannable k.config k.tables
+kept_plannable k kept = subst (ArePlannable k.config) (sym kept.shows) (plannable k.config kept.site kept.config kept.sound)
 
 -- the machine's plan refines the event on the scene
 at_scene : (k : Kept) (t : Scene) (e : Event) → Shows k t → NamesVm e → IsPlanned e → Refines k.config t.site (plan_of k.config k.tables k.level e) (step k.config t.site t.level e)

@@ -31,6 +31,7 @@ use Rattle.esx_model.specs.event.Access.{is_blocked}
 use Rattle.esx_model.specs.event.Outcome.{unless, page_gate}
 use Rattle.esx_model.specs.event.Paging.{has_more}
 use Rattle.esx_tables.specs.Readings.{row_at}
+use Rattle.esx_plans.specs.plan.Ratios.{numbered, ratio_row}
 
 -- an open period has some sampled pages, at most a hundred
 abbrev pub CanTell : Option PeriodRow → Type 0
@@ -83,14 +84,11 @@ is_above None = false
 is_above (Some v) = has_more (standing_of v)
 
 -- what a machine has, of which it keeps its target
-abbrev pub ratio_row : ℕ → VmRow → Row
-ratio_row n v = record { vm = n; shares = v.spec.shares; pages = resident_count v.pages; floor = v.target; active = active_now v }
+abbrev pub target_row : ℕ → VmRow → Row
+target_row n v = ratio_row (λ (w : VmRow). w.target) n v
 
--- a row for each machine from number n on
-abbrev pub ratio_rows : ℕ → List (Option VmRow) → List Row
-ratio_rows n [] = []
-ratio_rows n (None ∷ vms) = ratio_rows (n + 1) vms
-ratio_rows n (Some v ∷ vms) = ratio_row n v ∷ ratio_rows (n + 1) vms
+abbrev pub target_rows : ℕ → List (Option VmRow) → List Row
+target_rows n vms = numbered (ratio_row (λ (w : VmRow). w.target)) n vms
 
 -- the claim of the row that came first so far, and with one more row, or one more place of a machine
 abbrev pub claim_of : ℕ → Option Row → Option Claim
@@ -102,10 +100,10 @@ claim_step tau best row = if nat_lt row.floor row.pages then sooner best (claim 
 
 abbrev pub vm_step : ℕ → ℕ → Option Claim → Option VmRow → Option Claim
 vm_step tau n best None = best
-vm_step tau n best (Some v) = claim_step tau best (ratio_row n v)
+vm_step tau n best (Some v) = claim_step tau best (target_row n v)
 
 abbrev pub help_from : Tables → Level → VmRow → ℕ → Help
-help_from t level v page = if can_go t level v page then helps.Go else help_by (list_any is_above t.vms) (first_claim t.tau (ratio_rows 0 t.vms))
+help_from t level v page = if can_go t level v page then helps.Go else help_by (list_any is_above t.vms) (first_claim t.tau (target_rows 0 t.vms))
 
 abbrev pub advice_from : Tables → Level → ℕ → Option VmRow → Result Help Refusal
 advice_from t level page None = Err NoVm

@@ -10,7 +10,7 @@ ghost use Rattle.esx_formulas.specs.Targets.{first_claim};
 ghost use Rattle.esx_model.specs.declared.book.VmRow.{VmRow};
 ghost use Rattle.esx_model.specs.event.Access.{is_blocked};
 ghost use Rattle.esx_tables.specs.Readings.{row_at};
-ghost use Rattle.esx_machine.specs.Questions.{IsReadable, AreReadable, written_frame, can_go, is_above, ratio_row, ratio_rows, claim_of, claim_step, vm_step, help_from, advice_from};
+ghost use Rattle.esx_machine.specs.Questions.{IsReadable, AreReadable, written_frame, can_go, is_above, target_row, target_rows, claim_of, claim_step, vm_step, help_from, advice_from};
 
 use crate::reading::active;
 use esx_events::{Help, Refusal};
@@ -84,9 +84,9 @@ fn is_any_above(vms: &[Option<VmTable>]) -> bool
 }
 
 /// What a machine has, of which it keeps its target.
-fn ratio_row(vm: VmId, row: &VmTable) -> Row
+fn target_row(vm: VmId, row: &VmTable) -> Row
     requires { IsReadable row.now }
-    ensures value { result ≡ ratio_row vm row.now }
+    ensures value { result ≡ target_row vm row.now }
     ensures good { IsRow result }
 {
     let pages = row.standing().resident;
@@ -141,13 +141,13 @@ fn sooner_of(tau: u32, best: Option<Row>, number: usize, vm: &Option<VmTable>) -
     let Some(vm) = VmId::new(number as u8) else {
         unreachable!("each place of a machine has a number");
     };
-    sooner(tau, best, ratio_row(vm, row))
+    sooner(tau, best, target_row(vm, row))
 }
 
 /// The row of the machine that pages out next, if one is above its target.
 fn first_row(tables: &SiteTables) -> Option<Row>
     requires { AreReadable tables.now }
-    ensures { claim_of tables.now.tau result ≡ first_claim tables.now.tau (ratio_rows 0 tables.now.vms) }
+    ensures { claim_of tables.now.tau result ≡ first_claim tables.now.tau (target_rows 0 tables.now.vms) }
 {
     let tau = tables.tau();
     let mut best = None;

@@ -68,7 +68,7 @@ impl Machine {
     ghost use Rattle.esx_model.specs.Readings.{sum_of, page_state, activity, table_of};
     ghost use Rattle.esx_model.specs.Advice.{advice};
     ghost use Rattle.esx_model.specs.Replay.{next, opening};
-    ghost use Rattle.esx_plans.specs.plan.Event.{CanEpochsRise};
+    ghost use Rattle.esx_plans.specs.plan.Balloon.{CanEpochsRise};
     ghost use Rattle.esx_machine.specs.Machine.{Kept, Shows, Trades, turned, Applies, book_in};
 
     /// A site with no virtual machines. `BadSpec` where one of its numbers is out of its range.

@@ -6,15 +6,16 @@ use Rattle.esx_frames.specs.declared.counts.Counts.{Counts}
 use Rattle.esx_formulas.specs.Level.{next_level}
 use Rattle.esx_model.specs.declared.scene.Scene.{Scene}
 use Rattle.esx_model.specs.Replay.{next}
-use Rattle.esx_plans.specs.plan.Event.{CanEpochsRise}
+use Rattle.esx_plans.specs.plan.Balloon.{CanEpochsRise}
 use Rattle.esx_machine.specs.Machine.{Kept, Shows, Accepts, Refuses}
-use Rattle.esx_machine.proofs.Applies.{Made, after, back, accepted, kept_after, refused}
+use Rattle.esx_machine.proofs.Applies.{kept_plannable, after, back, accepted, kept_after, refused}
 use Rattle.esx_machine.proofs.machine.Machine.apply.Goals as goal
 
 pub plan_event-requires : goal.plan_event-requires
 plan_event-requires c =
+    let k : Kept = record { config = c.self.inside.config; level = c.self.inside.level; tables = c.self.inside.tables } in
     let P : Kept → Type 0 = λ k. CanEpochsRise k.tables in
-    record { rise = subst P (sym c.self.view_is) c.requires.rise }
+    record { whole = kept_plannable k c.self.invariant; rise = subst P (sym c.self.view_is) c.requires.rise }
 
 pub returns-in-Err : goal.returns-in-Err
 returns-in-Err c =
