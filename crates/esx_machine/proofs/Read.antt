@@ -1,5 +1,5 @@
 -- What is read of the raw tables is what is read of the book.
-use Rattle.std.proofs.Common.{zero, suc, ◌≡◌, ℕ, ◌+◌, ◌<◌, Bool, true, false, List, [], ◌∷◌, length, get_or, map, count_by, refl, sym, ap, ◌∙◌, subst, cond, Option, Some, None, ◌==◌, Result, Ok, Err}
+use Rattle.std.proofs.Common.{zero, suc, ◌≡◌, ℕ, ◌+◌, ◌^◌, ◌<◌, Bool, true, false, List, [], ◌∷◌, length, get_or, map, count_by, refl, sym, ap, ◌∙◌, subst, cond, Option, Some, None, ◌==◌, Result, Ok, Err}
 use Rattle.std.specs.Option.{option_map}
 use Rattle.std.specs.Result.{IfOk}
 use Rattle.std.proofs.lemmas.List.FromFn.{length-map-range_with_len}
@@ -18,8 +18,9 @@ use Rattle.esx_model.specs.Site.{free_count}
 use Rattle.esx_model.specs.Readings.{sum_of, AddUpTo, activity, activity_of, table_row, table_from, table_of}
 use Rattle.esx_model.specs.Show.{frame_row}
 use Rattle.esx_model.specs.Tables.{tables_of, read_place, read_vm, book_from}
-use Rattle.esx_model.proofs.Callers.{book_read, counts_same, free_rows, frames_counted}
+use Rattle.esx_model.proofs.Callers.{book_read, counts_same, free_rows, frames_counted, some_below}
 use Rattle.esx_tables.specs.Readings.{row_at}
+use Rattle.esx_plans.specs.plan.Balloon.{CanEpochsRise}
 use Rattle.esx_machine.specs.Machine.{Kept, IsKept, Shows, book_in}
 
 -- Counts of frames.
@@ -102,3 +103,9 @@ table_read t level = lines_read 0 t.vms
 pub lines_told : {E : Type 0} (t : Tables) (level : Level) (r : Result (List TableRow) E) → IfOk r (λ rows. rows ≡ table_from 0 t.vms) → IfOk r (λ rows. rows ≡ table_of (book_from t level))
 lines_told t level (Ok rows) h = h ∙ sym (table_read t level)
 lines_told t level (Err e) h = tt
+
+-- Epochs that can rise in the book can rise in the tables.
+pub rise_told : (t : Tables) (vms : List (Option VmRow)) → vms ≡ map (option_map read_vm) t.vms → ((k : ℕ) → k < length vms → (v : VmRow) → get_or vms k None ≡ Some v → v.epoch + 1 < 2 ^ 32) → CanEpochsRise t
+rise_told t vms is low n v there =
+    let here : get_or vms n None ≡ Some (read_vm v) = ap (λ (xs : List (Option VmRow)). get_or xs n None) is ∙ row_read t.vms n ∙ ap (option_map read_vm) there in
+    low n (some_below vms n (read_vm v) here) (read_vm v) here
