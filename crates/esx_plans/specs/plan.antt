@@ -2,3 +2,5 @@ pub mod Planned
 pub mod Leaving
 pub mod Rebalancing
 pub mod Starting
+pub mod Counted
+pub mod Access
