@@ -2,4 +2,6 @@ pub mod Refining
 pub mod Made
 pub mod Found
 pub mod Counted
+pub mod Held
+pub mod Moved
 pub mod refines

@@ -1,3 +1,4 @@
 pub mod Rebalancing
 pub mod Leaving
 pub mod Starting
+pub mod Access
