@@ -2,12 +2,12 @@
 use Rattle.std.proofs.Common.{◌≡◌, ◌≢◌, ℕ, ◌+◌, ◌-◌, ◌<◌, ◌≤◌, Bool, true, false, ◌||◌, ◌&&◌, not, nat_lt, nat_le, List, [], ◌∷◌, ◌++◌, length, map, set, take, drop, refl, ap, sym, ◌∙◌, cond, Option, Some, None, Ok, subst, arith, ◌==◌}
 use Rattle.std.proofs.lemmas.Bool.Decides.{nat_tests}
 use Rattle.std.proofs.lemmas.Grind.{common_steps}
-use Rattle.std.proofs.lemmas.List.{set-get_or, get_or-set_same, length-replicate}
+use Rattle.std.proofs.lemmas.List.{set-get_or, set-set, get_or-set_same, length-replicate}
 use Rattle.std.proofs.lemmas.List.FromFn.{length-map-range_with_len}
 use Rattle.esx_lists.specs.Trades.{in_turn, part_traded}
 use Rattle.esx_lists.proofs.Trades.{part_fits, fits_when}
 use Rattle.esx_frames.specs.declared.marks.Mark.TheVariants as marks
-use Rattle.esx_frames.specs.Marks.{slot_traded_at, slot_traded, bytes_traded}
+use Rattle.esx_frames.specs.Marks.{slot_traded_at, slot_traded, bytes_traded, bytes_traded_at, mark_traded}
 use Rattle.esx_types.specs.declared.config.Config.{Config}
 use Rattle.esx_types.specs.declared.level.Level.{Level}
 use Rattle.esx_types.specs.declared.table.FrameRow.{FrameRow}
@@ -32,11 +32,13 @@ use Rattle.esx_model.specs.declared.scene.Site.{Site}
 use Rattle.esx_model.specs.declared.book.VmRow.{VmRow}
 use Rattle.esx_model.specs.declared.tables.Tables.{Tables}
 use Rattle.esx_model.specs.Places.{is_private, is_shared, contents, zeros}
-use Rattle.esx_model.specs.Site.{vm_at, with_vm, place_at, pages_at, least_free}
-use Rattle.esx_model.specs.Show.{frame_rows, slot_rows}
-use Rattle.esx_model.specs.Hints.{with_place, with_change, placed, without_hint}
+use Rattle.esx_model.specs.Site.{vm_at, with_vm, place_at, place_in, place_of, pages_at, least_free}
+use Rattle.esx_model.specs.Show.{frame_row, frame_rows, slot_rows}
+use Rattle.esx_types.specs.declared.table.Hint.{Hint}
+use Rattle.esx_model.specs.Hints.{with_place, with_change, placed, without_hint, hints_at}
 use Rattle.esx_model.specs.Tables.{raw_place, vm_table, tables_of, listing_rows}
-use Rattle.esx_model.specs.Moved.{put_vm, put_frame, put_slot, left, joined}
+use Rattle.esx_model.specs.Moved.{put_vm, put_frame, put_slot, less, listing_after, left, joined}
+use Rattle.esx_model.specs.sound.Machines.{IsPlace}
 use Rattle.esx_model.specs.event.Outcome.{standing}
 use Rattle.esx_model.specs.event.Balloon.{popped}
 use Rattle.esx_model.specs.event.Sampling.{counted}
@@ -57,7 +59,38 @@ use Rattle.esx_plans.proofs.Made.{exchanged_then, parts_made}
 use Rattle.esx_plans.proofs.Found.{frame_found}
 use Rattle.esx_plans.proofs.Counted.{counted_shown}
 use Rattle.esx_plans.proofs.Held.{Finds, page_within, page_in, page_place, private_there, shared_there, held_there, frame_count, slot_count, free_there, free_unlisted}
-use Rattle.esx_plans.proofs.Moved.{come_row, stay_row}
+use Rattle.esx_plans.proofs.Moved.{not_lent, come_row, stay_row}
+
+-- Bytes of a frame.
+
+brought : (rows : List FrameRow) (held : List SlotRow) (f i : ℕ) (bytes : List ℕ) → nat_lt f (length rows) ≡ true → nat_lt i (length held) ≡ true → frame_at rows f ≡ frames.Free → slot_at held i ≡ slots.Held bytes
+    → slots_traded f i rows held ≡ (set rows f (frames.Private bytes), set held i slots.Free)
+unfolding slots_traded
+brought rows held f i bytes low_frame low_slot free is =
+    let x : SlotRow = slot_at held i in
+    let pair : slot_traded (frame_at rows f) x ≡ (frames.Private bytes, slots.Free) = ap (λ (r : FrameRow). slot_traded r x) free ∙ ap (slot_traded frames.Free) is in
+    let none : SlotRow = slots.Free in
+    let now : slot_traded_at f rows x ≡ (set rows f (frames.Private bytes), none) =
+    ap (λ (b : Bool). cond b (set rows f (slot_traded (frame_at rows f) x).0, (slot_traded (frame_at rows f) x).1) (rows, x)) low_frame
+    ∙ ap (λ (r : FrameRow × SlotRow). (set rows f r.0, r.1)) pair in
+    ap (λ (b : Bool). cond b ((slot_traded_at f rows x).0, set held i (slot_traded_at f rows x).1) (rows, held)) low_slot
+    ∙ ap (λ (r : List FrameRow × SlotRow). (r.0, set held i r.1)) now
+
+written : (rows : List FrameRow) (f : ℕ) (old : List ℕ) (at : ℕ) (new : List ℕ) → frame_at rows f ≡ frames.Private old → at + length new ≤ length old
+    → (bytes_traded_at f at rows new).0 ≡ set rows f (frames.Private (overwritten old at new))
+written rows f old at new there fits =
+    ap (λ (r : FrameRow). set rows f (bytes_traded at r new).0) there
+    ∙ ap (λ (x : List ℕ × List ℕ). set rows f (frames.Private x.0)) (part_fits old at new (fits_when old at new fits))
+
+-- bytes written over those that just came
+written_again : (rows : List FrameRow) (f : ℕ) (old : List ℕ) (at : ℕ) (new : List ℕ) → f < length rows → at + length new ≤ length old
+    → (bytes_traded_at f at (set rows f (frames.Private old)) new).0 ≡ set rows f (frames.Private (overwritten old at new))
+written_again rows f old at new below fits =
+    written (set rows f (frames.Private old)) f old at new (get_or-set_same rows f (frames.Private old) frames.Free below) fits
+    ∙ set-set rows f (frames.Private old) (frames.Private (overwritten old at new))
+
+frame_below : (c : Config) (s : Site) (f : ℕ) → f < c.frames → f < length (frame_rows c.frames s)
+frame_below c s f below = (let same = length-map-range_with_len (frame_row s) 0 c.frames in omega (arith, same))
 
 -- Where the page comes to a frame.
 
@@ -95,3 +128,101 @@ module _ (c : Config) (s : Site) (n page : ℕ) (v : Vm) where
       of : (o : Option ℕ) → least_free c.frames s ≡ o → Refines c s (come to o) (settle s n page a bytes false o)
       of None found = refl
       of (Some f) found = one f found
+
+  -- Where it stays in its frame, as it is.
+
+  same_hints : (bytes : List ℕ) (f : ℕ) (shared : Bool) → Finds c s n page v (Here bytes f shared) → hints_at n page (Here bytes f shared) s.hints ≡ s.hints
+  same_hints bytes f false h = refl
+  same_hints bytes f true h = no_hint (place_of s) n page s.hints h.sound.hints (ap (λ (o : Option Vm). is_private (place_in o page)) h.there ∙ ap is_private h.was)
+
+  stays : (bytes : List ℕ) (f : ℕ) (shared : Bool) → Finds c s n page v (Here bytes f shared) → after_access s n page (Here bytes f shared) ≡ with_vm s n (counted page v)
+  stays bytes f shared h =
+      let q : Place = Here bytes f shared in
+      let same_vm : with_vm s n v ≡ s =
+      ap (λ (o : Option Vm). record s { vms = set s.vms n o }) (sym h.there) ∙ ap (λ (vms : List (Option Vm)). record s { vms = vms }) (set-get_or s.vms n None) in
+      let same_place : with_place page q v ≡ v =
+      ap (λ (ps : List Place). record v { places = ps }) (ap (λ (x : Place). set v.places page x) (sym h.was) ∙ set-get_or v.places page Untouched) in
+      let none_lent : popped page v ≡ v = ap (λ (b : Bool). record v { due = b }) (sym (not_lent v page q h.was refl)) in
+      ap (λ (t : Site). with_change (placed t n page q) n (counted page)) (with_change_is s n v (popped page) h.there ∙ ap (with_vm s n) none_lent ∙ same_vm)
+      ∙ ap (λ (t : Site). with_change t n (counted page))
+      (placed_is s n page v q h.there ∙ ap (λ (hints : List Hint). record s { vms = set s.vms n (Some (with_place page q v)); hints = hints }) (same_hints bytes f shared h)
+      ∙ ap (with_vm s n) same_place ∙ same_vm)
+      ∙ with_change_is s n v (counted page) h.there
+
+  stay_refines : (a : Answer) (bytes : List ℕ) (f : ℕ) (shared : Bool) → Finds c s n page v (Here bytes f shared) → v.state ≡ Running
+      → Refines c s (Ok (a, stay_changes n (vm_table v) page)) (Ok (a, after_access s n page (Here bytes f shared)))
+  stay_refines a bytes f shared h running =
+      let t = tables_of c s in
+      let kept = counted_kept c v page (h.sound.each n v h.there) running h.below in
+      makes_shown c s a (stay_changes n (vm_table v) page) (after_access s n page (Here bytes f shared)) (put_vm t n (Some (vm_table (counted page v))))
+      (parts_made t n (vm_table v) (counted_parts (vm_table v) page) (row_is c s n v h.there) ∙ ap (λ (r : VmRow). put_vm t n (Some r)) (counted_shown v page))
+      (ap (tables_of c) (stays bytes f shared h) ∙ row_only_shown c s n v (counted page v) h.there kept.places kept.overhead)
+
+  -- What the first changes make.
+
+  -- a page that nobody has written takes a free frame
+  taken_made : (bytes : List ℕ) (f : ℕ) → least_free c.frames s ≡ Some f → (exchanged (tables_of c s) (FrameAt f (frames.Private bytes) ∷ [])).0 ≡ joined (Here bytes f false) (tables_of c s)
+  unfolding exchanged traded
+  taken_made bytes f found =
+      let t = tables_of c s in
+      ap (λ (ls : List Listing). record t { frames = set t.frames f (frames.Private bytes); listings = ls }) (sym (free_unlisted c s f found))
+
+  -- a page comes from its slot
+  abbrev fetched : ℕ → ℕ → List ℕ → Tables
+  fetched f i bytes = record (tables_of c s) { frames = set (frame_rows c.frames s) f (frames.Private bytes); slots = set (slot_rows c.slots s) i slots.Free }
+
+  slot_made : (old : List ℕ) (i f : ℕ) → Finds c s n page v (Out old i) → least_free c.frames s ≡ Some f → (traded (tables_of c s) (FrameWithSlot f i)).0 ≡ fetched f i old
+  unfolding traded
+  slot_made old i f h found =
+      let t = tables_of c s in
+      let place : IsPlace c v.epoch (Out old i) = page_place c s n page v (Out old i) h in
+      let unused = least_unused c.frames s f found in
+      ap (λ (r : List FrameRow × List SlotRow). record t { frames = r.0; slots = r.1 })
+      (brought t.frames t.slots f i old (frame_count c s f unused.below) (slot_count c s i place.0) (free_there c s f found) (held_there c s n page v old i h))
+
+  fetched_made : (old : List ℕ) (i f : ℕ) → Finds c s n page v (Out old i) → least_free c.frames s ≡ Some f → (exchanged (tables_of c s) (FrameWithSlot f i ∷ [])).0 ≡ joined (Here old f false) (left (Out old i) (tables_of c s))
+  unfolding exchanged
+  fetched_made old i f h found = slot_made old i f h found ∙ ap (λ (ls : List Listing). record (fetched f i old) { listings = ls }) (sym (free_unlisted c s f found))
+
+  fetched_written : (old new : List ℕ) (at i f : ℕ) → Finds c s n page v (Out old i) → least_free c.frames s ≡ Some f → at + length new ≤ length old
+      → (exchanged (tables_of c s) (FrameWithSlot f i ∷ BytesAt f at new ∷ [])).0 ≡ joined (Here (overwritten old at new) f false) (left (Out old i) (tables_of c s))
+  unfolding exchanged traded
+  fetched_written old new at i f h found fits =
+      let rows = frame_rows c.frames s in
+      let new_rows = set rows f (frames.Private (overwritten old at new)) in
+      ap (λ (t : Tables). (traded t (BytesAt f at new)).0) (slot_made old i f h found)
+      ∙ ap (λ (xs : List FrameRow). record (fetched f i old) { frames = xs }) (written_again rows f old at new (frame_below c s f (least_unused c.frames s f found).below) fits)
+      ∙ ap (λ (ls : List Listing). record (fetched f i old) { frames = new_rows; listings = ls }) (sym (free_unlisted c s f found))
+
+  -- a page that shares its frame leaves it, and a copy takes a free one
+  copied_made : (old new : List ℕ) (g f : ℕ) → Finds c s n page v (Here old g true) → least_free c.frames s ≡ Some f → nat_lt 1 (pages_at g s) ≡ true
+      → (exchanged (tables_of c s) (MarkAt g (marks.Shared (pages_at g s - 1)) ∷ FrameAt f (frames.Private new) ∷ [])).0 ≡ joined (Here new f false) (left (Here old g true) (tables_of c s))
+  unfolding exchanged traded
+  copied_made old new g f h found many =
+      let t = tables_of c s in
+      let k = pages_at g s in
+      let row = shared_there c s n page v old g h in
+      let one_less : less (frame_at t.frames g) ≡ frames.Shared (k - 1) old = ap less row ∙ ap (λ (b : Bool). cond b (frames.Shared (k - 1) old) frames.Free) many in
+      let rows : List FrameRow = set (set t.frames g (frames.Shared (k - 1) old)) f (frames.Private new) in
+      ap (λ (r : FrameRow). record t { frames = set (set t.frames g (mark_traded r (marks.Shared (k - 1))).0) f (frames.Private new) }) row
+      ∙ ap (λ (ls : List Listing). record t { frames = rows; listings = ls }) (sym (free_unlisted c s f found))
+      ∙ ap (λ (ls : List Listing). record t { frames = rows; listings = set ls f listings.Unlisted }) (sym (set-get_or t.listings g listings.Unlisted))
+      ∙ ap (λ (r : FrameRow). record t { frames = set (set t.frames g r) f (frames.Private new); listings = set (set t.listings g (listing_after r (listing_at t.listings g))) f listings.Unlisted }) (sym one_less)
+
+  -- the last page of a shared frame has it for itself
+  own_made : (old new : List ℕ) (at f : ℕ) → Finds c s n page v (Here old f true) → nat_lt 1 (pages_at f s) ≡ false → at + length new ≤ length old
+      → (exchanged (tables_of c s) (MarkAt f marks.Private ∷ ListingAt f listings.Unlisted ∷ BytesAt f at new ∷ [])).0 ≡ joined (Here (overwritten old at new) f false) (left (Here old f true) (tables_of c s))
+  unfolding exchanged traded
+  own_made old new at f h last fits =
+      let t = tables_of c s in
+      let place : IsPlace c v.epoch (Here old f true) = page_place c s n page v (Here old f true) h in
+      let k = pages_at f s in
+      let row = shared_there c s n page v old f h in
+      let none : less (frame_at t.frames f) ≡ frames.Free = ap less row ∙ ap (λ (b : Bool). cond b (frames.Shared (k - 1) old) frames.Free) last in
+      let whole = frames.Private (overwritten old at new) in
+      let rows : List FrameRow = set t.frames f whole in
+      ap (λ (r : FrameRow). record t { frames = (bytes_traded_at f at (set t.frames f (mark_traded r marks.Private).0) new).0; listings = set t.listings f listings.Unlisted }) row
+      ∙ ap (λ (xs : List FrameRow). record t { frames = xs; listings = set t.listings f listings.Unlisted }) (written_again t.frames f old at new (frame_below c s f place.0) fits)
+      ∙ ap (λ (ls : List Listing). record t { frames = rows; listings = ls }) (sym (set-set t.listings f listings.Unlisted listings.Unlisted))
+      ∙ ap (λ (xs : List FrameRow). record t { frames = xs; listings = set (set t.listings f listings.Unlisted) f listings.Unlisted }) (sym (set-set t.frames f frames.Free whole))
+      ∙ ap (λ (r : FrameRow). record t { frames = set (set t.frames f r) f whole; listings = set (set t.listings f (listing_after r (listing_at t.listings f))) f listings.Unlisted }) (sym none)
