@@ -29,6 +29,7 @@ use Rattle.esx_model.specs.declared.scene.Place.{Place}
 use Rattle.esx_model.specs.declared.scene.Place.TheVariants.{Untouched, Here, Out, Lent}
 use Rattle.esx_model.specs.declared.scene.Vm.{Vm}
 use Rattle.esx_model.specs.declared.scene.Site.{Site}
+use Rattle.esx_model.specs.declared.look.Standing.{Standing}
 use Rattle.esx_model.specs.declared.book.VmRow.{VmRow}
 use Rattle.esx_model.specs.declared.tables.Tables.{Tables}
 use Rattle.esx_model.specs.Places.{is_private, is_shared, contents, zeros}
@@ -45,7 +46,7 @@ use Rattle.esx_model.specs.event.Sampling.{counted}
 use Rattle.esx_model.specs.event.Access.{access_gate, overwritten, after_access, settle, read_at, write_at, read, write}
 use Rattle.esx_model.specs.event.Access as model
 use Rattle.esx_model.specs.sound.Sound.{IsSound}
-use Rattle.esx_model.proofs.Callers.{Room, read_room, write_room, whole_page, access_shown, access_in_place_shown, row_only_shown, counted_kept, with_change_is, placed_is, no_hint, not_not, runs, least_unused}
+use Rattle.esx_model.proofs.Callers.{Room, read_room, write_room, whole_page, access_shown, access_in_place_shown, row_only_shown, counted_kept, with_change_is, placed_is, no_hint, not_not, runs, least_unused, room_free}
 use Rattle.esx_tables.specs.declared.change.Change.{Change}
 use Rattle.esx_tables.specs.declared.change.Change.TheVariants.{FrameAt, MarkAt, BytesAt, ListingAt, FrameWithSlot}
 use Rattle.esx_tables.specs.Changes.{slots_traded, traded, exchanged}
@@ -88,6 +89,9 @@ written_again : (rows : List FrameRow) (f : ℕ) (old : List ℕ) (at : ℕ) (ne
 written_again rows f old at new below fits =
     written (set rows f (frames.Private old)) f old at new (get_or-set_same rows f (frames.Private old) frames.Free below) fits
     ∙ set-set rows f (frames.Private old) (frames.Private (overwritten old at new))
+
+whole_after : (old : List ℕ) (at : ℕ) (new : List ℕ) → at + length new ≤ length old → length (overwritten old at new) ≡ length old
+whole_after old at new fits = grind (arith, common_steps)
 
 frame_below : (c : Config) (s : Site) (f : ℕ) → f < c.frames → f < length (frame_rows c.frames s)
 frame_below c s f below = (let same = length-map-range_with_len (frame_row s) 0 c.frames in omega (arith, same))
@@ -226,3 +230,144 @@ module _ (c : Config) (s : Site) (n page : ℕ) (v : Vm) where
       ∙ ap (λ (ls : List Listing). record t { frames = rows; listings = ls }) (sym (set-set t.listings f listings.Unlisted listings.Unlisted))
       ∙ ap (λ (xs : List FrameRow). record t { frames = xs; listings = set (set t.listings f listings.Unlisted) f listings.Unlisted }) (sym (set-set t.frames f frames.Free whole))
       ∙ ap (λ (r : FrameRow). record t { frames = set (set t.frames f r) f whole; listings = set (set t.listings f (listing_after r (listing_at t.listings f))) f listings.Unlisted }) (sym none)
+
+  -- A read.
+
+  bytes_there : (bytes : List ℕ) (f : ℕ) (shared : Bool) → Finds c s n page v (Here bytes f shared) → bytes_of (frame_at (tables_of c s).frames f) ≡ bytes
+  bytes_there bytes f false h = ap bytes_of (private_there c s n page v bytes f h)
+  bytes_there bytes f true h = ap bytes_of (shared_there c s n page v bytes f h)
+
+  -- a page that is nowhere yet comes as zeros
+  read_new : (at len : ℕ) (p : Place) → Finds c s n page v p → v.state ≡ Running → length (zeros c) ≡ c.page → is_private p ≡ false → ((f : ℕ) → least_free c.frames s ≡ Some f → Room c s p (Here (zeros c) f false))
+      → ((f : ℕ) → least_free c.frames s ≡ Some f → (exchanged (tables_of c s) (FrameAt f (frames.Private (zeros c)) ∷ [])).0 ≡ joined (Here (zeros c) f false) (left p (tables_of c s)))
+      → ((f : ℕ) → row_at (joined (Here (zeros c) f false) (left p (tables_of c s))) n ≡ Some (vm_table v))
+      → Refines c s (come (read_zeros c n (vm_table v) page at len (raw_place p)) (least_frame (tables_of c s).frames)) (settle s n page (told at len (zeros c)) (zeros c) false (least_free c.frames s))
+  read_new at len p h running whole fresh room made row =
+      comes_to_least (told at len (zeros c)) (zeros c) (read_zeros c n (vm_table v) page at len (raw_place p)) (λ f found.
+      comes p (told at len (zeros c)) (zeros c) f (FrameAt f (frames.Private (zeros c)) ∷ []) h running (least_unused c.frames s f found).below whole (room f found) fresh (made f found) (row f))
+
+  read_made : (at len : ℕ) (p : Place) → Finds c s n page v p → v.state ≡ Running → Refines c s (read_from c (tables_of c s) n (vm_table v) page at len (raw_place p)) (read_at c s n page at len p)
+  read_made at len Untouched h running =
+      read_new at len Untouched h running (whole_page c v.epoch Untouched tt) refl (λ f found. room_free c s Untouched (zeros c) f found) (taken_made (zeros c)) (λ f. row_is c s n v h.there)
+  read_made at len (Lent e) h running =
+      read_new at len (Lent e) h running (whole_page c v.epoch Untouched tt) refl (λ f found. room_free c s (Lent e) (zeros c) f found) (taken_made (zeros c)) (λ f. row_is c s n v h.there)
+  read_made at len (Here bytes f shared) h running =
+      let t : Site = after_access s n page (Here bytes f shared) in
+      let P : List ℕ → Type 0 = λ xs. Refines c s (Ok (told at len xs, stay_changes n (vm_table v) page)) (Ok (told at len bytes, t)) in
+      subst P (sym (bytes_there bytes f shared h)) (stay_refines (told at len bytes) bytes f shared h running)
+  read_made at len (Out bytes i) h running =
+      comes_to_least (told at len bytes) bytes (read_slot (tables_of c s) n (vm_table v) page at len i) (λ f found.
+      let P : List ℕ → Type 0 = λ xs. Refines c s (Ok (told at len xs, FrameWithSlot f i ∷ come_changes n (vm_table v) page (maps.Out i) f)) (Ok (told at len bytes, after_access s n page (Here bytes f false))) in
+      subst P (sym (ap held_bytes (held_there c s n page v bytes i h)))
+      (comes (Out bytes i) (told at len bytes) bytes f (FrameWithSlot f i ∷ []) h running (least_unused c.frames s f found).below (whole_page c v.epoch (Out bytes i) (page_place c s n page v (Out bytes i) h))
+      (room_free c s (Out bytes i) bytes f found) refl (fetched_made bytes i f h found) (row_is c s n v h.there)))
+
+  -- A write.
+
+  write_whole : (old : List ℕ) (at : ℕ) (new : List ℕ) → length old ≡ c.page → at + length new ≤ c.page → length (overwritten old at new) ≡ c.page
+  write_whole old at new whole fits = whole_after old at new (omega arith) ∙ whole
+
+  write_new : (at : ℕ) (new : List ℕ) (p : Place) → at + length new ≤ c.page → Finds c s n page v p → v.state ≡ Running → length (zeros c) ≡ c.page → is_private p ≡ false
+      → ((f : ℕ) → least_free c.frames s ≡ Some f → Room c s p (Here (overwritten (zeros c) at new) f false))
+      → ((f : ℕ) → least_free c.frames s ≡ Some f → (exchanged (tables_of c s) (FrameAt f (frames.Private (overwritten (zeros c) at new)) ∷ [])).0 ≡ joined (Here (overwritten (zeros c) at new) f false) (left p (tables_of c s)))
+      → ((f : ℕ) → row_at (joined (Here (overwritten (zeros c) at new) f false) (left p (tables_of c s))) n ≡ Some (vm_table v))
+      → Refines c s (come (write_zeros c n (vm_table v) page at new (raw_place p)) (least_frame (tables_of c s).frames)) (settle s n page answers.Done (overwritten (zeros c) at new) false (least_free c.frames s))
+  write_new at new p fits h running whole fresh room made row =
+      let bytes : List ℕ = overwritten (zeros c) at new in
+      comes_to_least answers.Done bytes (write_zeros c n (vm_table v) page at new (raw_place p)) (λ f found.
+      comes p answers.Done bytes f (FrameAt f (frames.Private bytes) ∷ []) h running (least_unused c.frames s f found).below (write_whole (zeros c) at new whole fits) (room f found) fresh (made f found) (row f))
+
+  -- a page that stays in its frame and is written there
+  writes : (old bytes : List ℕ) (f : ℕ) (shared : Bool) (head : List Change) (first : Tables) → Finds c s n page v (Here old f shared) → (exchanged (tables_of c s) head).0 ≡ first → row_at first n ≡ Some (vm_table v)
+      → tables_of c (after_access s n page (Here bytes f false)) ≡ put_vm first n (Some (after bytes f false))
+      → Refines c s (Ok (answers.Done, head ++ stay_changes n (vm_table v) page)) (Ok (answers.Done, after_access s n page (Here bytes f false)))
+  writes old bytes f shared head first h made row shown =
+      let rest : List Change = stay_changes n (vm_table v) page in
+      makes_shown c s answers.Done (head ++ rest) (after_access s n page (Here bytes f false)) (put_vm first n (Some (after bytes f false)))
+      (exchanged_then (tables_of c s) head rest
+      ∙ ap (λ (t : Tables). (exchanged t rest).0) made
+      ∙ parts_made first n (vm_table v) (counted_parts (vm_table v) page) row
+      ∙ ap (λ (r : VmRow). put_vm first n (Some r)) (stay_row v page old bytes f shared false h.was))
+      shown
+
+  write_alone : (at : ℕ) (new old : List ℕ) (f : ℕ) → at + length new ≤ c.page → Finds c s n page v (Here old f false) → v.state ≡ Running
+      → Refines c s (Ok (write_own n (vm_table v) page at new f)) (Ok (answers.Done, after_access s n page (Here (overwritten old at new) f false)))
+  unfolding exchanged traded
+  write_alone at new old f fits h running =
+      let t = tables_of c s in
+      let bytes : List ℕ = overwritten old at new in
+      let place : IsPlace c v.epoch (Here old f false) = page_place c s n page v (Here old f false) h in
+      let room = write_room c s n page v (Here old f false) bytes f h.sound h.there (page_within c s n page v (Here old f false) h) h.was refl in
+      writes old bytes f false (BytesAt f at new ∷ []) (record t { frames = set t.frames f (frames.Private bytes) }) h
+      (ap (λ (xs : List FrameRow). record t { frames = xs }) (written t.frames f old at new (private_there c s n page v old f h) (let whole = place.1 in omega (arith, whole))))
+      (row_is c s n v h.there)
+      (access_in_place_shown c s n page v old f bytes h.sound h.there running h.below h.was (write_whole old at new place.1 fits) room.1)
+
+  write_shared : (at : ℕ) (new old : List ℕ) (g : ℕ) → at + length new ≤ c.page → Finds c s n page v (Here old g true) → v.state ≡ Running → (b : Bool) → nat_lt 1 (pages_at g s) ≡ b
+      → Refines c s (cond b (come (write_copy n (vm_table v) page at new g (pages_at g s) old) (least_frame (tables_of c s).frames)) (Ok (write_last n (vm_table v) page at new g)))
+      (settle s n page answers.Done (overwritten old at new) false (cond b (least_free c.frames s) (Some g)))
+  write_shared at new old g fits h running true many =
+      let bytes : List ℕ = overwritten old at new in
+      let p : Place = Here old g true in
+      let place : IsPlace c v.epoch p = page_place c s n page v p h in
+      comes_to_least answers.Done bytes (write_copy n (vm_table v) page at new g (pages_at g s) old) (λ f found.
+      comes p answers.Done bytes f (MarkAt g (marks.Shared (pages_at g s - 1)) ∷ FrameAt f (frames.Private bytes) ∷ []) h running (least_unused c.frames s f found).below (write_whole old at new place.1 fits)
+      (room_free c s p bytes f found) refl (copied_made old bytes g f h found many) (row_is c s n v h.there))
+  write_shared at new old g fits h running false last =
+      let bytes : List ℕ = overwritten old at new in
+      let p : Place = Here old g true in
+      let place : IsPlace c v.epoch p = page_place c s n page v p h in
+      let room = write_room c s n page v p bytes g h.sound h.there (page_within c s n page v p h) h.was (ap (λ (b : Bool). cond b (least_free c.frames s) (Some g)) last) in
+      writes old bytes g true (MarkAt g marks.Private ∷ ListingAt g listings.Unlisted ∷ BytesAt g at new ∷ []) (joined (Here bytes g false) (left p (tables_of c s))) h
+      (own_made old new at g h last (let whole = place.1 in omega (arith, whole)))
+      (row_is c s n v h.there)
+      (come_shown p bytes g h running place.0 (write_whole old at new place.1 fits) room.1 refl)
+
+  write_made : (at : ℕ) (new : List ℕ) (p : Place) → at + length new ≤ c.page → Finds c s n page v p → v.state ≡ Running → Refines c s (write_from c (tables_of c s) n (vm_table v) page at new (raw_place p)) (write_at c s n page at new p)
+  write_made at new Untouched fits h running =
+      write_new at new Untouched fits h running (whole_page c v.epoch Untouched tt) refl (λ f found. room_free c s Untouched (overwritten (zeros c) at new) f found) (taken_made (overwritten (zeros c) at new)) (λ f. row_is c s n v h.there)
+  write_made at new (Lent e) fits h running =
+      write_new at new (Lent e) fits h running (whole_page c v.epoch Untouched tt) refl (λ f found. room_free c s (Lent e) (overwritten (zeros c) at new) f found) (taken_made (overwritten (zeros c) at new)) (λ f. row_is c s n v h.there)
+  write_made at new (Here old f false) fits h running =
+      let t = tables_of c s in
+      let P : FrameRow → Type 0 = λ row. Refines c s (write_frame t n (vm_table v) page at new f row) (write_at c s n page at new (Here old f false)) in
+      subst P (sym (private_there c s n page v old f h)) (write_alone at new old f fits h running)
+  write_made at new (Here old g true) fits h running =
+      let t = tables_of c s in
+      let P : FrameRow → Type 0 = λ row. Refines c s (write_frame t n (vm_table v) page at new g row) (write_at c s n page at new (Here old g true)) in
+      subst P (sym (shared_there c s n page v old g h)) (write_shared at new old g fits h running (nat_lt 1 (pages_at g s)) refl)
+  write_made at new (Out old i) fits h running =
+      let bytes : List ℕ = overwritten old at new in
+      let p : Place = Out old i in
+      let place : IsPlace c v.epoch p = page_place c s n page v p h in
+      comes_to_least answers.Done bytes (write_slot n (vm_table v) page at new i) (λ f found.
+      comes p answers.Done bytes f (FrameWithSlot f i ∷ BytesAt f at new ∷ []) h running (least_unused c.frames s f found).below (write_whole old at new place.1 fits)
+      (room_free c s p bytes f found) refl (fetched_written old new at i f h found (let whole = place.1 in omega (arith, whole))) (row_is c s n v h.there))
+
+-- The gate.
+
+below_max : (max page : ℕ) (a b : Bool) → ((nat_le max page || a) || b) ≡ false → page < max
+below_max max page a b h = of (nat_le max page) refl h
+  where
+    of : (t : Bool) → nat_le max page ≡ t → ((t || a) || b) ≡ false → page < max
+    of true e k = cc
+    of false e k = grind (arith, nat_tests)
+
+fits_page : (page last : ℕ) (a : Bool) → (a || nat_lt page last) ≡ false → last ≤ page
+fits_page page last true h = cc
+fits_page page last false h = grind (arith, nat_tests)
+
+pub read_refines : (c : Config) (s : Site) (level : Level) (n page at len : ℕ) → IsSound c s → Refines c s (read_plan c (tables_of c s) level n page at len) (read c s level n page at len)
+unfolding read read_plan
+read_refines c s level n page at len sound = needs_vm c s n _ _ (λ v there. passes_same c s _ _ _ _ (ap (λ (m : Standing). access_gate c level m page at len) (standing_shown v)) (λ pass.
+    let below : page < v.spec.max = below_max v.spec.max page (len == 0) (nat_lt c.page (at + len)) pass.1.0 in
+    let P : MapRow → Type 0 = λ row. Refines c s (read_from c (tables_of c s) n (vm_table v) page at len row) (read_at c s n page at len (place_at v page)) in
+    subst P (sym (page_row v page)) (read_made c s n page v at len (place_at v page) (record { sound = sound; there = there; below = below; was = refl }) (runs v.state (not_not _ pass.0)))))
+
+pub write_refines : (c : Config) (s : Site) (level : Level) (n page at : ℕ) (new : List ℕ) → IsSound c s → Refines c s (write_plan c (tables_of c s) level n page at new) (write c s level n page at new)
+unfolding write write_plan
+write_refines c s level n page at new sound = needs_vm c s n _ _ (λ v there. passes_same c s _ _ _ _ (ap (λ (m : Standing). access_gate c level m page at (length new)) (standing_shown v)) (λ pass.
+    let below : page < v.spec.max = below_max v.spec.max page (length new == 0) (nat_lt c.page (at + length new)) pass.1.0 in
+    let fits : at + length new ≤ c.page = fits_page c.page (at + length new) (nat_le v.spec.max page || (length new == 0)) pass.1.0 in
+    let P : MapRow → Type 0 = λ row. Refines c s (write_from c (tables_of c s) n (vm_table v) page at new row) (write_at c s n page at new (place_at v page)) in
+    subst P (sym (page_row v page)) (write_made c s n page v at new (place_at v page) fits (record { sound = sound; there = there; below = below; was = refl }) (runs v.state (not_not _ pass.0)))))
