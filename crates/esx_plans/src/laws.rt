@@ -1,7 +1,8 @@
 //! Laws of plans. A function here does nothing: its contract is the law.
 
-ghost use Rattle.std.specs.Prelude.{◌≡◌, ℕ};
+ghost use Rattle.std.specs.Prelude.{◌≡◌, ℕ, List};
 ghost use Rattle.esx_types.specs.declared.config.Config.{Config};
+ghost use Rattle.esx_types.specs.declared.level.Level.{Level};
 ghost use Rattle.esx_model.specs.declared.scene.Vm.{Vm};
 ghost use Rattle.esx_model.specs.declared.scene.Site.{Site};
 ghost use Rattle.esx_model.specs.Tables.{vm_table, standing_of, tables_of};
@@ -9,11 +10,14 @@ ghost use Rattle.esx_model.specs.event.Outcome.{standing};
 ghost use Rattle.esx_model.specs.event.Leaving.{stop};
 ghost use Rattle.esx_model.specs.event.Rebalancing.{set_tax, set_shares};
 ghost use Rattle.esx_model.specs.event.Starting.{start};
+ghost use Rattle.esx_model.specs.event.Access.{read, write};
 ghost use Rattle.esx_model.specs.sound.Sound.{IsSound};
 ghost use Rattle.esx_plans.specs.plan.Planned.{Refines};
 ghost use Rattle.esx_plans.specs.plan.Leaving.{stop_plan};
 ghost use Rattle.esx_plans.specs.plan.Rebalancing.{tax_plan, shares_plan};
 ghost use Rattle.esx_plans.specs.plan.Starting.{start_plan};
+ghost use Rattle.esx_plans.specs.plan.Counted.{ArePeriodsOpen};
+ghost use Rattle.esx_plans.specs.plan.Access.{read_plan, write_plan};
 
 /// What gates read of a machine's row is what they read of the machine.
 #[tactic(auto, using(crate::proofs::Refining::standing_shown))]
@@ -31,4 +35,15 @@ pub fn settings_refine()
 /// The plan of a start does to the tables of a sound site what the event does to the site.
 pub fn start_refines()
     ensures { (c : Config) (s : Site) (n : ℕ) → IsSound c s → Refines c s (start_plan (tables_of c s) n) (start c s n) }
+{}
+
+/// The plan of a read and of a write does to the tables of a sound site what the event does to the site.
+pub fn access_refines()
+    ensures read { (c : Config) (s : Site) (level : Level) (n page at len : ℕ) → IsSound c s → Refines c s (read_plan c (tables_of c s) level n page at len) (read c s level n page at len) }
+    ensures write { (c : Config) (s : Site) (level : Level) (n page at : ℕ) (new : List ℕ) → IsSound c s → Refines c s (write_plan c (tables_of c s) level n page at new) (write c s level n page at new) }
+{}
+
+/// Each open period in the tables of a sound site has accesses left, and 1 to 100 pages.
+pub fn periods_are_open()
+    ensures { (c : Config) (s : Site) → IsSound c s → ArePeriodsOpen (tables_of c s) }
 {}

@@ -1,11 +1,13 @@
 -- What an access changes of its machine's row where a sample period is open.
-use Rattle.std.specs.Prelude.{ℕ, ◌+◌, ◌==◌, ◌&&◌, ◌||◌, not, nat_lt, Bool, List, [], ◌∷◌, length, count_by, Option, Some, None, if◌then◌else◌}
+use Rattle.std.specs.Prelude.{◌≡◌, ◌<◌, ◌≤◌, ℕ, ◌+◌, ◌==◌, ◌&&◌, ◌||◌, not, nat_lt, Bool, List, [], ◌∷◌, length, count_by, Option, Some, None, if◌then◌else◌}
 use Rattle.esx_average.specs.Means.{Means, estimate, next_means}
 use Rattle.esx_model.specs.declared.book.Mark.{Mark}
 use Rattle.esx_model.specs.declared.book.PeriodRow.{PeriodRow}
 use Rattle.esx_model.specs.declared.book.VmRow.{VmRow}
+use Rattle.esx_model.specs.declared.tables.Tables.{Tables}
 use Rattle.esx_tables.specs.declared.change.VmPart.{VmPart}
 use Rattle.esx_tables.specs.declared.change.VmPart.TheVariants.{Period, Done, Touched, Averages}
+use Rattle.esx_tables.specs.Readings.{row_at}
 
 -- the mark names the page, which was not accessed before
 abbrev pub is_first : ℕ → Mark → Bool
@@ -37,3 +39,16 @@ open_parts page means (Some p) = period_parts page means p
 -- an access is counted where a period is open
 abbrev pub counted_parts : VmRow → ℕ → List VmPart
 counted_parts v page = open_parts page (record { slow = v.slow; fast = v.fast }) v.period
+
+-- An open period as the tables of a sound site tell it: it has accesses left, and 1 to 100 pages.
+pub record IsOpen (p : PeriodRow) : Type 0 where
+  pub still : p.done < p.length
+  pub least : 1 ≤ length p.marks
+  pub most : length p.marks ≤ 100
+
+abbrev pub IsOpenOf : VmRow → Type 0
+IsOpenOf v = (p : PeriodRow) → v.period ≡ Some p → IsOpen p
+
+-- of each machine
+abbrev pub ArePeriodsOpen : Tables → Type 0
+ArePeriodsOpen t = (n : ℕ) (v : VmRow) → row_at t n ≡ Some v → IsOpenOf v
