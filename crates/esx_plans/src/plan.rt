@@ -1,5 +1,6 @@
 //! Plans, a file for each mechanism.
 
+pub mod access;
 pub mod counted;
 pub mod leaving;
 pub mod rebalancing;
