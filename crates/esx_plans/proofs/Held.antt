@@ -1,5 +1,5 @@
 -- What the tables of a sound site hold of a page, and of a frame that nobody has taken.
-use Rattle.std.proofs.Common.{◌≡◌, ℕ, ◌<◌, Bool, true, false, nat_lt, List, [], ◌∷◌, ◌++◌, length, set, map, refl, sym, ap, ◌∙◌, subst, arith, cond, Option, Some, None, ◌==◌}
+use Rattle.std.proofs.Common.{zero, suc, slice_get, ◌≡◌, ℕ, ◌<◌, Bool, true, false, nat_lt, List, [], ◌∷◌, ◌++◌, length, set, map, refl, sym, ap, ◌∙◌, subst, arith, cond, Option, Some, None, ◌==◌}
 use Rattle.std.specs.List.{filter, find}
 use Rattle.std.proofs.lemmas.Bool.{lt-ltb}
 use Rattle.std.proofs.lemmas.Bool.Decides.{nat_tests}
@@ -118,3 +118,9 @@ free_unlisted c s f found =
     let there : listing_at rows f ≡ listings.Unlisted =
     row_in_rows (listing_row s) c.frames f listings.Unlisted unused.below ∙ listing_is s f ∙ ap (λ (r : FrameRow). listing_by r (find (is_hint_in s f) s.hints)) free in
     ap (λ (l : Listing). set rows f l) (sym there) ∙ set-get_or rows f listings.Unlisted
+
+-- past the end a frame is free
+pub past_end : (rows : List FrameRow) (f : ℕ) → slice_get rows f ≡ None → frame_at rows f ≡ frames.Free
+past_end [] f h = refl
+past_end (r ∷ rs) zero h = cc
+past_end (r ∷ rs) (suc f) h = past_end rs f h
