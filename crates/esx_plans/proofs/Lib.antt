@@ -5,4 +5,5 @@ pub mod Counted
 pub mod Held
 pub mod Periods
 pub mod Moved
+pub mod Drawn
 pub mod refines

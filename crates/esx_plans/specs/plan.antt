@@ -4,3 +4,4 @@ pub mod Rebalancing
 pub mod Starting
 pub mod Counted
 pub mod Access
+pub mod Replacing
