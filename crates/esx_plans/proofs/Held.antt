@@ -21,13 +21,13 @@ use Rattle.esx_model.specs.declared.scene.Place.TheVariants.{Untouched, Here, Ou
 use Rattle.esx_model.specs.declared.scene.Vm.{Vm}
 use Rattle.esx_model.specs.declared.scene.Site.{Site}
 use Rattle.esx_model.specs.Places.{is_out_at}
-use Rattle.esx_model.specs.Site.{vm_at, place_at, pages_at, all_places, all_overhead, least_free}
+use Rattle.esx_model.specs.Site.{vm_at, place_at, pages_at, all_places, all_overhead, least_free, least_slot}
 use Rattle.esx_model.specs.Show.{row_of, in_slot, pages_in, pages_out, slot_of, frame_row, frame_rows, slot_row, slot_rows, is_listed}
 use Rattle.esx_model.specs.Tables.{tables_of, is_hint_in, listing_by, listing_row, listing_rows}
 use Rattle.esx_model.specs.sound.Frames.{pages_out_for}
 use Rattle.esx_model.specs.sound.Machines.{IsPlace}
 use Rattle.esx_model.specs.sound.Sound.{IsSound}
-use Rattle.esx_model.proofs.Callers.{IsIn, page_is_in, old_place, row_here, private_row, shared_row, row_clear, row_in_rows, count_in_frame, least_unused, listing_is}
+use Rattle.esx_model.proofs.Callers.{IsIn, page_is_in, old_place, row_here, private_row, shared_row, row_clear, row_in_rows, count_in_frame, least_unused, slot_unused, listing_is}
 
 -- page `page` of machine n is at p
 pub record Finds (c : Config) (s : Site) (n page : ℕ) (v : Vm) (p : Place) : Type 0 where
@@ -124,3 +124,10 @@ pub past_end : (rows : List FrameRow) (f : ℕ) → slice_get rows f ≡ None �
 past_end [] f h = refl
 past_end (r ∷ rs) zero h = cc
 past_end (r ∷ rs) (suc f) h = past_end rs f h
+
+-- the least slot that no page is in
+pub free_slot_there : (c : Config) (s : Site) (i : ℕ) → least_slot c.slots s ≡ Some i → slot_at (slot_rows c.slots s) i ≡ slots.Free
+unfolding slot_row
+free_slot_there c s i found =
+    let unused = slot_unused c.slots s i found in
+    row_in_rows (slot_row s) c.slots i slots.Free unused.0 ∙ ap slot_of unused.1
