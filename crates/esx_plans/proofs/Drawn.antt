@@ -69,6 +69,10 @@ drawn_there [] k d h = absurd (omega arith)
 drawn_there (x ∷ xs) zero d h = refl
 drawn_there (x ∷ xs) (suc k) d h = drawn_there xs k d (omega arith)
 
+pub nothing_there : {X : Type 0} (xs : List X) (k : ℕ) → length xs ≡ 0 → slice_get xs k ≡ None
+nothing_there [] k h = refl
+nothing_there (x ∷ xs) k h = absurd (omega arith)
+
 -- The least slot that no page is in.
 
 slot_empty : (i : ℕ) (ps : List Place) → is_empty (slot_of (in_slot i ps)) ≡ not (list_any (is_out_at i) ps)

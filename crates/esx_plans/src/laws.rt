@@ -11,6 +11,7 @@ ghost use Rattle.esx_model.specs.event.Leaving.{stop};
 ghost use Rattle.esx_model.specs.event.Rebalancing.{set_tax, set_shares};
 ghost use Rattle.esx_model.specs.event.Starting.{start};
 ghost use Rattle.esx_model.specs.event.Access.{read, write};
+ghost use Rattle.esx_model.specs.event.Paging.{replace};
 ghost use Rattle.esx_model.specs.sound.Sound.{IsSound};
 ghost use Rattle.esx_plans.specs.plan.Planned.{Refines};
 ghost use Rattle.esx_plans.specs.plan.Leaving.{stop_plan};
@@ -18,6 +19,7 @@ ghost use Rattle.esx_plans.specs.plan.Rebalancing.{tax_plan, shares_plan};
 ghost use Rattle.esx_plans.specs.plan.Starting.{start_plan};
 ghost use Rattle.esx_plans.specs.plan.Counted.{ArePeriodsOpen};
 ghost use Rattle.esx_plans.specs.plan.Access.{read_plan, write_plan};
+ghost use Rattle.esx_plans.specs.plan.Replacing.{replace_plan};
 
 /// What gates read of a machine's row is what they read of the machine.
 #[tactic(auto, using(crate::proofs::Refining::standing_shown))]
@@ -46,4 +48,9 @@ pub fn access_refines()
 /// Each open period in the tables of a sound site has accesses left, and 1 to 100 pages.
 pub fn periods_are_open()
     ensures { (c : Config) (s : Site) → IsSound c s → ArePeriodsOpen (tables_of c s) }
+{}
+
+/// The plan of a replacement does to the tables of a sound site what the event does to the site.
+pub fn replace_refines()
+    ensures { (c : Config) (s : Site) (n page word : ℕ) → IsSound c s → Refines c s (replace_plan c (tables_of c s) n page word) (replace c s n page word) }
 {}

@@ -4,6 +4,7 @@ pub mod access;
 pub mod counted;
 pub mod leaving;
 pub mod rebalancing;
+pub mod replacing;
 pub mod starting;
 
 use esx_events::Answer;

@@ -1,5 +1,5 @@
 -- The plan of a replacement: a page comes into the frame of another page of its machine, which goes out.
-use Rattle.std.specs.Prelude.{ℕ, ◌%◌, Bool, false, List, [], ◌∷◌, ◌++◌, map, slice_get, Option, Some, None, Ok, Err}
+use Rattle.std.specs.Prelude.{ℕ, ◌%◌, Bool, false, List, [], ◌∷◌, ◌++◌, map, slice_get, Option, Some, None, if◌then◌else◌, Ok, Err}
 use Rattle.std.specs.List.{list_any}
 use Rattle.esx_types.specs.declared.config.Config.{Config}
 use Rattle.esx_types.specs.declared.table.FrameRow.{FrameRow}
@@ -7,7 +7,7 @@ use Rattle.esx_types.specs.declared.table.FrameRow.TheVariants as frames
 use Rattle.esx_types.specs.declared.table.Listing.TheVariants as listings
 use Rattle.esx_types.specs.declared.table.MapRow.{MapRow}
 use Rattle.esx_types.specs.declared.table.MapRow.TheVariants as maps
-use Rattle.esx_types.specs.Frames.{frame_at}
+use Rattle.esx_types.specs.Frames.{is_shared, frame_at}
 use Rattle.esx_types.specs.Slots.{least_slot}
 use Rattle.esx_types.specs.Pages.{page_at, is_here, resident_count, resident_pages}
 use Rattle.esx_events.specs.declared.event.Answer.TheVariants as answers
@@ -46,10 +46,7 @@ slot_for t (maps.Lent e) = least_slot t.slots
 
 -- a frame that was shared is left with one page, which has it for itself before it goes
 abbrev pub own_changes : ℕ → FrameRow → List Change
-own_changes f frames.Free = []
-own_changes f frames.Overhead = []
-own_changes f (frames.Private bytes) = []
-own_changes f (frames.Shared count bytes) = MarkAt f marks.Private ∷ []
+own_changes f row = if is_shared row then MarkAt f marks.Private ∷ [] else []
 
 -- a page that comes from no slot comes as zeros
 abbrev pub new_changes : Config → ℕ → MapRow → List Change

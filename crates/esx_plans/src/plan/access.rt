@@ -1,16 +1,16 @@
 //! A guest reads or writes one of its pages.
 
-ghost use Rattle.std.specs.Prelude.{◌≡◌, ◌<◌, ◌≤◌, ◌+◌, ◌^◌, ◌++◌, ◌∷◌, [], length, take, drop, replicate, OnOk, IfOk, None};
+ghost use Rattle.std.specs.Prelude.{◌≡◌, ◌<◌, ◌≤◌, ◌+◌, ◌^◌, ◌++◌, ◌∷◌, [], length, map, take, drop, replicate, OnOk, IfOk, None};
 ghost use Rattle.esx_types.specs.Pages.{page_at};
 ghost use Rattle.esx_types.specs.Frames.{frame_at};
 ghost use Rattle.esx_types.specs.declared.table.MapRow.TheVariants.{Here, Out};
-ghost use Rattle.esx_tables.specs.declared.change.Change.TheVariants.{BytesAt};
+ghost use Rattle.esx_tables.specs.declared.change.Change.TheVariants.{BytesAt, OfVm};
 ghost use Rattle.esx_model.specs.Tables.{standing_of};
 ghost use Rattle.esx_model.specs.event.Outcome.{first};
 ghost use Rattle.esx_model.specs.event.Access.{access_gate, overwritten};
 ghost use Rattle.esx_plans.specs.plan.Planned.{Plans};
 ghost use Rattle.esx_plans.specs.plan.Counted.{IsOpenOf, ArePeriodsOpen};
-ghost use Rattle.esx_plans.specs.plan.Access.{come_changes, told, read_zeros, read_slot, read_frame, read_plan, write_zeros, write_slot, write_own, write_copy, write_last, write_frame, write_plan};
+ghost use Rattle.esx_plans.specs.plan.Access.{popped_parts, come_changes, told, read_zeros, read_slot, read_frame, read_plan, write_zeros, write_slot, write_own, write_copy, write_last, write_frame, write_plan};
 
 use crate::plan::Plan;
 use crate::plan::counted::{push_counted, push_part, room};
@@ -104,7 +104,27 @@ fn zeros_overwritten(
     Ok(Bytes::from_vec(bytes))
 }
 
-/// A page comes to a frame, and the access is counted. One that is lent now pops the balloon.
+/// A page that is lent now pops the balloon.
+pub fn push_popped(
+    changes: &mut Vec<Change>,
+    vm: VmId,
+    row: &VmTable,
+    place: MapRow,
+) -> Result<(), AllocError>
+    ensures { OnOk result (changes.new.items ≡ changes.old.items ++ map (OfVm vm) (popped_parts row.now place)) }
+{
+    if let MapRow::Lent { epoch } = place {
+        let facts = row.facts();
+        let facts = Facts {
+            due: facts.due || epoch == facts.epoch,
+            ..facts
+        };
+        push_part(changes, vm, VmPart::Facts { facts })?;
+    }
+    Ok(())
+}
+
+/// A page comes to a frame, and the access is counted.
 fn push_come(
     changes: &mut Vec<Change>,
     vm: VmId,
@@ -117,14 +137,7 @@ fn push_come(
 {
     let here = MapRow::Here { frame };
     push_part(changes, vm, VmPart::PageAt { page, row: here })?;
-    if let MapRow::Lent { epoch } = row.page(page) {
-        let facts = row.facts();
-        let facts = Facts {
-            due: facts.due || epoch == facts.epoch,
-            ..facts
-        };
-        push_part(changes, vm, VmPart::Facts { facts })?;
-    }
+    push_popped(changes, vm, row, row.page(page))?;
     push_counted(changes, vm, row, page)
 }
 
