@@ -5,4 +5,9 @@ pub mod Ratios
 pub mod Retargeted
 pub mod Leaves
 pub mod Overhead
+pub mod Counted
+pub mod Held
+pub mod Periods
+pub mod Moved
+pub mod Drawn
 pub mod refines

@@ -5,3 +5,5 @@ pub mod Starting
 pub mod Event
 pub mod Admission
 pub mod Sampling
+pub mod Access
+pub mod Replacing

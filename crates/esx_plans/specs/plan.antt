@@ -8,3 +8,6 @@ pub mod Rebalancing
 pub mod Starting
 pub mod Event
 pub mod Sampling
+pub mod Counted
+pub mod Access
+pub mod Replacing

@@ -14,6 +14,8 @@ ghost use Rattle.esx_model.specs.event.Leaving.{stop, drop_page, gone};
 ghost use Rattle.esx_model.specs.event.Rebalancing.{rebalance, set_tax, set_shares};
 ghost use Rattle.esx_model.specs.event.Sampling.{sample};
 ghost use Rattle.esx_model.specs.event.Starting.{start};
+ghost use Rattle.esx_model.specs.event.Access.{read, write};
+ghost use Rattle.esx_model.specs.event.Paging.{replace};
 ghost use Rattle.esx_model.specs.sound.Sound.{IsSound};
 ghost use Rattle.esx_plans.specs.plan.Planned.{Refines};
 ghost use Rattle.esx_plans.specs.plan.Admission.{admit_plan};
@@ -24,6 +26,9 @@ ghost use Rattle.esx_plans.specs.plan.Sampling.{sample_plan};
 ghost use Rattle.esx_model.specs.event.Balloon.{ask, lend, take_back};
 ghost use Rattle.esx_plans.specs.plan.Balloon.{ask_plan, lend_plan, take_back_plan};
 ghost use Rattle.esx_plans.specs.plan.Starting.{start_plan};
+ghost use Rattle.esx_plans.specs.plan.Counted.{ArePeriodsOpen};
+ghost use Rattle.esx_plans.specs.plan.Access.{read_plan, write_plan};
+ghost use Rattle.esx_plans.specs.plan.Replacing.{replace_plan};
 
 /// What gates read of a machine's row is what they read of the machine.
 #[tactic(auto, using(crate::proofs::Refining::standing_shown))]
@@ -75,4 +80,20 @@ pub fn balloon_refines()
     ensures ask { (c : Config) (s : Site) (n : ℕ) → Refines c s (ask_plan (tables_of c s) n) (ask s n) }
     ensures lend { (c : Config) (s : Site) (n page : ℕ) → IsSound c s → Refines c s (lend_plan (tables_of c s) n page) (lend s n page) }
     ensures take_back { (c : Config) (s : Site) (n page : ℕ) → IsSound c s → Refines c s (take_back_plan (tables_of c s) n page) (take_back s n page) }
+{}
+
+/// The plan of a read and of a write does to the tables of a sound site what the event does to the site.
+pub fn access_refines()
+    ensures read { (c : Config) (s : Site) (level : Level) (n page at len : ℕ) → IsSound c s → Refines c s (read_plan c (tables_of c s) level n page at len) (read c s level n page at len) }
+    ensures write { (c : Config) (s : Site) (level : Level) (n page at : ℕ) (new : List ℕ) → IsSound c s → Refines c s (write_plan c (tables_of c s) level n page at new) (write c s level n page at new) }
+{}
+
+/// Each open period in the tables of a sound site has accesses left, and 1 to 100 pages.
+pub fn periods_are_open()
+    ensures { (c : Config) (s : Site) → IsSound c s → ArePeriodsOpen (tables_of c s) }
+{}
+
+/// The plan of a replacement does to the tables of a sound site what the event does to the site.
+pub fn replace_refines()
+    ensures { (c : Config) (s : Site) (n page word : ℕ) → IsSound c s → Refines c s (replace_plan c (tables_of c s) n page word) (replace c s n page word) }
 {}

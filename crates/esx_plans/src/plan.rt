@@ -4,10 +4,13 @@ pub mod event;
 pub mod admission;
 pub mod balloon;
 mod leaves;
+pub mod access;
+pub mod counted;
 pub mod leaving;
 pub mod ratios;
 pub mod rebalancing;
 pub mod sampling;
+pub mod replacing;
 pub mod starting;
 mod stub;
 
