@@ -1,4 +1,5 @@
 pub mod Refining
 pub mod Made
 pub mod Found
+pub mod Looks
 pub mod refines

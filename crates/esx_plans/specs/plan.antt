@@ -2,3 +2,4 @@ pub mod Planned
 pub mod Leaving
 pub mod Rebalancing
 pub mod Starting
+pub mod Sharing
