@@ -77,6 +77,11 @@ own_page s n page v bytes f shared there was =
 pub row_at_frame : (c : Config) (s : Site) (f : ℕ) → f < c.frames → frame_at (tables_of c s).frames f ≡ frame_row s f
 row_at_frame c s f below = row_in_rows (frame_row s) c.frames f frames.Free below
 
+pub private_row_at : (c : Config) (s : Site) (n page : ℕ) (v : Vm) (bytes : List ℕ) (f : ℕ) → IsSound c s → vm_at s n ≡ Some v → place_at v page ≡ Here bytes f false → frame_at (tables_of c s).frames f ≡ frames.Private bytes
+private_row_at c s n page v bytes f sound there was =
+    let i = own_page s n page v bytes f false there was in
+    row_at_frame c s f (frame_below c s bytes f false sound i) ∙ frame_private c s bytes f sound i
+
 -- A frame that is shared under a key.
 
 key_of_shared : (key : ℕ) (r : FrameRow) (o : Option Hint) → is_shared_under key (listing_by r o) ≡ true → key_of_row r ≡ Some key
@@ -363,6 +368,5 @@ look_shown c s n page v bytes f true sound there was =
     let i = own_page s n page v bytes f true there was in
     ap (look_in (tables_of c s) n page) (row_at_frame c s f (frame_below c s bytes f true sound i) ∙ (frame_shared c s bytes f sound i).1)
 look_shown c s n page v bytes f false sound there was =
-    let i = own_page s n page v bytes f false there was in
-    ap (look_in (tables_of c s) n page) (row_at_frame c s f (frame_below c s bytes f false sound i) ∙ frame_private c s bytes f sound i)
+    ap (look_in (tables_of c s) n page) (private_row_at c s n page v bytes f sound there was)
     ∙ keys_meet c s n page bytes (model.shared_under (content_key bytes) s) sound refl

@@ -1,3 +1,5 @@
 pub mod Rebalancing
 pub mod Leaving
 pub mod Starting
+pub mod Sharing
+pub mod Paging

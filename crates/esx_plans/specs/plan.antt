@@ -3,3 +3,4 @@ pub mod Leaving
 pub mod Rebalancing
 pub mod Starting
 pub mod Sharing
+pub mod Paging

@@ -1,7 +1,9 @@
 //! Plans, a file for each mechanism.
 
 pub mod leaving;
+pub mod paging;
 pub mod rebalancing;
+pub mod sharing;
 pub mod starting;
 
 use esx_events::Answer;
