@@ -1,5 +1,6 @@
 //! Plans, a file for each mechanism.
 
+pub mod changes;
 pub mod leaving;
 pub mod paging;
 pub mod rebalancing;

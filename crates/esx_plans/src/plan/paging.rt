@@ -8,11 +8,12 @@ ghost use Rattle.esx_plans.specs.plan.Sharing.{HasCounts};
 ghost use Rattle.esx_plans.specs.plan.Paging.{drawn_page, move_changes, copy_changes, last_changes, out_changes, to_slot, leave_frame, leave_row, swap_out_plan};
 
 use crate::plan::Plan;
+use crate::plan::changes::{page_at, unlisted};
 use crate::plan::sharing::{look_by_row, look_changes};
 use esx_events::{Answer, Refusal};
 use esx_model::{Look, Standing};
-use esx_tables::{Change, Mark, Record, SiteTables, VmPart, VmTable};
-use esx_types::{Bytes, FrameRow, Level, Listing, MapRow, SlotRow, VmId, VmState};
+use esx_tables::{Change, Mark, Record, SiteTables, VmTable};
+use esx_types::{Bytes, FrameRow, Level, MapRow, SlotRow, VmId, VmState};
 use std::alloc::{AllocError, Global};
 
 /// Nothing is paged at the highest level, nor at the next while the balloon may still lend.
@@ -51,17 +52,8 @@ fn move_changes(
 {
     Ok(vec![in alloc;
         Change::FrameWithSlot { frame, slot },
-        Change::ListingAt {
-            frame,
-            listing: Listing::Unlisted
-        },
-        Change::OfVm {
-            vm,
-            part: VmPart::PageAt {
-                page,
-                row: MapRow::Out { slot }
-            }
-        },
+        unlisted(frame),
+        page_at(vm, page, MapRow::Out { slot }),
     ]?)
 }
 
@@ -81,17 +73,8 @@ fn last_changes(
             mark: Mark::Private
         },
         Change::FrameWithSlot { frame, slot },
-        Change::ListingAt {
-            frame,
-            listing: Listing::Unlisted
-        },
-        Change::OfVm {
-            vm,
-            part: VmPart::PageAt {
-                page,
-                row: MapRow::Out { slot }
-            }
-        },
+        unlisted(frame),
+        page_at(vm, page, MapRow::Out { slot }),
     ]?)
 }
 
@@ -117,13 +100,7 @@ fn copy_changes(
             frame,
             mark: Mark::Shared { count }
         },
-        Change::OfVm {
-            vm,
-            part: VmPart::PageAt {
-                page,
-                row: MapRow::Out { slot }
-            }
-        },
+        page_at(vm, page, MapRow::Out { slot }),
     ]?)
 }
 

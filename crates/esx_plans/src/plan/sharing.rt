@@ -8,10 +8,11 @@ ghost use Rattle.esx_plans.specs.plan.Planned.{Plans};
 ghost use Rattle.esx_plans.specs.plan.Sharing.{look_at_shared, look_at_hinted, look_at_hint, look_by_key, look_in, key_in, join_changes, pair_changes, hint_changes, count_with, look_changes, look_said, looked, scan_frame, scan_row, scan_plan, HasCounts};
 
 use crate::plan::Plan;
+use crate::plan::changes::{page_at, unlisted};
 use esx_events::{Answer, Refusal, Scanned};
 use esx_formulas::content_key;
 use esx_model::Look;
-use esx_tables::{Change, Mark, Record, SiteTables, VmPart};
+use esx_tables::{Change, Mark, Record, SiteTables};
 use esx_types::{FrameRow, Listing, MapRow, VmId, VmState};
 use std::alloc::{AllocError, Global};
 
@@ -155,21 +156,12 @@ fn join_changes(
             frame: own,
             row: FrameRow::Free
         },
-        Change::ListingAt {
-            frame: own,
-            listing: Listing::Unlisted
-        },
+        unlisted(own),
         Change::MarkAt {
             frame,
             mark: Mark::Shared { count }
         },
-        Change::OfVm {
-            vm,
-            part: VmPart::PageAt {
-                page,
-                row: MapRow::Here { frame }
-            }
-        },
+        page_at(vm, page, MapRow::Here { frame }),
     ]?)
 }
 
@@ -193,21 +185,12 @@ fn pair_changes(
             frame: own,
             row: FrameRow::Free
         },
-        Change::ListingAt {
-            frame: own,
-            listing: Listing::Unlisted
-        },
+        unlisted(own),
         Change::MarkAt {
             frame,
             mark: Mark::Shared { count: 2 }
         },
-        Change::OfVm {
-            vm,
-            part: VmPart::PageAt {
-                page,
-                row: MapRow::Here { frame }
-            }
-        },
+        page_at(vm, page, MapRow::Here { frame }),
     ]?)
 }
 
@@ -228,13 +211,7 @@ fn hint_changes(
     };
     match hinted {
         None => Ok(vec![in alloc; hint]?),
-        Some(frame) => Ok(vec![in alloc;
-            Change::ListingAt {
-                frame,
-                listing: Listing::Unlisted
-            },
-            hint,
-        ]?),
+        Some(frame) => Ok(vec![in alloc; unlisted(frame), hint]?),
     }
 }
 
@@ -255,7 +232,7 @@ pub fn look_changes(
         Look::SharedFrame { frame } => {
             join_changes(alloc, vm, page, own, frame, count_with(tables, frame))
         }
-        Look::OtherPage { frame, .. } => { pair_changes(alloc, vm, page, own, frame, found.key) }
+        Look::OtherPage { frame, .. } => pair_changes(alloc, vm, page, own, frame, found.key),
         Look::Changed | Look::Nothing => {
             let hinted = tables.hinted_under(found.key);
             hint_changes(alloc, vm, page, own, found.key, hinted)
