@@ -10,4 +10,8 @@ pub mod Held
 pub mod Periods
 pub mod Moved
 pub mod Drawn
+pub mod Looks
+pub mod DrawnOut
+pub mod Countable
+pub mod Rows
 pub mod refines

@@ -7,3 +7,5 @@ pub mod Admission
 pub mod Sampling
 pub mod Access
 pub mod Replacing
+pub mod Sharing
+pub mod Paging

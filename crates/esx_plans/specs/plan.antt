@@ -11,3 +11,5 @@ pub mod Sampling
 pub mod Counted
 pub mod Access
 pub mod Replacing
+pub mod Sharing
+pub mod Paging

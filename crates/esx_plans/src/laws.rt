@@ -1,12 +1,15 @@
 //! Laws of plans. A function here does nothing: its contract is the law.
 
-ghost use Rattle.std.specs.Prelude.{◌≡◌, ℕ, ◌<◌, List, length};
+ghost use Rattle.std.specs.Prelude.{◌≡◌, ℕ, ◌<◌, List, length, Bool, Some};
 ghost use Rattle.esx_types.specs.declared.config.Config.{Config};
 ghost use Rattle.esx_types.specs.declared.config.TheConstants.{VM_NUMBERS};
 ghost use Rattle.esx_types.specs.declared.level.Level.{Level};
 ghost use Rattle.esx_types.specs.declared.vm.VmSpec.{VmSpec};
+ghost use Rattle.esx_types.specs.Frames.{frame_at};
+ghost use Rattle.esx_model.specs.declared.scene.Place.TheVariants.{Here};
 ghost use Rattle.esx_model.specs.declared.scene.Vm.{Vm};
 ghost use Rattle.esx_model.specs.declared.scene.Site.{Site};
+ghost use Rattle.esx_model.specs.Site.{vm_at, place_at};
 ghost use Rattle.esx_model.specs.Tables.{vm_table, standing_of, tables_of};
 ghost use Rattle.esx_model.specs.event.Outcome.{standing};
 ghost use Rattle.esx_model.specs.event.Admission.{admit};
@@ -15,7 +18,8 @@ ghost use Rattle.esx_model.specs.event.Rebalancing.{rebalance, set_tax, set_shar
 ghost use Rattle.esx_model.specs.event.Sampling.{sample};
 ghost use Rattle.esx_model.specs.event.Starting.{start};
 ghost use Rattle.esx_model.specs.event.Access.{read, write};
-ghost use Rattle.esx_model.specs.event.Paging.{replace};
+ghost use Rattle.esx_model.specs.event.Paging.{replace, swap_out};
+ghost use Rattle.esx_model.specs.event.Sharing.{look, scan};
 ghost use Rattle.esx_model.specs.sound.Sound.{IsSound};
 ghost use Rattle.esx_plans.specs.plan.Planned.{Refines};
 ghost use Rattle.esx_plans.specs.plan.Admission.{admit_plan};
@@ -29,6 +33,8 @@ ghost use Rattle.esx_plans.specs.plan.Starting.{start_plan};
 ghost use Rattle.esx_plans.specs.plan.Counted.{ArePeriodsOpen};
 ghost use Rattle.esx_plans.specs.plan.Access.{read_plan, write_plan};
 ghost use Rattle.esx_plans.specs.plan.Replacing.{replace_plan};
+ghost use Rattle.esx_plans.specs.plan.Sharing.{look_in, scan_plan, HasCounts};
+ghost use Rattle.esx_plans.specs.plan.Paging.{swap_out_plan};
 
 /// What gates read of a machine's row is what they read of the machine.
 #[tactic(auto, using(crate::proofs::Refining::standing_shown))]
@@ -96,4 +102,26 @@ pub fn periods_are_open()
 /// The plan of a replacement does to the tables of a sound site what the event does to the site.
 pub fn replace_refines()
     ensures { (c : Config) (s : Site) (n page word : ℕ) → IsSound c s → Refines c s (replace_plan c (tables_of c s) n page word) (replace c s n page word) }
+{}
+
+/// A look by the row of a page's frame, in the tables of a sound site, finds what a look at the page finds.
+pub fn looks_meet()
+    ensures { (c : Config) (s : Site) (n page : ℕ) (v : Vm) (bytes : List ℕ) (f : ℕ) (shared : Bool) → IsSound c s
+        → vm_at s n ≡ Some v → place_at v page ≡ Here bytes f shared
+        → look_in (tables_of c s) n page (frame_at (tables_of c s).frames f) ≡ look s n page (Here bytes f shared) }
+{}
+
+/// In the tables of a sound site one page more can be counted in each shared frame.
+pub fn counts_fit()
+    ensures { (c : Config) (s : Site) → IsSound c s → HasCounts (tables_of c s) }
+{}
+
+/// The plan of a scan does to the tables of a sound site what the event does to the site.
+pub fn scan_refines()
+    ensures { (c : Config) (s : Site) (n page : ℕ) → IsSound c s → Refines c s (scan_plan (tables_of c s) n page) (scan c s n page) }
+{}
+
+/// The plan of a page that is paged out does to the tables of a sound site what the event does to the site.
+pub fn swap_out_refines()
+    ensures { (c : Config) (s : Site) (level : Level) (n word : ℕ) → IsSound c s → Refines c s (swap_out_plan (tables_of c s) level n word) (swap_out c s level n word) }
 {}

@@ -1,16 +1,19 @@
 //! Plans, a file for each mechanism.
 
-pub mod event;
+pub mod access;
 pub mod admission;
 pub mod balloon;
-mod leaves;
-pub mod access;
+pub mod changes;
 pub mod counted;
+pub mod event;
+mod leaves;
 pub mod leaving;
+pub mod paging;
 pub mod ratios;
 pub mod rebalancing;
-pub mod sampling;
 pub mod replacing;
+pub mod sampling;
+pub mod sharing;
 pub mod starting;
 mod stub;
 
