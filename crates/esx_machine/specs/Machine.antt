@@ -1,5 +1,5 @@
 -- What a machine keeps, what its records do, and what an event gives.
-use Rattle.std.specs.Prelude.{◌≡◌, ◌≢◌, ◌<◌, ◌+◌, ◌^◌, ℕ, List, Some, Result, Ok, Err, IsOk}
+use Rattle.std.specs.Prelude.{◌≡◌, ◌≢◌, List, Result, Ok, Err, IsOk}
 use Rattle.esx_types.specs.Ranges.{IsConfig}
 use Rattle.esx_types.specs.declared.config.Config.{Config}
 use Rattle.esx_types.specs.declared.level.Level.{Level}
@@ -9,13 +9,11 @@ use Rattle.esx_events.specs.declared.event.Refusal.TheVariants.{OutOfMemory}
 use Rattle.esx_model.specs.declared.scene.Site.{Site}
 use Rattle.esx_model.specs.declared.scene.Scene.{Scene}
 use Rattle.esx_model.specs.declared.book.Book.{Book}
-use Rattle.esx_model.specs.declared.book.VmRow.{VmRow}
 use Rattle.esx_model.specs.declared.tables.Tables.{Tables}
 use Rattle.esx_model.specs.Tables.{tables_of, book_from}
 use Rattle.esx_model.specs.sound.Sound.{IsSound}
 use Rattle.esx_tables.specs.declared.change.Change.{Change}
 use Rattle.esx_tables.specs.Changes.{exchanged}
-use Rattle.esx_tables.specs.Readings.{row_at}
 
 -- a site's numbers, the level and the tables
 pub record Kept : Type 0 where
@@ -39,10 +37,6 @@ pub record Shows (k : Kept) (t : Scene) : Type 0 where
 -- the book that is read from the tables
 abbrev pub book_in : Kept → Book
 book_in k = book_from k.tables k.level
-
--- each machine's epoch can rise
-abbrev pub CanEpochsRise : Tables → Type 0
-CanEpochsRise t = (n : ℕ) (v : VmRow) → row_at t n ≡ Some v → v.epoch + 1 < 2 ^ 32
 
 -- a record: the level, and the changes
 pub record Back : Type 0 where
@@ -76,6 +70,7 @@ pub record Refuses (old new : Kept) (e : Refusal) (d : Result (Answer × Scene) 
   pub why : e ≢ OutOfMemory → d ≡ Err e
   pub late : e ≡ OutOfMemory → IsOk d
 
+-- what a call that makes one event may give
 abbrev pub Applies : Result (Answer × Back) Refusal → Kept → Kept → Result (Answer × Scene) Refusal → Type 0
 Applies (Ok r) old new d = Accepts old new r.0 r.1 d
 Applies (Err e) old new d = Refuses old new e d

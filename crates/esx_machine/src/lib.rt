@@ -1,8 +1,13 @@
-//! STUB, for development only: the real machine takes its place. Bodies here do nothing, and stand on a false premise.
+//! The memory manager by frame: tables that an event changes, and records that change them back.
 #![tactic(auto)]
 
+mod advice;
+pub mod laws;
 pub mod machine;
-mod stub;
+mod reading;
+mod table;
 
-pub use esx_tables::RecordSize;
 pub use machine::{Machine, Record};
+
+#[cfg(test)]
+mod tests;

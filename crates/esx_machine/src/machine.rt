@@ -1,26 +1,19 @@
-//! STUB: the public surface of a machine.
+//! The machine, and the records of its events.
 
-ghost use Rattle.std.specs.Prelude.{◌≡◌, ◌≢◌, ◌+◌, IfOk, IfErr, count_by};
-ghost use Rattle.esx_types.specs.Ranges.{IsConfig};
-ghost use Rattle.esx_types.specs.Frames.{is_free};
-ghost use Rattle.esx_events.specs.declared.event.Refusal.TheVariants as refusals;
-ghost use Rattle.esx_model.specs.declared.scene.Scene.{Scene};
-ghost use Rattle.esx_model.specs.Site.{free_count};
-ghost use Rattle.esx_model.specs.Replay.{opening, next};
-ghost use Rattle.esx_model.specs.Readings.{sum_of, table_of, page_state, activity};
-ghost use Rattle.esx_model.specs.Advice.{advice};
-ghost use Rattle.esx_tables.specs.Sizes.{size_of, capped};
-ghost use Rattle.esx_machine.specs.Machine.{Kept, Shows, CanEpochsRise, Trades, Applies, turned, book_in};
-
-use crate::stub::nothing;
+use crate::advice::advise;
+use crate::reading::{activity, page_state};
+use crate::table::table_of;
 use esx_events::{Activity, Answer, Event, Help, PageState, Refusal, Sum, TableRow};
+use esx_level::Thresholds;
 use esx_model::Book;
-use esx_tables::{RecordSize, SiteTables};
+use esx_plans::plan::event::plan_event;
+use esx_tables::{Record as Changes, RecordSize, SiteTables};
 use esx_types::{Config, Level, Rows, VmId};
 use std::alloc::{AllocError, Global};
 use std::marker::Model;
+use std::mem;
 
-/// A machine that makes one event, and flips a record.
+/// A site's numbers, how scarce its frames are, and its tables.
 #[derive(Drop)]
 pub struct Machine {
     alloc: Global,
@@ -39,11 +32,11 @@ impl Model for Machine {
     ghost invariant = { λ a. IsKept (record { config = a.config; level = a.level; tables = a.tables }) };
 }
 
-/// What leads from one state to another and back.
+/// What leads from the tables after an event to those before it, and back.
 #[derive(Drop)]
 pub struct Record {
     level: Level,
-    changes: esx_tables::Record,
+    changes: Changes,
 }
 
 impl Model for Record {
@@ -54,40 +47,77 @@ impl Model for Record {
     ghost view = { λ a. record { level = a.level; changes = a.changes } };
 }
 
+impl Record {
+    ghost use Rattle.std.specs.Prelude.{◌≡◌};
+    ghost use Rattle.esx_tables.specs.Sizes.{size_of, capped};
+
+    /// How much it holds.
+    pub fn size(&self) -> RecordSize
+        ensures { result ≡ capped (size_of self.now.changes) }
+    {
+        self.changes.size()
+    }
+}
+
 impl Machine {
-    /// A machine with no virtual machine. `BadSpec` where a number of the site is out of its range.
+    ghost use Rattle.std.specs.Prelude.{◌≡◌, ◌≢◌, ◌+◌, count_by, IfOk, IfErr};
+    ghost use Rattle.esx_types.specs.Ranges.{IsConfig};
+    ghost use Rattle.esx_types.specs.Frames.{is_free};
+    ghost use Rattle.esx_model.specs.declared.scene.Scene.{Scene};
+    ghost use Rattle.esx_model.specs.Site.{free_count};
+    ghost use Rattle.esx_model.specs.Readings.{sum_of, page_state, activity, table_of};
+    ghost use Rattle.esx_model.specs.Advice.{advice};
+    ghost use Rattle.esx_model.specs.Replay.{next, opening};
+    ghost use Rattle.esx_plans.specs.plan.Balloon.{CanEpochsRise};
+    ghost use Rattle.esx_machine.specs.Machine.{Kept, Shows, Trades, turned, Applies, book_in};
+
+    /// A site with no virtual machines. `BadSpec` where one of its numbers is out of its range.
     pub fn open(alloc: Global, config: Config) -> Result<Machine, Refusal>
         ensures shows { IfOk result (λ m. (m.config ≡ config) × Shows m (opening config)) }
         ensures checked { IfOk result (λ m. IsConfig config) }
         ensures refused { IfErr result (λ e. e ≢ Refusal.OutOfMemory → (e ≡ Refusal.BadSpec) × (¬ IsConfig config)) }
         ensures late { IfErr result (λ e. e ≡ Refusal.OutOfMemory → IsConfig config) }
     {
-        let _ = alloc;
-        let _ = config;
-        nothing();
-        unreachable!()
+        let Ok(config) = config.check() else {
+            return Err(Refusal::BadSpec);
+        };
+        let tables = SiteTables::open(alloc, &config)?;
+        Ok(Machine {
+            alloc,
+            config,
+            level: Level::High,
+            tables,
+        })
     }
 
     /// One event: its answer, and the record that leads back. A refusal is the first that applies, and
     /// changes nothing; neither does want of memory.
+    ///
+    /// condition: each machine's epoch can rise
     pub fn apply(&mut self, event: &Event) -> Result<(Answer, Record), Refusal>
         requires rise { CanEpochsRise self.old.tables }
         ensures { (scene : Scene) → Shows self.old scene → Applies result self.old self.new (next self.old.config scene event.now) }
     {
-        let _ = event;
-        nothing();
-        unreachable!()
+        let plan = match plan_event(&self.tables, self.alloc, &self.config, self.level, event) {
+            Ok(plan) => plan,
+            Err(refusal) => return Err(refusal),
+        };
+        let mut changes = plan.changes;
+        let level = self.level;
+        self.tables.exchange(&mut changes);
+        let free = self.tables.counts().free;
+        self.level = Thresholds::of(self.config).next(level, free);
+        Ok((plan.answer, Record { level, changes }))
     }
 
-    /// Trades the record's rows with the machine's.
+    /// Trades the record's changes and level with the machine's tables and level.
     pub fn flip(&mut self, back: &mut Record)
         requires fits { (there : Kept) × Trades back.old self.old there }
         ensures { (there : Kept) → Trades back.old self.old there
             → (self.new ≡ there) × Trades back.new there self.old × (back.new ≡ turned back.old self.old) }
     {
-        let _ = back;
-        nothing();
-        unreachable!()
+        self.tables.exchange(&mut back.changes);
+        mem::swap(&mut self.level, &mut back.level);
     }
 
     /// The site's numbers, as it was opened.
@@ -109,70 +139,57 @@ impl Machine {
         ensures rows { result ≡ count_by is_free self.now.tables.frames }
         ensures shown { (scene : Scene) → Shows self.now scene → result ≡ free_count self.now.config.frames scene.site }
     {
-        nothing();
-        unreachable!()
+        self.tables.counts().free
     }
 
     /// How many frames are of each kind, and the level.
+    #[tactic(auto, unfolding(esx_model::specs::Readings::sum_of))]
     pub fn sum(&self) -> Sum
         ensures value { result ≡ sum_of (book_in self.now) }
         ensures adds_up { result.overhead + result.private + result.shared + result.free ≡ self.now.config.frames }
     {
-        nothing();
-        unreachable!()
+        let counts = self.tables.counts();
+        Sum {
+            overhead: counts.overhead,
+            private: counts.private,
+            shared: counts.shared,
+            free: counts.free,
+            level: self.level,
+        }
     }
 
-    /// A copy of every table.
+    /// A copy of every table, as it is read.
     pub fn book(&self) -> Result<Book, AllocError>
         ensures { IfOk result (λ book. book ≡ book_in self.now) }
     {
-        nothing();
-        unreachable!()
+        self.tables.book(self.alloc, self.level)
     }
 
-    /// A line for each virtual machine.
+    /// A line for each virtual machine, in order of number.
     pub fn table(&self) -> Result<Rows<TableRow>, AllocError>
         ensures { IfOk result (λ rows. rows ≡ table_of (book_in self.now)) }
     {
-        nothing();
-        unreachable!()
+        table_of(self.alloc, &self.tables)
     }
 
     /// Where a page is. `NoVm` where there is no such virtual machine, `OutOfRange` where it has no such page.
     pub fn of_page(&self, vm: VmId, page: u32) -> Result<PageState, Refusal>
         ensures { result ≡ page_state (book_in self.now) vm page }
     {
-        let _ = vm;
-        let _ = page;
-        nothing();
-        unreachable!()
+        page_state(&self.tables, vm, page)
     }
 
-    /// The averages and the open period of a virtual machine. `NoVm` where there is no such one.
+    /// A virtual machine's averages and open period. `NoVm` where there is no such virtual machine.
     pub fn of_vm(&self, vm: VmId) -> Result<Activity, Refusal>
         ensures { result ≡ activity (book_in self.now) vm }
     {
-        let _ = vm;
-        nothing();
-        unreachable!()
+        activity(&self.tables, vm)
     }
 
-    /// What lets a write to a page go on.
+    /// What lets a write to a page go on, or why its virtual machine can make none.
     pub fn advise(&self, vm: VmId, page: u32) -> Result<Help, Refusal>
         ensures { (scene : Scene) → Shows self.now scene → result ≡ advice self.now.config scene vm page }
     {
-        let _ = vm;
-        let _ = page;
-        nothing();
-        unreachable!()
-    }
-}
-
-impl Record {
-    /// How much it holds.
-    pub fn size(&self) -> RecordSize
-        ensures { result ≡ capped (size_of self.now.changes) }
-    {
-        self.changes.size()
+        advise(&self.tables, self.level, vm, page)
     }
 }

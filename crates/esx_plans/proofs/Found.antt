@@ -9,7 +9,7 @@ use Rattle.esx_model.specs.Show.{frame_row}
 use Rattle.esx_model.specs.Tables.{tables_of}
 use Rattle.esx_model.proofs.Callers.{free_row}
 
-found_from : {X : Type 0} (p : X → Bool) (q : ℕ → Bool) (h : ℕ → X) → ((f : ℕ) → p (h f) ≡ q f) → (a n : ℕ) → position_from p a (map h (range_with_len a n)) ≡ find q (range_with_len a n)
+pub found_from : {X : Type 0} (p : X → Bool) (q : ℕ → Bool) (h : ℕ → X) → ((f : ℕ) → p (h f) ≡ q f) → (a n : ℕ) → position_from p a (map h (range_with_len a n)) ≡ find q (range_with_len a n)
 found_from p q h same a zero = refl
 found_from p q h same a (suc n) =
     ap (λ (b : Bool). cond b (Some a) (position_from p (a + 1) (map h (range_with_len (a + 1) n)))) (same a)

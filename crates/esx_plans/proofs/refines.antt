@@ -1,3 +1,11 @@
+pub mod Balloon
 pub mod Rebalancing
 pub mod Leaving
 pub mod Starting
+pub mod Event
+pub mod Admission
+pub mod Sampling
+pub mod Access
+pub mod Replacing
+pub mod Sharing
+pub mod Paging

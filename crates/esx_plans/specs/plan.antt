@@ -1,4 +1,15 @@
 pub mod Planned
+pub mod Admission
+pub mod Leaves
+pub mod Balloon
 pub mod Leaving
+pub mod Ratios
 pub mod Rebalancing
 pub mod Starting
+pub mod Event
+pub mod Sampling
+pub mod Counted
+pub mod Access
+pub mod Replacing
+pub mod Sharing
+pub mod Paging

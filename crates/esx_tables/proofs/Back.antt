@@ -1,16 +1,15 @@
 -- Each change leads back, and so do changes in turn.
-use Rattle.std.proofs.Common.{◌≡◌, ℕ, Bool, true, false, not, List, Option, Some, None, option_map, length, refl, sym, ap, ◌∙◌, inl, inr, ◌<◌, ◌≤◌}
+use Rattle.std.proofs.Common.{◌≡◌, ℕ, Bool, true, false, not, List, Option, Some, None, option_map, length, refl, ap, ◌∙◌, inl, inr, ◌<◌, ◌≤◌}
 use Rattle.std.proofs.lemmas.Bool.{cases_lt, lt-ltb, le-ltb}
 use Rattle.std.proofs.Math.ListN.{set}
 use Rattle.std.proofs.lemmas.List.{length-set, set-set, set-get_or, get_or-set_same}
 use Rattle.esx_types.specs.declared.table.FrameRow.{FrameRow}
-use Rattle.esx_types.specs.declared.table.FrameRow.TheVariants.{Free}
 use Rattle.esx_types.specs.declared.table.SlotRow.{SlotRow}
 use Rattle.esx_types.specs.declared.table.SlotRow.TheVariants as slots
 use Rattle.esx_types.specs.declared.table.MapRow.{MapRow}
 use Rattle.esx_types.specs.declared.table.Listing.{Listing}
 use Rattle.esx_types.specs.Slots.{slot_at}
-use Rattle.esx_lists.specs.Trades.{LeadsBack, row_traded, place_traded}
+use Rattle.esx_lists.specs.Trades.{LeadsBack, row_traded}
 use Rattle.esx_lists.proofs.Trades.{row_back, place_back}
 use Rattle.esx_lists.proofs.Tops.{top_back, turned_back}
 use Rattle.esx_lists.proofs.Turns.{turn_back}
@@ -20,10 +19,8 @@ use Rattle.esx_frames.proofs.Callers.{bytes_back_at, mark_back_at, slot_back_at}
 use Rattle.esx_model.specs.declared.book.VmRow.{VmRow}
 use Rattle.esx_model.specs.declared.book.PeriodRow.{PeriodRow}
 use Rattle.esx_model.specs.declared.book.Mark.{Mark as SampleMark}
-use Rattle.esx_model.specs.declared.tables.Tables.{Tables}
 use Rattle.esx_tables.specs.declared.change.VmPart.{VmPart}
 use Rattle.esx_tables.specs.declared.change.VmPart.TheVariants.{PageAt, Facts, Target, Period, Done, Touched, Averages, OverheadTop}
-use Rattle.esx_tables.specs.declared.change.Change.{Change}
 use Rattle.esx_tables.specs.declared.change.Change.TheVariants.{FrameAt, MarkAt, BytesAt, ListingAt, SlotAt, FrameWithSlot, OfVm, VmAt, TaxIs}
 use Rattle.esx_tables.specs.Machines.{done_traded, mark_turned, no_mark, touched_turned, part_traded, vm_traded}
 use Rattle.esx_tables.specs.Changes.{slots_traded, traded, exchanged}

@@ -1,6 +1,5 @@
 -- Changes keep the sizes of tables, and where there is no such place they change nothing.
-use Rattle.std.proofs.Common.{◌≡◌, ℕ, zero, suc, ◌≤◌, List, [], ◌∷◌, ◌++◌, Option, None, length, refl, ap, ◌∙◌, get_or, inl, inr, ◌<◌, arith}
-use Rattle.std.proofs.Math.ListN.{set}
+use Rattle.std.proofs.Common.{◌≡◌, ℕ, ◌≤◌, List, [], ◌∷◌, Option, None, length, refl, ap, ◌∙◌, get_or, inl, inr}
 use Rattle.std.proofs.lemmas.Bool.{cases_lt, lt-ltb, le-ltb}
 use Rattle.std.proofs.lemmas.List.{length-set, set_past, get_or_past}
 use Rattle.esx_types.specs.declared.table.FrameRow.{FrameRow}
@@ -10,7 +9,7 @@ use Rattle.esx_types.specs.declared.table.Listing.{Listing}
 use Rattle.esx_types.specs.Slots.{slot_at}
 use Rattle.esx_lists.specs.Trades.{row_traded, place_traded, in_turn}
 use Rattle.esx_frames.specs.declared.marks.Mark.{Mark}
-use Rattle.esx_frames.specs.Marks.{bytes_traded, mark_traded, slot_traded, slot_traded_at}
+use Rattle.esx_frames.specs.Marks.{bytes_traded, mark_traded, slot_traded_at}
 use Rattle.esx_model.specs.declared.book.VmRow.{VmRow}
 use Rattle.esx_model.specs.declared.tables.Tables.{Tables}
 use Rattle.esx_tables.specs.declared.change.VmPart.{VmPart}

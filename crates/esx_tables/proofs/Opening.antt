@@ -1,5 +1,5 @@
 -- The tables of a site with no machines.
-use Rattle.std.proofs.Common.{◌≡◌, ℕ, zero, suc, ◌+◌, List, [], ◌∷◌, map, replicate, None, refl, sym, ap, ◌∙◌}
+use Rattle.std.proofs.Common.{◌≡◌, ℕ, zero, suc, ◌+◌, List, ◌∷◌, map, replicate, refl, sym, ap, ◌∙◌}
 use Rattle.std.specs.List.{range_with_len}
 use Rattle.esx_types.specs.declared.config.Config.{Config}
 use Rattle.esx_types.specs.declared.table.FrameRow.{FrameRow}
@@ -12,9 +12,9 @@ use Rattle.esx_types.specs.declared.table.MapRow.TheVariants as maps
 use Rattle.esx_lists.proofs.Counts.{map-replicate}
 use Rattle.esx_model.specs.declared.scene.Place.TheVariants.{Untouched}
 use Rattle.esx_model.specs.Site.{all_places, all_overhead}
-use Rattle.esx_model.specs.Show.{frame_row, frame_rows, slot_row, slot_rows}
+use Rattle.esx_model.specs.Show.{frame_row, slot_row}
 use Rattle.esx_model.specs.Replay.{opening}
-use Rattle.esx_model.specs.Tables.{tables_of, listing_row, listing_rows, vm_table, raw_place}
+use Rattle.esx_model.specs.Tables.{tables_of, listing_row, listing_rows, raw_place}
 use Rattle.esx_tables.specs.Readings.{empty_tables}
 
 -- a table with the same row at each place

@@ -1,12 +1,11 @@
 -- What making a change leaves of the tables, and the change that leads back. Each is its own inverse, and where there is no
 -- such place nothing changes.
-use Rattle.std.specs.Prelude.{ℕ, nat_lt, List, None, length, slice_index_or, slice_set, if◌then◌else◌}
+use Rattle.std.specs.Prelude.{ℕ, nat_lt, List, None, length, slice_set, if◌then◌else◌}
 use Rattle.esx_types.specs.declared.table.FrameRow.{FrameRow}
 use Rattle.esx_types.specs.declared.table.SlotRow.{SlotRow}
 use Rattle.esx_types.specs.Slots.{slot_at}
 use Rattle.esx_lists.specs.Trades.{in_turn, row_traded, place_traded}
 use Rattle.esx_frames.specs.Marks.{bytes_traded_at, mark_traded_at, slot_traded_at}
-use Rattle.esx_model.specs.declared.book.VmRow.{VmRow}
 use Rattle.esx_model.specs.declared.tables.Tables.{Tables}
 use Rattle.esx_tables.specs.declared.change.Change.{Change}
 use Rattle.esx_tables.specs.declared.change.Change.TheVariants.{FrameAt, MarkAt, BytesAt, ListingAt, SlotAt, FrameWithSlot, OfVm, VmAt, TaxIs}

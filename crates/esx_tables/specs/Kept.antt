@@ -1,5 +1,5 @@
 -- What changes keep of the tables, and where a change has no place.
-use Rattle.std.specs.Prelude.{◌≡◌, ℕ, ◌≤◌, length}
+use Rattle.std.specs.Prelude.{◌≡◌, ◌≤◌, length}
 use Rattle.esx_model.specs.declared.tables.Tables.{Tables}
 use Rattle.esx_tables.specs.declared.change.Change.{Change}
 use Rattle.esx_tables.specs.declared.change.Change.TheVariants.{FrameAt, MarkAt, BytesAt, ListingAt, SlotAt, FrameWithSlot, OfVm, VmAt, TaxIs}

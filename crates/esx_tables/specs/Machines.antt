@@ -1,5 +1,5 @@
 -- What a trade with a machine's row leaves of both.
-use Rattle.std.specs.Prelude.{ℕ, not, false, List, Option, Some, None, option_map, slice_index_or, slice_set}
+use Rattle.std.specs.Prelude.{ℕ, not, false, Option, Some, None, option_map, slice_index_or, slice_set}
 use Rattle.esx_model.specs.declared.book.VmRow.{VmRow}
 use Rattle.esx_model.specs.declared.book.PeriodRow.{PeriodRow}
 use Rattle.esx_model.specs.declared.book.Mark.{Mark}

@@ -38,19 +38,46 @@ pub enum VmPart {
 /// A change that is made takes what stood there in its place, so that, made again, it leads back.
 #[derive(Drop)]
 pub enum Change {
-    FrameAt { frame: u32, row: FrameRow },
+    FrameAt {
+        frame: u32,
+        row: FrameRow,
+    },
     /// Whose the page in a frame is.
-    MarkAt { frame: u32, mark: Mark },
+    MarkAt {
+        frame: u32,
+        mark: Mark,
+    },
     /// Bytes of a page that stays in its frame, from byte `offset` on.
-    BytesAt { frame: u32, offset: u32, bytes: Bytes },
+    BytesAt {
+        frame: u32,
+        offset: u32,
+        bytes: Bytes,
+    },
     /// What a frame stands under.
-    ListingAt { frame: u32, listing: Listing },
-    SlotAt { slot: u32, row: SlotRow },
+    ListingAt {
+        frame: u32,
+        listing: Listing,
+    },
+    SlotAt {
+        slot: u32,
+        row: SlotRow,
+    },
     /// The page of a private frame, or none, and that of a slot, or none, trade places.
-    FrameWithSlot { frame: u32, slot: u32 },
+    FrameWithSlot {
+        frame: u32,
+        slot: u32,
+    },
     /// A part of a machine's row.
-    OfVm { vm: VmId, part: VmPart },
+    OfVm {
+        vm: VmId,
+        part: VmPart,
+    },
     /// A machine with its page map, or none.
-    VmAt { vm: VmId, row: Option<VmTable> },
-    TaxIs { tau: u32 },
+    VmAt {
+        vm: VmId,
+        row: Option<VmTable>,
+    },
+    TaxIs {
+        tau: u32,
+    },
 }

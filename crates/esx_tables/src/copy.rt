@@ -83,10 +83,7 @@ fn copy_pages(alloc: Global, rows: &[MapRow], epoch: u32) -> Result<Rows<MapRow>
     Ok(Rows::from_vec(copy))
 }
 
-fn copy_period(
-    alloc: Global,
-    period: &Option<PeriodRow>,
-) -> Result<Option<PeriodRow>, AllocError>
+fn copy_period(alloc: Global, period: &Option<PeriodRow>) -> Result<Option<PeriodRow>, AllocError>
     ensures { IfOk result (λ copy. copy ≡ period.now) }
 {
     match period {

@@ -32,13 +32,13 @@ fn admits_with_ample_memory(rt: HostRuntime) -> Result<(), Fail> {
         balloon_max: 0,
     };
     let vm = VmTable::admitted(rt.alloc(), spec)?;
-    assert_eq!(rt; vm.standing().target, 6);
+    assert_eq!(rt; vm.spec().max, 6);
     Ok(())
 }
 
 #[test]
 fn a_record_of_one_change(rt: HostRuntime) -> Result<(), Fail> {
     let record = Record::of(vec![in rt.alloc(); Change::TaxIs { tau: 50 }]?);
-    assert_eq!(rt; record.size().rows, 1);
+    assert_eq!(rt; record.changes().len(), 1);
     Ok(())
 }

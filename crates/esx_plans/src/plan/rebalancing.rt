@@ -1,14 +1,126 @@
-//! The idle memory tax and the shares of a machine.
+//! New targets, the idle memory tax and the shares of a machine.
 
-ghost use Rattle.std.specs.Prelude.{◌≡◌};
+ghost use Rattle.std.specs.Prelude.{◌≡◌, ◌<◌, ◌+◌, ◌-◌, ◌^◌, IfOk, length, sum_by};
+ghost use Rattle.esx_types.specs.declared.config.TheConstants.{VM_NUMBERS};
+ghost use Rattle.esx_types.specs.Ranges.{IsConfig};
+ghost use Rattle.esx_formulas.specs.Level.{high_threshold, margin};
+ghost use Rattle.esx_formulas.specs.Targets.{spare};
 ghost use Rattle.esx_plans.specs.plan.Planned.{Plans};
-ghost use Rattle.esx_plans.specs.plan.Rebalancing.{tax_plan, shares_plan};
+ghost use Rattle.esx_plans.specs.plan.Ratios.{numbered, HaveRatios};
+ghost use Rattle.esx_plans.specs.plan.Rebalancing.{to_max, to_targets, share_out_plan, rebalance_plan, tax_plan, shares_plan};
 
 use crate::plan::Plan;
+use crate::plan::ratios::ratio_rows;
+use esx_average::{Row, targets};
 use esx_events::{Answer, Refusal};
-use esx_tables::{Change, Facts, Record, SiteTables, VmPart};
-use esx_types::VmId;
-use std::alloc::Global;
+use esx_formulas::level::{margin, threshold};
+use esx_tables::{Change, Facts, Record, SiteTables, VmPart, VmTable};
+use esx_types::{Config, Level, VmId};
+use std::alloc::{AllocError, Global};
+
+/// A machine gets all it asked for.
+fn to_max(vm: VmId, row: &VmTable) -> Change
+    ensures { result ≡ to_max vm row.now }
+{
+    let target = row.spec().max;
+    Change::OfVm {
+        vm,
+        part: VmPart::Target { target },
+    }
+}
+
+/// Each machine gets all it asked for.
+fn all_to_max(alloc: Global, vms: &[Option<VmTable>]) -> Result<Vec<Change>, AllocError>
+    requires { length vms.now ≡ VM_NUMBERS }
+    ensures { IfOk result (λ changes. changes.items ≡ numbered to_max 0 vms.now) }
+{
+    let mut changes = Vec::with_capacity(alloc, vms.len())?;
+    for (number, place) in vms.iter().enumerate() {
+        if let Some(row) = place {
+            let Some(vm) = VmId::new(number as u8) else {
+                unreachable!();
+            };
+            changes.push(to_max(vm, row))?;
+        }
+    }
+    Ok(changes)
+}
+
+/// The machines of rows get new targets, in order.
+fn to_targets(alloc: Global, rows: &[Row], targets: &[u32]) -> Result<Vec<Change>, AllocError>
+    ensures { IfOk result (λ changes. changes.items ≡ to_targets rows.now targets.now) }
+{
+    rows.iter()
+        .zip(targets)
+        .map(|(row, target)| Change::OfVm {
+            vm: row.vm,
+            part: VmPart::Target { target: *target },
+        })
+        .collect(alloc)
+}
+
+/// How many frames are wanted until nothing has to be reclaimed.
+fn wanted(config: &Config, free: u32) -> u32
+    requires { IsConfig config.now }
+    ensures { result ≡ high_threshold config.now + margin config.now - free }
+{
+    let enough = threshold(config.frames, config.high, 4) + margin(config);
+    enough.saturating_sub(free)
+}
+
+/// How many pages stand above the floors.
+fn spare(rows: &[Row]) -> u32
+    requires { sum_by spare rows.now < 2 ^ 32 }
+    ensures { result ≡ sum_by spare rows.now }
+{
+    rows.iter()
+        .map(|row| row.pages.saturating_sub(row.floor))
+        .sum()
+}
+
+/// As many pages as are wanted and stand above the least memory of each machine are revoked.
+fn share_out(tables: &SiteTables, alloc: Global, config: &Config) -> Result<Plan, Refusal>
+    requires config { IsConfig config.now }
+    requires ratios { HaveRatios tables.now }
+    ensures { Plans result (share_out_plan config.now tables.now) }
+{
+    let need = wanted(config, tables.counts().free);
+    let rows = ratio_rows(alloc, tables.vms())?;
+    let targets = targets(alloc, tables.tau(), rows.as_slice(), need)?;
+    let changes = to_targets(alloc, rows.as_slice(), targets.as_slice())?;
+    Ok(Plan {
+        answer: Answer::Rebalanced {
+            need,
+            revoked: need.min(spare(rows.as_slice())),
+        },
+        changes: Record::of(changes),
+    })
+}
+
+/// Each machine gets a new target. Where frames are not scarce that is all it asked for; else pages are
+/// revoked from the machines of least ratio. What it takes grows with the machines and not with the pages.
+#[tactic(auto, unfolding(crate::specs::plan::Rebalancing::rebalance_plan))]
+pub fn plan_rebalance(
+    tables: &SiteTables,
+    alloc: Global,
+    config: &Config,
+    level: Level,
+) -> Result<Plan, Refusal>
+    requires config { IsConfig config.now }
+    requires ratios { HaveRatios tables.now }
+    ensures { Plans result (rebalance_plan config.now tables.now level) }
+{
+    match level {
+        Level::High => Ok(Plan {
+            answer: Answer::Rebalanced {
+                need: 0,
+                revoked: 0,
+            },
+            changes: Record::of(all_to_max(alloc, tables.vms())?),
+        }),
+        Level::Soft | Level::Hard | Level::Low => share_out(tables, alloc, config),
+    }
+}
 
 /// The tax is set.
 #[tactic(auto, unfolding(crate::specs::plan::Rebalancing::tax_plan))]

@@ -1,0 +1,5 @@
+mod Keeps
+mod Outcomes
+mod Logs
+mod Reaching
+mod Lines

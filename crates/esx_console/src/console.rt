@@ -1,0 +1,140 @@
+//! One site under one thread, with the log of all that was asked of it.
+
+ghost use Rattle.std.specs.Prelude.{◌≡◌, ◌≢◌, ◌+◌, ◌<◌, ◌≤◌, ◌^◌, if◌then◌else◌, [], length, Ok, IfOk, IfErr, OnErr};
+ghost use Rattle.esx_types.specs.Ranges.{IsConfig};
+ghost use Rattle.esx_model.specs.Replay.{replay_of};
+ghost use Rattle.esx_model.specs.History.{here, book_at};
+ghost use Rattle.esx_model.specs.Console.{history, next_reply, lined, IsLegal};
+ghost use Rattle.esx_machine.specs.Machine.{book_in};
+ghost use Rattle.esx_console.specs.Console.{session_gauge};
+
+use crate::hearing::hear;
+use esx_events::{Call, Line, Refusal, Reply};
+use esx_journal::Journal;
+use esx_machine::Machine;
+use esx_model::Book;
+use esx_types::{Config, Level};
+use std::alloc::{AllocError, Global};
+use std::marker::Model;
+
+/// A console, seen as the site that it was opened with and the lines of its log.
+///
+/// Every answered call is a line, questions and refused calls too, and the log tells everything else:
+/// the tables, the tree of events and the count of jumps are those that its calls lead to.
+#[derive(Drop)]
+pub struct Console {
+    site: Config,
+    journal: Journal,
+    log: Vec<Line>,
+    jumps: u64,
+}
+
+impl Model for Console {
+    ghost use Rattle.esx_model.specs.Console.{Session};
+    ghost use Rattle.esx_console.specs.Console.{IsConsole};
+
+    ghost Value = { Session };
+
+    ghost view = { λ c. record { site = c.site; log = c.log.items } };
+
+    ghost invariant = { λ c. IsConsole (record { site = c.site; log = c.log.items }) c.journal c.jumps };
+}
+
+impl Console {
+    /// Opens a site, with no virtual machine and an empty log.
+    pub fn open(alloc: Global, config: Config) -> Result<Console, Refusal>
+        ensures opens { IfOk result (λ c. (c ≡ record { site = config; log = [] }) × IsConfig config) }
+        ensures refused { IfErr result (λ e. e ≢ Refusal.OutOfMemory → (e ≡ Refusal.BadSpec) × (IsConfig config → ⊥)) }
+        ensures late { IfErr result (λ e. e ≡ Refusal.OutOfMemory → IsConfig config) }
+    {
+        let journal = Journal::open(alloc, config)?;
+        Ok(Console {
+            site: config,
+            journal,
+            log: Vec::new(alloc),
+            jumps: 0,
+        })
+    }
+
+    /// Makes a call and logs it with its reply. Where memory runs out nothing changes, and there is no line.
+    pub fn call(&mut self, caller: u16, call: Call) -> Result<Reply, AllocError>
+        ensures ok { IfOk result (λ reply. (reply ≡ next_reply self.old call) × (self.new ≡ lined self.old caller call)) }
+        ensures err { OnErr result (self.new ≡ self.old) }
+        ensures legal { IsLegal self.new }
+    {
+        self.log.reserve(1)?;
+        let alloc = *self.log.allocator();
+        let heard = hear(&mut self.journal, alloc, &call)?;
+        let jumps = counted(self.jumps, heard.jumped);
+        self.jumps = jumps;
+        self.log.push_reserved(Line {
+            caller,
+            call,
+            reply: Reply {
+                jumps,
+                said: heard.copy,
+            },
+        });
+        Ok(Reply {
+            jumps,
+            said: heard.said,
+        })
+    }
+
+    /// The lines so far, the oldest first.
+    pub fn log(&self) -> &[Line]
+        ensures lines { result.now ≡ self.now.log }
+        ensures legal { IsLegal self.now }
+    {
+        self.log.as_slice()
+    }
+
+    /// How many moves of the cursor were accepted so far.
+    pub fn jumps(&self) -> u64
+        ensures value { result ≡ (history self.now).jumps }
+        ensures few { result ≤ length self.now.log }
+    {
+        self.jumps
+    }
+
+    /// The machine, for questions: its tables are those of replaying the cursor's path.
+    #[tactic(auto, using(crate::proofs::Keeps::history_site))]
+    pub fn machine(&self) -> &Machine
+        ensures config { result.now.config ≡ self.now.site }
+        ensures tables { book_in result.now ≡ book_at (history self.now) }
+        ensures replay { replay_of self.now.site (here (history self.now)) ≡ Ok (book_in result.now) }
+    {
+        self.journal.machine()
+    }
+
+    /// How scarce frames are: how many are free, and the level.
+    pub fn gauge(&self) -> (u32, Level)
+        ensures { result ≡ session_gauge self.now }
+    {
+        let machine = self.machine();
+        (machine.free(), machine.level())
+    }
+
+    /// A copy of every table.
+    pub fn book(&self) -> Result<Book, AllocError>
+        ensures tables { IfOk result (λ book. book ≡ book_at (history self.now)) }
+        ensures replay { IfOk result (λ book. replay_of self.now.site (here (history self.now)) ≡ Ok book) }
+    {
+        self.machine().book()
+    }
+
+    /// The site as it was opened.
+    pub fn site(&self) -> Config
+        ensures { result ≡ self.now.site }
+    {
+        self.site
+    }
+}
+
+/// The count of jumps after one more call.
+fn counted(jumps: u64, jumped: bool) -> u64
+    requires { jumps < 2 ^ 63 }
+    ensures { result ≡ jumps + (if jumped then 1 else 0) }
+{
+    if jumped { jumps + 1 } else { jumps }
+}

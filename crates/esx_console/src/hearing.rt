@@ -1,0 +1,77 @@
+//! What a journal answers to a call. What is asked by one kind of call stands in a file of its own.
+
+ghost use Rattle.std.specs.Prelude.{◌≡◌, IfOk, OnErr, false};
+ghost use Rattle.esx_model.specs.History.{History};
+ghost use Rattle.esx_events.specs.declared.call.Said.TheVariants as said;
+ghost use Rattle.esx_journal.specs.Journal.{Holds};
+ghost use Rattle.esx_console.specs.Hearing.{Hears, twice};
+
+mod events;
+mod marks;
+mod moves;
+mod questions;
+mod trials;
+
+use crate::hearing::events::hear_event;
+use crate::hearing::marks::{hear_mark, hear_marks, hear_prune};
+use crate::hearing::moves::{hear_goto, hear_redo, hear_undo, hear_visit};
+use crate::hearing::questions::{
+    hear_advise, hear_page, hear_stand, hear_sum, hear_table, hear_vm,
+};
+use crate::hearing::trials::hear_what_if;
+use esx_events::{Call, Refusal, Said};
+use esx_journal::Journal;
+use std::alloc::{AllocError, Global};
+
+/// What is said to a call, once for the caller and once for the log, and whether the cursor jumped.
+#[derive(Drop)]
+pub struct Heard {
+    pub said: Said,
+    pub copy: Said,
+    pub jumped: bool,
+}
+
+fn refused(refusal: Refusal) -> Heard
+    ensures { result ≡ twice (said.Refused refusal) false }
+{
+    Heard {
+        said: Said::Refused { refusal },
+        copy: Said::Refused { refusal },
+        jumped: false,
+    }
+}
+
+/// What is said to a question.
+fn told(said: Said) -> Result<Heard, AllocError>
+    ensures { IfOk result (λ heard. heard ≡ twice said false) }
+{
+    Ok(Heard {
+        copy: said.copy()?,
+        said,
+        jumped: false,
+    })
+}
+
+/// Makes a call. Where memory runs out the journal is as it was.
+pub fn hear(journal: &mut Journal, alloc: Global, call: &Call) -> Result<Heard, AllocError>
+    ensures ok { IfOk result (λ heard. (h : History) → Holds journal.old h → Hears journal.new h call.now heard) }
+    ensures err { (h : History) → Holds journal.old h → OnErr result (journal.new ≡ journal.old) }
+{
+    match call {
+        Call::Do { event } => hear_event(journal, event),
+        Call::Undo { count } => Ok(hear_undo(journal, *count)),
+        Call::Redo { count } => Ok(hear_redo(journal, *count)),
+        Call::Goto { node } => Ok(hear_goto(journal, *node)),
+        Call::Visit { name } => Ok(hear_visit(journal, name)),
+        Call::Mark { name } => hear_mark(journal, name),
+        Call::Prune { node } => Ok(hear_prune(journal, *node)),
+        Call::WhatIf { events } => hear_what_if(journal, alloc, events),
+        Call::Sum => hear_sum(journal),
+        Call::Table => hear_table(journal, alloc),
+        Call::OfVm { vm } => hear_vm(journal, *vm),
+        Call::OfPage { vm, page } => hear_page(journal, *vm, *page),
+        Call::Advise { vm, page } => hear_advise(journal, *vm, *page),
+        Call::Stand => hear_stand(journal),
+        Call::Marks => hear_marks(journal, alloc),
+    }
+}

@@ -1,0 +1,100 @@
+-- Advice by the raw tables is the advice of the scene that they show.
+use Rattle.std.proofs.Common.{zero, suc, ◌≡◌, ℕ, ◌+◌, Bool, true, false, ◌&&◌, ◌||◌, not, nat_lt, List, [], ◌∷◌, map, count_by, length, refl, sym, ap, ◌∙◌, subst, cond, Option, Some, None, Ok, Err, ◌==◌, Result}
+use Rattle.std.specs.Option.{option_map, is_some}
+use Rattle.std.specs.List.{list_any}
+use Rattle.esx_types.specs.declared.config.Config.{Config}
+use Rattle.esx_types.specs.declared.level.Level.{Level}
+use Rattle.esx_types.specs.declared.table.FrameRow.{FrameRow}
+use Rattle.esx_types.specs.declared.table.MapRow.{MapRow}
+use Rattle.esx_types.specs.Frames.{frame_at, ref_count, least_frame}
+use Rattle.esx_types.specs.Pages.{page_at}
+use Rattle.esx_events.specs.declared.call.Help.{Help}
+use Rattle.esx_events.specs.declared.call.Help.TheVariants as helps
+use Rattle.esx_events.specs.declared.event.Refusal.{Refusal}
+use Rattle.esx_formulas.specs.declared.activity.Estimate.{Estimate}
+use Rattle.esx_formulas.specs.declared.activity.Period.{Period}
+use Rattle.esx_formulas.specs.declared.targets.Row.{Row}
+use Rattle.esx_formulas.specs.Average.{slow_average, fast_average, is_touched, so_far, active_share}
+use Rattle.esx_formulas.specs.Targets.{first_claim}
+use Rattle.esx_model.specs.declared.book.Mark.{Mark}
+use Rattle.esx_model.specs.declared.book.VmRow.{VmRow}
+use Rattle.esx_model.specs.declared.look.Standing.{Standing}
+use Rattle.esx_model.specs.declared.scene.Place.{Place}
+use Rattle.esx_model.specs.declared.scene.Place.TheVariants.{Untouched, Here, Out, Lent}
+use Rattle.esx_model.specs.declared.scene.Vm.{Vm}
+use Rattle.esx_model.specs.declared.scene.Site.{Site}
+use Rattle.esx_model.specs.declared.scene.Scene.{Scene}
+use Rattle.esx_model.specs.declared.tables.Tables.{Tables}
+use Rattle.esx_model.specs.Site.{vm_at, place_at, least_free, pages_at}
+use Rattle.esx_model.specs.Show.{period_row}
+use Rattle.esx_model.specs.Tables.{raw_place, vm_table, standing_of, tables_of}
+use Rattle.esx_model.specs.Readings.{period_so_far, active_now}
+use Rattle.esx_model.specs.Advice.{can_write, help_by, target_of, help_for, help_at, advice}
+use Rattle.esx_model.specs.event.Outcome.{unless, standing, page_gate}
+use Rattle.esx_model.specs.event.Access.{is_blocked, write_frame}
+use Rattle.esx_model.specs.event.Paging.{has_more, is_above_min}
+use Rattle.esx_model.specs.event.Rebalancing.{active, row_of_vm, rows_from, rows_of}
+use Rattle.esx_model.specs.sound.Sound.{IsSound}
+use Rattle.esx_model.proofs.Callers.{counts_same}
+use Rattle.std.proofs.lemmas.List.{length-map}
+use Rattle.esx_tables.specs.Readings.{row_at}
+use Rattle.esx_plans.proofs.Refining.{row_there, page_row, standing_shown}
+use Rattle.esx_plans.proofs.Found.{frame_found}
+use Rattle.esx_plans.proofs.Ratios.{rows_shown}
+use Rattle.esx_machine.specs.Machine.{Kept, Shows}
+use Rattle.esx_machine.specs.Questions.{written_frame, can_go, is_above, target_rows, help_from, advice_from}
+use Rattle.esx_machine.proofs.Framed.{IsAt, private_at, shared_at}
+
+-- The frame of a write.
+
+frame_same : (c : Config) (s : Site) (n page : ℕ) (v : Vm) (p : Place) → IsSound c s → vm_at s n ≡ Some v → place_at v page ≡ p
+    → written_frame (tables_of c s) (raw_place p) ≡ write_frame c s p
+frame_same c s n page v Untouched sound there was = frame_found c s
+frame_same c s n page v (Out bytes slot) sound there was = frame_found c s
+frame_same c s n page v (Lent e) sound there was = frame_found c s
+frame_same c s n page v (Here bytes f false) sound there was =
+    let at : IsAt c s n page v bytes f false = record { sound = sound; there = there; was = was } in
+    ap (λ (r : FrameRow). cond (nat_lt 1 (ref_count r)) (least_frame (tables_of c s).frames) (Some f)) (private_at c s n page v bytes f at)
+frame_same c s n page v (Here bytes f true) sound there was =
+    let at : IsAt c s n page v bytes f true = record { sound = sound; there = there; was = was } in
+    ap (λ (r : FrameRow). cond (nat_lt 1 (ref_count r)) (least_frame (tables_of c s).frames) (Some f)) (shared_at c s n page v bytes f at)
+    ∙ ap (λ (o : Option ℕ). cond (nat_lt 1 (pages_at f s)) o (Some f)) (frame_found c s)
+
+go_same : (c : Config) (t : Scene) (n page : ℕ) (v : Vm) → IsSound c t.site → vm_at t.site n ≡ Some v → can_go (tables_of c t.site) t.level (vm_table v) page ≡ can_write c t v page
+go_same c t n page v sound there =
+    let s : Site = t.site in
+    ap (λ (m : Standing). not (is_blocked t.level m) && is_some (written_frame (tables_of c s) (page_at (vm_table v).pages page))) (standing_shown v)
+    ∙ ap (λ (o : Option ℕ). not (is_blocked t.level (standing v)) && is_some o) (ap (written_frame (tables_of c s)) (page_row v page) ∙ frame_same c s n page v (place_at v page) sound there refl)
+
+-- Machines that have more than their least.
+
+above_same : (o : Option Vm) → is_above (option_map vm_table o) ≡ is_above_min o
+above_same None = refl
+above_same (Some v) = ap has_more (standing_shown v)
+
+any_above_same : (vms : List (Option Vm)) → list_any is_above (map (option_map vm_table) vms) ≡ list_any is_above_min vms
+any_above_same [] = refl
+any_above_same (o ∷ os) = ap (λ (b : Bool). b || list_any is_above (map (option_map vm_table) os)) (above_same o) ∙ ap (λ (b : Bool). is_above_min o || b) (any_above_same os)
+
+-- Advice.
+
+help_same : (c : Config) (t : Scene) (n page : ℕ) (v : Vm) → IsSound c t.site → vm_at t.site n ≡ Some v → help_from (tables_of c t.site) t.level (vm_table v) page ≡ help_for c t v page
+help_same c t n page v sound there =
+    let tables : Tables = tables_of c t.site in
+    ap (λ (b : Bool). cond b helps.Go (help_by (list_any is_above tables.vms) (first_claim tables.tau (target_rows 0 tables.vms)))) (go_same c t n page v sound there)
+    ∙ ap (λ (b : Bool). cond (can_write c t v page) helps.Go (help_by b (first_claim tables.tau (target_rows 0 tables.vms)))) (any_above_same t.site.vms)
+    ∙ ap (λ (rows : List Row). cond (can_write c t v page) helps.Go (help_by (list_any is_above_min t.site.vms) (first_claim t.site.tau rows))) (rows_shown (λ (w : VmRow). w.target) target_of (λ v. refl) c t.site)
+
+advice_same : (c : Config) (t : Scene) (n page : ℕ) (o : Option Vm) → IsSound c t.site → vm_at t.site n ≡ o → advice_from (tables_of c t.site) t.level page (option_map vm_table o) ≡ help_at c t o page
+advice_same c t n page None sound there = refl
+advice_same c t n page (Some v) sound there =
+    ap (λ (m : Standing). let d : Result Help Refusal = unless (page_gate m page) (Ok (help_from (tables_of c t.site) t.level (vm_table v) page)) in d) (standing_shown v)
+    ∙ ap (λ (x : Help). let d : Result Help Refusal = unless (page_gate (standing v) page) (Ok x) in d) (help_same c t n page v sound there)
+
+pub advice_shown : (k : Kept) (t : Scene) (n page : ℕ) → Shows k t → advice_from k.tables k.level page (row_at k.tables n) ≡ advice k.config t n page
+unfolding advice
+advice_shown k t n page shows =
+    ap (λ (x : Tables). advice_from x k.level page (row_at x n)) shows.tables
+    ∙ ap (λ (l : Level). advice_from (tables_of k.config t.site) l page (row_at (tables_of k.config t.site) n)) shows.level
+    ∙ ap (advice_from (tables_of k.config t.site) t.level page) (row_there k.config t.site n)
+    ∙ advice_same k.config t n page (vm_at t.site n) shows.sound refl

@@ -1,0 +1,54 @@
+-- Rows read in turn.
+use Rattle.std.proofs.Common.{zero, suc, ◌≡◌, ℕ, ◌+◌, ◌<◌, List, [], ◌∷◌, ◌++◌, length, get_or, drop, refl, sym, ap, ◌∙◌, append_assoc, arith, Option, Some, None}
+use Rattle.std.specs.List.{fold, slice_get}
+use Rattle.std.proofs.Math.Seq.{drop-cons}
+use Rattle.std.proofs.lemmas.Grind.{common_steps}
+use Rattle.std.proofs.lemmas.List.{get_or_read}
+use Rattle.esx_types.specs.declared.table.FrameRow.{FrameRow}
+use Rattle.esx_types.specs.declared.table.FrameRow.TheVariants.{Free}
+use Rattle.esx_types.specs.Frames.{frame_at}
+use Rattle.esx_events.specs.declared.call.TableRow.{TableRow}
+use Rattle.esx_formulas.specs.Ratio.{Claim}
+use Rattle.esx_formulas.specs.Targets.{first_claim}
+use Rattle.esx_model.specs.declared.book.VmRow.{VmRow}
+use Rattle.esx_model.specs.Readings.{table_from}
+use Rattle.esx_machine.specs.Questions.{target_rows, claim_step, vm_step, line_of}
+
+-- past the last frame none is taken
+pub no_frame : (rows : List FrameRow) (f : ℕ) → slice_get rows f ≡ None → frame_at rows f ≡ Free
+no_frame [] f h = refl
+no_frame (r ∷ rs) zero h = cc
+no_frame (r ∷ rs) (suc f) h = no_frame rs f h
+
+-- an item that was read is there
+pub item_there : (xs : List (Option VmRow)) (i : ℕ) (x : Option VmRow) → i < length xs → x ≡ get_or xs i x → get_or xs i None ≡ x
+item_there xs i x below is = sym (get_or_read xs i x below is None)
+
+rest_is : (xs : List (Option VmRow)) (i : ℕ) (x : Option VmRow) → i < length xs → x ≡ get_or xs i x → drop i xs ≡ x ∷ drop (i + 1) xs
+rest_is xs i x below is = grind (arith, common_steps)
+
+-- the claim that comes first, with one more place of a machine
+one_step : (tau i : ℕ) (best : Option Claim) (x : Option VmRow) (rest : List (Option VmRow))
+    → fold (claim_step tau) (vm_step tau i best x) (target_rows (i + 1) rest) ≡ fold (claim_step tau) best (target_rows i (x ∷ rest))
+one_step tau i best None rest = refl
+one_step tau i best (Some v) rest = refl
+
+pub claim_more : (tau i : ℕ) (best : Option Claim) (xs : List (Option VmRow)) (x : Option VmRow) → i < length xs → x ≡ get_or xs i x
+    → fold (claim_step tau) (vm_step tau i best x) (target_rows (i + 1) (drop (i + 1) xs)) ≡ fold (claim_step tau) best (target_rows i (drop i xs))
+claim_more tau i best xs x below is =
+    one_step tau i best x (drop (i + 1) xs) ∙ ap (λ (ys : List (Option VmRow)). fold (claim_step tau) best (target_rows i ys)) (sym (rest_is xs i x below is))
+
+pub claim_first : (tau : ℕ) (xs : List (Option VmRow)) → fold (claim_step tau) None (target_rows 0 xs) ≡ first_claim tau (target_rows 0 xs)
+unfolding first_claim
+claim_first tau xs = refl
+
+-- the lines of machines, with one more place
+one_line : (i : ℕ) (x : Option VmRow) (rest : List (Option VmRow)) → line_of i x ++ table_from (i + 1) rest ≡ table_from i (x ∷ rest)
+one_line i None rest = refl
+one_line i (Some v) rest = refl
+
+pub lines_more : (rows : List TableRow) (i : ℕ) (xs : List (Option VmRow)) (x : Option VmRow) → i < length xs → x ≡ get_or xs i x
+    → (rows ++ line_of i x) ++ table_from (i + 1) (drop (i + 1) xs) ≡ rows ++ table_from i (drop i xs)
+lines_more rows i xs x below is =
+    append_assoc rows (line_of i x) (table_from (i + 1) (drop (i + 1) xs))
+    ∙ ap (λ (ls : List TableRow). rows ++ ls) (one_line i x (drop (i + 1) xs) ∙ ap (table_from i) (sym (rest_is xs i x below is)))

@@ -1,0 +1,56 @@
+-- What the tables of every sound site have on which questions rest.
+use Rattle.std.proofs.Common.{zero, suc, ◌≡◌, ℕ, ◌≤◌, Bool, List, [], ◌∷◌, length, map, refl, sym, ap, ◌∙◌, subst, arith, Option, Some, None}
+use Rattle.std.specs.Option.{option_map}
+use Rattle.std.proofs.lemmas.List.{length-map}
+use Rattle.std.proofs.lemmas.List.Sums.{count_by-le-length}
+use Rattle.esx_types.specs.declared.config.Config.{Config}
+use Rattle.esx_formulas.specs.declared.activity.Period.{Period}
+use Rattle.esx_formulas.specs.Average.{is_touched}
+use Rattle.esx_formulas.specs.Estimates.{IsEstimate}
+use Rattle.esx_model.specs.declared.book.Mark.{Mark}
+use Rattle.esx_model.specs.declared.book.VmRow.{VmRow}
+use Rattle.esx_model.specs.declared.scene.Vm.{Vm}
+use Rattle.esx_model.specs.declared.scene.Site.{Site}
+use Rattle.esx_model.specs.declared.tables.Tables.{Tables}
+use Rattle.esx_model.specs.Site.{vm_at}
+use Rattle.esx_model.specs.Show.{period_row}
+use Rattle.esx_model.specs.Tables.{vm_table, tables_of}
+use Rattle.esx_model.specs.sound.Machines.{IsVm, IsPeriodOrNone}
+use Rattle.esx_model.specs.sound.Sound.{IsSound}
+use Rattle.esx_tables.specs.Readings.{row_at}
+use Rattle.esx_plans.proofs.Refining.{row_there}
+use Rattle.esx_machine.specs.Machine.{Kept, IsKept}
+use Rattle.esx_machine.specs.Questions.{CanTell, IsReadable, AreReadable}
+
+can_tell : (most : ℕ) (o : Option Period) → IsPeriodOrNone most o → CanTell (option_map period_row o)
+can_tell most None h = tt
+can_tell most (Some p) h =
+    let mark : ℕ → Mark = λ page. record { page = page; touched = is_touched p page } in
+    let same = length-map p.pages mark in
+    let touched = count_by-le-length (λ (m : Mark). m.touched) (map mark p.pages) in
+    record { touched = touched; least_pages = omega (arith, same, h.least_pages); most_pages = omega (arith, same, h.most_pages) }
+
+row_readable : (c : Config) (v : Vm) → IsVm c v → IsReadable (vm_table v)
+row_readable c v fine = record {
+  least_shares = fine.good.least_shares;
+  most_shares = fine.good.most_shares;
+  most_target = (let low = fine.most_target in let max = fine.good.most_max in omega arith);
+  period = can_tell v.spec.max v.period fine.period;
+}
+
+-- the machine of a row
+some_row : (o : Option Vm) (row : VmRow) → option_map vm_table o ≡ Some row → (v : Vm) × (o ≡ Some v) × (row ≡ vm_table v)
+some_row None row h = cc
+some_row (Some v) row h = (v, refl, cc)
+
+sound_readable : (c : Config) (s : Site) → IsSound c s → AreReadable (tables_of c s)
+sound_readable c s sound = record {
+  vms = length-map s.vms (option_map vm_table) ∙ sound.vms;
+  each = λ n row there.
+    let found = some_row (vm_at s n) row (sym (row_there c s n) ∙ there) in
+    subst IsReadable (sym found.2) (row_readable c found.0 (sound.each n found.0 found.1));
+  tau = sound.tau;
+}
+
+pub kept_readable : (k : Kept) → IsKept k → AreReadable k.tables
+kept_readable k kept = subst AreReadable (sym kept.shows) (sound_readable k.config kept.site kept.sound)

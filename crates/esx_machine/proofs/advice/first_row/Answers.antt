@@ -1,0 +1,12 @@
+use Rattle.std.proofs.Common.{◌≡◌, List, get_or, sym, ap, ◌∙◌, arith, Option, None}
+use Rattle.esx_model.specs.declared.book.VmRow.{VmRow}
+use Rattle.esx_machine.proofs.Loops.{claim_first, item_there}
+use Rattle.esx_machine.proofs.advice.first_row.Goals as goal
+
+pub loop-number-init : goal.loop-number-init
+loop-number-init c = (claim_first c.tau-tau.result c.args.tables.now.vms, λ x h. cc)
+
+pub sooner_of-best-requires-clause-vm : goal.sooner_of-best-requires-clause-vm
+sooner_of-best-requires-clause-vm c =
+    let there = item_there c.vms-vm-items.result.now c.loop-number.number c.vm-item.result (omega arith) c.vm-item.is in
+    λ v h. c.requires.each c.loop-number.number v (ap (λ (xs : List (Option VmRow)). get_or xs c.loop-number.number None) (sym c.vms-vm-items.ensures) ∙ there ∙ h)

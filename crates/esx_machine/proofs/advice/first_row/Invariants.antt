@@ -1,0 +1,11 @@
+use Rattle.std.proofs.Common.{◌≡◌, drop}
+use Rattle.std.specs.List.{fold}
+use Rattle.std.specs.Option.{ForSome}
+use Rattle.esx_formulas.specs.Ratio.{IsRow}
+use Rattle.esx_formulas.specs.Targets.{first_claim}
+use Rattle.esx_machine.specs.Questions.{target_rows, claim_of, claim_step}
+use Rattle.esx_machine.proofs.advice.first_row.Given as goal
+
+abbrev pub invariant-loop-number : goal.invariant-loop-number
+invariant-loop-number l =
+    (fold (claim_step l.tau) (claim_of l.tau l.best) (target_rows l.number (drop l.number l.tables.vms)) ≡ first_claim l.tau (target_rows 0 l.tables.vms)) × ForSome l.best IsRow

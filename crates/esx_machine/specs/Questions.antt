@@ -1,0 +1,115 @@
+-- What questions read of the raw tables, and what the tables of every sound site have on which they rest. No public clause cites this module.
+use Rattle.std.specs.Prelude.{◌≡◌, ℕ, ◌+◌, ◌≤◌, ◌==◌, Bool, true, false, ◌&&◌, not, is_some, nat_lt, nat_le, List, [], ◌∷◌, length, Option, Some, None, if◌then◌else◌, Result, Ok, Err}
+use Rattle.std.specs.List.{list_any}
+use Rattle.esx_types.specs.declared.config.TheConstants.{VM_NUMBERS}
+use Rattle.esx_types.specs.declared.level.Level.{Level}
+use Rattle.esx_types.specs.declared.table.Listing.{Listing}
+use Rattle.esx_types.specs.declared.table.Listing.TheVariants.{Unlisted, Shared, Hinted}
+use Rattle.esx_types.specs.declared.table.MapRow.{MapRow}
+use Rattle.esx_types.specs.declared.table.MapRow.TheVariants as maps
+use Rattle.esx_types.specs.Frames.{frame_at, ref_count, least_frame}
+use Rattle.esx_types.specs.Listings.{listing_at}
+use Rattle.esx_types.specs.Pages.{page_at, resident_count}
+use Rattle.esx_events.specs.declared.call.Help.{Help}
+use Rattle.esx_events.specs.declared.call.Help.TheVariants as helps
+use Rattle.esx_events.specs.declared.call.PageState.{PageState}
+use Rattle.esx_events.specs.declared.call.PageState.TheVariants as states
+use Rattle.esx_events.specs.declared.call.TableRow.{TableRow}
+use Rattle.esx_events.specs.declared.event.Refusal.{Refusal}
+use Rattle.esx_events.specs.declared.event.Refusal.TheVariants.{NoVm, OutOfRange}
+use Rattle.esx_formulas.specs.declared.targets.Row.{Row}
+use Rattle.esx_formulas.specs.Estimates.{IsEstimate}
+use Rattle.esx_formulas.specs.Ratio.{Claim, claim}
+use Rattle.esx_formulas.specs.Targets.{sooner, first_claim}
+use Rattle.esx_model.specs.declared.book.PeriodRow.{PeriodRow}
+use Rattle.esx_model.specs.declared.book.VmRow.{VmRow}
+use Rattle.esx_model.specs.declared.tables.Tables.{Tables}
+use Rattle.esx_model.specs.Tables.{standing_of}
+use Rattle.esx_model.specs.Readings.{active_now, period_so_far, state_in, table_row}
+use Rattle.esx_model.specs.Advice.{help_by}
+use Rattle.esx_model.specs.event.Access.{is_blocked}
+use Rattle.esx_model.specs.event.Outcome.{unless, page_gate}
+use Rattle.esx_model.specs.event.Paging.{has_more}
+use Rattle.esx_tables.specs.Readings.{row_at}
+use Rattle.esx_plans.specs.plan.Ratios.{numbered, ratio_row}
+
+-- an open period has some sampled pages, at most a hundred
+abbrev pub CanTell : Option PeriodRow → Type 0
+CanTell None = Unit {0}
+CanTell (Some p) = IsEstimate (period_so_far p)
+
+-- a machine's numbers are in their ranges
+pub record IsReadable (v : VmRow) : Type 0 where
+  pub least_shares : 1 ≤ v.spec.shares
+  pub most_shares : v.spec.shares ≤ 1048576
+  pub most_target : v.target ≤ 65536
+  pub period : CanTell v.period
+
+pub record AreReadable (t : Tables) : Type 0 where
+  pub vms : length t.vms ≡ VM_NUMBERS
+  pub each : (n : ℕ) (v : VmRow) → row_at t n ≡ Some v → IsReadable v
+  pub tau : t.tau ≤ 99
+
+-- Where a page is.
+
+abbrev pub is_hinted : Listing → Bool
+is_hinted Unlisted = false
+is_hinted (Shared key) = false
+is_hinted (Hinted vm page key) = true
+
+abbrev pub state_of : Tables → ℕ → MapRow → PageState
+state_of t epoch maps.Untouched = states.Untouched
+state_of t epoch (maps.Here f) = state_in (is_hinted (listing_at t.listings f)) f (frame_at t.frames f)
+state_of t epoch (maps.Out slot) = states.Out slot
+state_of t epoch (maps.Lent e) = if e == epoch then states.Lent else states.Untouched
+
+abbrev pub page_from : Tables → ℕ → Option VmRow → Result PageState Refusal
+page_from t page None = Err NoVm
+page_from t page (Some v) = if nat_le v.spec.max page then Err OutOfRange else Ok (state_of t v.epoch (page_at v.pages page))
+
+-- What lets a write go on.
+
+-- the frame that a page is in after a write: a frame that others use is not written
+abbrev pub written_frame : Tables → MapRow → Option ℕ
+written_frame t maps.Untouched = least_frame t.frames
+written_frame t (maps.Here f) = if nat_lt 1 (ref_count (frame_at t.frames f)) then least_frame t.frames else Some f
+written_frame t (maps.Out slot) = least_frame t.frames
+written_frame t (maps.Lent e) = least_frame t.frames
+
+abbrev pub can_go : Tables → Level → VmRow → ℕ → Bool
+can_go t level v page = not (is_blocked level (standing_of v)) && is_some (written_frame t (page_at v.pages page))
+
+abbrev pub is_above : Option VmRow → Bool
+is_above None = false
+is_above (Some v) = has_more (standing_of v)
+
+-- what a machine has, of which it keeps its target
+abbrev pub target_row : ℕ → VmRow → Row
+target_row n v = ratio_row (λ (w : VmRow). w.target) n v
+
+abbrev pub target_rows : ℕ → List (Option VmRow) → List Row
+target_rows n vms = numbered (ratio_row (λ (w : VmRow). w.target)) n vms
+
+-- the claim of the row that came first so far, and with one more row, or one more place of a machine
+abbrev pub claim_of : ℕ → Option Row → Option Claim
+claim_of tau None = None
+claim_of tau (Some row) = Some (claim tau row row.pages)
+
+abbrev pub claim_step : ℕ → Option Claim → Row → Option Claim
+claim_step tau best row = if nat_lt row.floor row.pages then sooner best (claim tau row row.pages) else best
+
+abbrev pub vm_step : ℕ → ℕ → Option Claim → Option VmRow → Option Claim
+vm_step tau n best None = best
+vm_step tau n best (Some v) = claim_step tau best (target_row n v)
+
+abbrev pub help_from : Tables → Level → VmRow → ℕ → Help
+help_from t level v page = if can_go t level v page then helps.Go else help_by (list_any is_above t.vms) (first_claim t.tau (target_rows 0 t.vms))
+
+abbrev pub advice_from : Tables → Level → ℕ → Option VmRow → Result Help Refusal
+advice_from t level page None = Err NoVm
+advice_from t level page (Some v) = unless (page_gate (standing_of v) page) (Ok (help_from t level v page))
+
+-- the line of a place of a machine
+abbrev pub line_of : ℕ → Option VmRow → List TableRow
+line_of n None = []
+line_of n (Some v) = table_row n v ∷ []

@@ -1,0 +1,200 @@
+//! What lets a write to a page go on. It takes no memory, and looks at each machine once.
+
+ghost use Rattle.std.specs.Prelude.{◌≡◌, ◌≤◌, ◌<◌, Some, is_some, option_map};
+ghost use Rattle.std.specs.List.{list_any};
+ghost use Rattle.std.specs.Option.{ForSome};
+ghost use Rattle.esx_types.specs.declared.config.TheConstants.{VM_NUMBERS};
+ghost use Rattle.esx_types.specs.Frames.{frame_at, ref_count};
+ghost use Rattle.esx_formulas.specs.Ratio.{IsRow};
+ghost use Rattle.esx_formulas.specs.Targets.{first_claim};
+ghost use Rattle.esx_model.specs.declared.book.VmRow.{VmRow};
+ghost use Rattle.esx_model.specs.event.Access.{is_blocked};
+ghost use Rattle.esx_tables.specs.Readings.{row_at};
+ghost use Rattle.esx_machine.specs.Questions.{IsReadable, AreReadable, written_frame, can_go, is_above, target_row, target_rows, claim_of, claim_step, vm_step, help_from, advice_from};
+
+use crate::reading::active;
+use esx_events::{Help, Refusal};
+use esx_formulas::Row;
+use esx_formulas::ratio::comes_no_later_at;
+use esx_model::Standing;
+use esx_tables::{SiteTables, VmTable};
+use esx_types::{FrameRow, Level, MapRow, VmId, VmState};
+
+fn is_blocked(level: Level, standing: &Standing) -> bool
+    ensures { result ≡ is_blocked level standing.now }
+{
+    matches!(level, Level::Low) && standing.target < standing.resident
+}
+
+fn ref_count(row: &FrameRow) -> u32
+    ensures { result ≡ ref_count row.now }
+{
+    match row {
+        FrameRow::Free | FrameRow::Overhead | FrameRow::Private { .. } => 0,
+        FrameRow::Shared { count, .. } => *count,
+    }
+}
+
+/// How many pages are in a shared frame; 0 for any other.
+#[tactic(auto, using(crate::proofs::Loops::no_frame))]
+fn users(tables: &SiteTables, frame: u32) -> u32
+    ensures { result ≡ ref_count (frame_at tables.now.frames frame) }
+{
+    match tables.frame(frame) {
+        Some(row) => ref_count(row),
+        None => 0,
+    }
+}
+
+/// Is there a frame that a page may be written in?
+fn has_frame(tables: &SiteTables, row: MapRow) -> bool
+    ensures { result ≡ is_some (written_frame tables.now row) }
+{
+    match row {
+        MapRow::Here { frame } => {
+            users(tables, frame) <= 1 || tables.least_frame().is_some()
+        }
+        _ => tables.least_frame().is_some(),
+    }
+}
+
+fn can_go(tables: &SiteTables, level: Level, vm: &VmTable, page: u32) -> bool
+    ensures { result ≡ can_go tables.now level vm.now page }
+{
+    !is_blocked(level, &vm.standing()) && has_frame(tables, vm.page(page))
+}
+
+/// Does a machine have more than its least?
+fn is_above(vm: &Option<VmTable>) -> bool
+    ensures { result ≡ is_above vm.now }
+{
+    match vm {
+        None => false,
+        Some(vm) => {
+            let standing = vm.standing();
+            standing.spec.min < standing.resident
+        }
+    }
+}
+
+fn is_any_above(vms: &[Option<VmTable>]) -> bool
+    ensures { result ≡ list_any is_above vms.now }
+{
+    vms.iter().any(|vm| is_above(vm))
+}
+
+/// What a machine has, of which it keeps its target.
+fn target_row(vm: VmId, row: &VmTable) -> Row
+    requires { IsReadable row.now }
+    ensures value { result ≡ target_row vm row.now }
+    ensures good { IsRow result }
+{
+    let pages = row.standing().resident;
+    prove!(pages as usize <= row.pages().len());
+    let spec = row.spec();
+    let _number = vm.number();
+    Row {
+        vm,
+        shares: spec.shares,
+        pages,
+        floor: row.facts().target,
+        active: active(row),
+    }
+}
+
+/// Of the row that came first so far and one more, the one that comes first of those with pages above their
+/// floor.
+fn sooner(tau: u32, best: Option<Row>, row: Row) -> Option<Row>
+    requires tau { tau ≤ 99 }
+    requires best { ForSome best IsRow }
+    requires row { IsRow row }
+    ensures claim { claim_of tau result ≡ claim_step tau (claim_of tau best) row }
+    ensures good { ForSome result IsRow }
+{
+    if row.pages <= row.floor {
+        return best;
+    }
+    match best {
+        Some(first) => {
+            if comes_no_later_at(tau, &first, first.pages, &row, row.pages) {
+                Some(first)
+            } else {
+                Some(row)
+            }
+        }
+        None => Some(row),
+    }
+}
+
+/// The same with one more place of a machine.
+fn sooner_of(tau: u32, best: Option<Row>, number: usize, vm: &Option<VmTable>) -> Option<Row>
+    requires tau { tau ≤ 99 }
+    requires best { ForSome best IsRow }
+    requires number { number < VM_NUMBERS }
+    requires vm { (v : VmRow) → vm.now ≡ Some v → IsReadable v }
+    ensures claim { claim_of tau result ≡ vm_step tau number (claim_of tau best) vm.now }
+    ensures good { ForSome result IsRow }
+{
+    let Some(row) = vm else {
+        return best;
+    };
+    let Some(vm) = VmId::new(number as u8) else {
+        unreachable!("each place of a machine has a number");
+    };
+    sooner(tau, best, target_row(vm, row))
+}
+
+/// The row of the machine that pages out next, if one is above its target.
+fn first_row(tables: &SiteTables) -> Option<Row>
+    requires { AreReadable tables.now }
+    ensures { claim_of tables.now.tau result ≡ first_claim tables.now.tau (target_rows 0 tables.now.vms) }
+{
+    let tau = tables.tau();
+    let mut best = None;
+    for (number, vm) in tables.vms().iter().enumerate() {
+        best = sooner_of(tau, best, number, vm);
+    }
+    best
+}
+
+fn help_from(tables: &SiteTables, level: Level, vm: &VmTable, page: u32) -> Help
+    requires { AreReadable tables.now }
+    ensures { result ≡ help_from tables.now level vm.now page }
+{
+    if can_go(tables, level, vm, page) {
+        return Help::Go;
+    }
+    match first_row(tables) {
+        Some(row) => Help::SwapOut { vm: row.vm },
+        None => {
+            if is_any_above(tables.vms()) {
+                Help::Rebalance
+            } else {
+                Help::Replace
+            }
+        }
+    }
+}
+
+/// What lets a write to a page go on, or why the machine can make none.
+pub fn advise(
+    tables: &SiteTables,
+    level: Level,
+    vm: VmId,
+    page: u32,
+) -> Result<Help, Refusal>
+    requires { AreReadable tables.now }
+    ensures { result ≡ advice_from tables.now level page (row_at tables.now vm) }
+{
+    let Some(row) = tables.vm(vm) else {
+        return Err(Refusal::NoVm);
+    };
+    match row.facts().state {
+        VmState::Starting | VmState::Stopping => return Err(Refusal::NotRunning),
+        VmState::Running => {}
+    }
+    if row.spec().max <= page {
+        return Err(Refusal::OutOfRange);
+    }
+    Ok(help_from(tables, level, row, page))
+}

@@ -1,0 +1,146 @@
+//! What questions read of one machine's row and one frame's.
+
+ghost use Rattle.std.specs.Prelude.{◌≡◌, ◌≤◌};
+ghost use Rattle.esx_types.specs.Frames.{frame_at};
+ghost use Rattle.esx_types.specs.Listings.{listing_at};
+ghost use Rattle.esx_formulas.specs.Estimates.{IsEstimate};
+ghost use Rattle.esx_model.specs.Readings.{active_now, activity_in, activity_of, period_so_far, state_in};
+ghost use Rattle.esx_tables.specs.Readings.{row_at};
+ghost use Rattle.esx_machine.specs.Questions.{CanTell, AreReadable, is_hinted, state_of, page_from};
+
+use esx_events::{Activity, PageState, Refusal};
+use esx_model::PeriodRow;
+use esx_tables::{SiteTables, VmTable};
+use esx_types::{FrameRow, Listing, MapRow, VmId};
+
+/// How many of the sampled pages of a period were touched.
+fn touched(period: &PeriodRow) -> u32
+    requires { IsEstimate (period_so_far period.now) }
+    ensures { result ≡ (period_so_far period.now).touched }
+{
+    period.marks.as_slice().iter().filter(|mark| mark.touched).count() as u32
+}
+
+/// How many pages a period samples.
+fn sampled(period: &PeriodRow) -> u32
+    requires { IsEstimate (period_so_far period.now) }
+    ensures { result ≡ (period_so_far period.now).pages }
+{
+    period.marks.len() as u32
+}
+
+/// The share of a machine's memory that counts as in use.
+pub fn active(vm: &VmTable) -> u32
+    requires { CanTell vm.now.period }
+    ensures value { result ≡ active_now vm.now }
+    ensures most { result ≤ 65536 }
+{
+    let averages = vm.averages();
+    match vm.period() {
+        None => averages.active(None),
+        Some(period) => averages.active(Some((touched(period), sampled(period)))),
+    }
+}
+
+fn activity_in(vm: &VmTable) -> Activity
+    requires { CanTell vm.now.period }
+    ensures { result ≡ activity_in vm.now vm.now.period }
+{
+    let averages = vm.averages();
+    let closed = Activity {
+        slow: averages.slow(),
+        fast: averages.fast(),
+        active: active(vm),
+        done: 0,
+        length: 0,
+        touched: 0,
+        pages: 0,
+    };
+    match vm.period() {
+        None => closed,
+        Some(period) => Activity {
+            done: period.done,
+            length: period.length,
+            touched: touched(period),
+            pages: sampled(period),
+            ..closed
+        },
+    }
+}
+
+/// A machine's averages and open period, or that there is no such machine.
+pub fn activity(tables: &SiteTables, vm: VmId) -> Result<Activity, Refusal>
+    requires { AreReadable tables.now }
+    ensures { result ≡ activity_of (row_at tables.now vm) }
+{
+    match tables.vm(vm) {
+        None => Err(Refusal::NoVm),
+        Some(row) => Ok(activity_in(row)),
+    }
+}
+
+fn is_hinted(listing: Listing) -> bool
+    ensures { result ≡ is_hinted listing }
+{
+    matches!(listing, Listing::Hinted { .. })
+}
+
+fn state_in(hinted: bool, frame: u32, row: &FrameRow) -> PageState
+    ensures { result ≡ state_in hinted frame row.now }
+{
+    match row {
+        FrameRow::Private { .. } => {
+            if hinted {
+                PageState::Hinted { frame }
+            } else {
+                PageState::Private { frame }
+            }
+        }
+        FrameRow::Shared { count, .. } => PageState::Shared {
+            frame,
+            count: *count,
+        },
+        FrameRow::Free | FrameRow::Overhead => PageState::Untouched,
+    }
+}
+
+#[tactic(auto, using(crate::proofs::Loops::no_frame))]
+fn state_here(tables: &SiteTables, frame: u32) -> PageState
+    ensures { result ≡ state_in (is_hinted (listing_at tables.now.listings frame)) frame (frame_at tables.now.frames frame) }
+{
+    match tables.frame(frame) {
+        Some(row) => state_in(is_hinted(tables.listing(frame)), frame, row),
+        None => PageState::Untouched,
+    }
+}
+
+/// Where a page is by its row; a loan of an epoch that is over counts as untouched.
+fn state_of(tables: &SiteTables, epoch: u32, row: MapRow) -> PageState
+    ensures { result ≡ state_of tables.now epoch row }
+{
+    match row {
+        MapRow::Untouched => PageState::Untouched,
+        MapRow::Here { frame } => state_here(tables, frame),
+        MapRow::Out { slot } => PageState::Out { slot },
+        MapRow::Lent { epoch: lent } => {
+            if lent == epoch {
+                PageState::Lent
+            } else {
+                PageState::Untouched
+            }
+        }
+    }
+}
+
+/// Where a page is, or why there is no such page.
+pub fn page_state(tables: &SiteTables, vm: VmId, page: u32) -> Result<PageState, Refusal>
+    ensures { result ≡ page_from tables.now page (row_at tables.now vm) }
+{
+    let Some(row) = tables.vm(vm) else {
+        return Err(Refusal::NoVm);
+    };
+    if row.spec().max <= page {
+        return Err(Refusal::OutOfRange);
+    }
+    Ok(state_of(tables, row.facts().epoch, row.page(page)))
+}

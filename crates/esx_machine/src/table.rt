@@ -1,0 +1,64 @@
+//! A line for each machine.
+
+ghost use Rattle.std.specs.Prelude.{◌≡◌, ◌<◌, ◌++◌, Some, IfOk, OnOk};
+ghost use Rattle.esx_types.specs.declared.config.TheConstants.{VM_NUMBERS};
+ghost use Rattle.esx_model.specs.declared.book.VmRow.{VmRow};
+ghost use Rattle.esx_model.specs.Readings.{table_row, table_from};
+ghost use Rattle.esx_machine.specs.Questions.{CanTell, IsReadable, AreReadable, line_of};
+
+use crate::reading::active;
+use esx_events::TableRow;
+use esx_tables::{SiteTables, VmTable};
+use esx_types::{Rows, VM_NUMBERS, VmId};
+use std::alloc::{AllocError, Global};
+
+fn table_row(vm: VmId, row: &VmTable) -> TableRow
+    requires { CanTell row.now.period }
+    ensures { result ≡ table_row vm row.now }
+{
+    let standing = row.standing();
+    TableRow {
+        vm,
+        state: standing.state,
+        min: standing.spec.min,
+        max: standing.spec.max,
+        target: standing.target,
+        here: standing.resident,
+        lent: standing.lent,
+        out: standing.out,
+        shares: standing.spec.shares,
+        active: active(row),
+    }
+}
+
+/// Adds the line of a place of a machine, if there is one.
+fn add_line(
+    rows: &mut Vec<TableRow>,
+    number: usize,
+    vm: &Option<VmTable>,
+) -> Result<(), AllocError>
+    requires number { number < VM_NUMBERS }
+    requires vm { (v : VmRow) → vm.now ≡ Some v → IsReadable v }
+    ensures { OnOk result (rows.new.items ≡ rows.old.items ++ line_of number vm.now) }
+{
+    let Some(row) = vm else {
+        return Ok(());
+    };
+    let Some(vm) = VmId::new(number as u8) else {
+        unreachable!("each place of a machine has a number");
+    };
+    rows.push(table_row(vm, row))?;
+    Ok(())
+}
+
+/// A line for each machine, in order of number.
+pub fn table_of(alloc: Global, tables: &SiteTables) -> Result<Rows<TableRow>, AllocError>
+    requires { AreReadable tables.now }
+    ensures { IfOk result (λ rows. rows ≡ table_from 0 tables.now.vms) }
+{
+    let mut rows = Vec::with_capacity(alloc, VM_NUMBERS)?;
+    for (number, vm) in tables.vms().iter().enumerate() {
+        add_line(&mut rows, number, vm)?;
+    }
+    Ok(Rows::from_vec(rows))
+}
