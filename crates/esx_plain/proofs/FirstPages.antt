@@ -1,24 +1,21 @@
 -- The rows of frames and slots, by the first page in each.
-use Rattle.std.proofs.Common.{suc, ◌≡◌, ℕ, ◌+◌, ◌*◌, ◌^◌, ◌<◌, ◌≤◌, true, false, List, [], ◌∷◌, length, get_or, refl, sym, ap, ◌∙◌, arith, cond, ◌==◌, Option, Some, None, sum_by, All}
+use Rattle.std.proofs.Common.{suc, ◌≡◌, ℕ, ◌+◌, ◌*◌, ◌≤◌, true, false, List, [], ◌∷◌, length, get_or, refl, sym, ap, ◌∙◌, arith, cond, ◌==◌, Option, Some, None, sum_by}
 use Rattle.std.specs.List.{filter, find, list_any, count_by}
 use Rattle.std.proofs.lemmas.List.Sums.{length-filter, count_by-le-length, sum_by-cons}
 use Rattle.std.proofs.lemmas.List.Concat.{length-flat_map}
 use Rattle.esx_types.specs.declared.config.Config.{Config}
 use Rattle.esx_types.specs.declared.config.TheConstants.{VM_NUMBERS}
 use Rattle.esx_types.specs.declared.table.FrameRow.TheVariants as frame_is
-use Rattle.esx_plain.specs.declared.scene.Place.{Place}
-use Rattle.esx_plain.specs.declared.scene.Place.TheVariants.{Untouched, Here, Out, Lent}
-use Rattle.esx_formulas.specs.declared.activity.Estimate.{Estimate}
-use Rattle.esx_formulas.specs.declared.activity.Period.{Period}
-use Rattle.esx_plain.specs.declared.scene.Vm.{Vm}
-use Rattle.esx_plain.specs.declared.scene.Site.{Site}
-use Rattle.esx_plain.specs.Site.{is_here_at}
-use Rattle.esx_plain.specs.Step.{pages_at, pages_of}
-use Rattle.esx_formulas.specs.Estimates.{IsEstimate}
-use Rattle.esx_plain.specs.Show.{all_places, all_overhead, vm_places, vm_overhead, frame_row, row_of, is_out_at, slot_of, slot_row}
-use Rattle.esx_plain.specs.Shown.{first_row, first_slot, HasRow}
-use Rattle.esx_plain.specs.Sound.{IsSound}
-use Rattle.esx_plain.proofs.Finds.{BeginsWith, any_inside, filter_some, filter_none, count_inside, sum_by_same}
+use Rattle.esx_model.specs.declared.scene.Place.{Place}
+use Rattle.esx_model.specs.declared.scene.Place.TheVariants.{Untouched, Here, Out, Lent}
+use Rattle.esx_model.specs.declared.scene.Vm.{Vm}
+use Rattle.esx_model.specs.declared.scene.Site.{Site}
+use Rattle.esx_model.specs.Places.{is_here_at, is_out_at}
+use Rattle.esx_model.specs.Site.{pages_at, pages_of, all_places, all_overhead, vm_places, vm_overhead}
+use Rattle.esx_model.specs.Show.{frame_row, row_of, slot_of, slot_row}
+use Rattle.esx_plain.specs.Shown.{first_row, first_slot}
+use Rattle.esx_model.specs.sound.Sound.{IsSound}
+use Rattle.esx_plain.proofs.Lists.{BeginsWith, any_inside, filter_some, filter_none, count_inside, sum_by_same}
 
 pages_counted : (f : ℕ) (o : Option Vm) → count_by (is_here_at f) (vm_places o) ≡ pages_of f o
 pages_counted f None = refl
@@ -91,17 +88,3 @@ places_few c s sound =
     let few = few_places s.vms (few_of_sound c s sound) in
     let numbers = sound.vms in
     omega arith
-
-no_estimates : (closed : List Estimate) → closed ≡ [] → All IsEstimate closed
-no_estimates [] h = λ k d below. absurd (omega arith)
-no_estimates (e ∷ es) h = cc
-
-no_period : (o : Option Period) (p : Period) → o ≡ None → o ≡ Some p → length p.accessed < 2 ^ 32
-no_period o p none some = cc
-
--- the numbers of a sound site's rows fit their types
-pub sound_rows : (c : Config) (s : Site) → IsSound c s → (n : ℕ) (v : Vm) → get_or s.vms n None ≡ Some v → HasRow v
-sound_rows c s sound n v there = let fine = sound.each n v there in record {
-  estimates = no_estimates v.closed fine.closed;
-  period = λ p some. no_period v.period p fine.period some;
-}

@@ -1,13 +1,4 @@
-pub mod Changes
-pub mod SoundSteps
-pub mod Moves
-pub mod Laws
-pub mod Tables
-pub mod Frees
-pub mod Access
-pub mod KeyPlaces
-pub mod Finds
+pub mod Lists
 pub mod FirstPages
-pub mod Counts
+pub mod Tables
 pub mod Paths
-pub mod Callers

@@ -4,33 +4,26 @@ ghost use Rattle.std.specs.Prelude.{◌≡◌, ◌<◌, ◌^◌, Some, None, len
 ghost use Rattle.std.specs.List.{list_any};
 ghost use Rattle.std.specs.Option.{option_copied};
 ghost use Rattle.esx_types.specs.Ranges.{IsConfig};
-ghost use Rattle.esx_plain.specs.Site.{is_here_at};
-ghost use Rattle.esx_plain.specs.Show.{all_places, vm_places, vm_overhead, is_out_at, frame_row, frame_rows, slot_row, slot_rows};
+ghost use Rattle.esx_model.specs.declared.scene.Scene.{Scene};
+ghost use Rattle.esx_model.specs.Places.{is_here_at, is_out_at};
+ghost use Rattle.esx_model.specs.Site.{all_places, vm_places, vm_overhead};
+ghost use Rattle.esx_model.specs.Show.{frame_row, frame_rows, slot_row, slot_rows, shown};
+ghost use Rattle.esx_model.specs.sound.Sound.{IsSound};
 ghost use Rattle.esx_plain.specs.Shown.{first_row, first_slot};
 
-use crate::book::Book;
 use crate::keys::shared_rows;
-use crate::scene::{Place, Scene, Site, Vm};
+use crate::machines::vm_rows;
+use esx_model::{Book, Place, Scene, Site, Vm};
+use esx_steps::{has_overhead, is_here_at, is_out_at, pages_at};
 use esx_types::{Config, FrameRow, Rows, SlotRow};
 use std::alloc::{AllocError, Global};
 
-impl Place {
-    fn is_out_at(&self, slot: u32) -> bool
-        ensures { result ≡ is_out_at slot self.now }
-    {
-        match self {
-            Place::Out { slot: own, .. } => *own == slot,
-            _ => false,
-        }
-    }
-}
-
-fn has_overhead(vm: &Option<Vm>, frame: u32) -> bool
+fn has_frame(vm: &Option<Vm>, frame: u32) -> bool
     ensures { result ≡ list_any (λ own. own == frame) (vm_overhead vm.now) }
 {
     match vm {
         None => false,
-        Some(vm) => vm.has_overhead(frame),
+        Some(vm) => has_overhead(vm, frame),
     }
 }
 
@@ -44,7 +37,7 @@ fn page_in(vm: &Option<Vm>, frame: u32) -> Option<&Place>
             .places
             .as_slice()
             .iter()
-            .find(|place| place.is_here_at(frame)),
+            .find(|place| is_here_at(place, frame)),
     }
 }
 
@@ -58,7 +51,7 @@ fn page_out_at(vm: &Option<Vm>, slot: u32) -> Option<&Place>
             .places
             .as_slice()
             .iter()
-            .find(|place| place.is_out_at(slot)),
+            .find(|place| is_out_at(place, slot)),
     }
 }
 
@@ -91,100 +84,95 @@ fn first_slot(first: Option<&Place>) -> Result<SlotRow, AllocError>
     }
 }
 
-impl Site {
-    fn is_overhead(&self, frame: u32) -> bool
-        ensures { result ≡ list_any (λ vm. list_any (λ own. own == frame) (vm_overhead vm)) self.now.vms }
-    {
-        self.vms.as_slice().iter().any(|vm| has_overhead(vm, frame))
-    }
-
-    /// The first page, by machine and by number, that is in a frame.
-    #[tactic(auto, unfolding(crate::specs::Show::all_places))]
-    fn first_page_in(&self, frame: u32) -> Option<&Place>
-        ensures { option_copied result ≡ find (is_here_at frame) (all_places self.now) }
-    {
-        for vm in self.vms.as_slice() {
-            if let Some(place) = page_in(vm, frame) {
-                return Some(place);
-            }
-        }
-        None
-    }
-
-    /// The first page, by machine and by number, that is in a slot.
-    #[tactic(auto, unfolding(crate::specs::Show::all_places))]
-    fn first_page_out_at(&self, slot: u32) -> Option<&Place>
-        ensures { option_copied result ≡ find (is_out_at slot) (all_places self.now) }
-    {
-        for vm in self.vms.as_slice() {
-            if let Some(place) = page_out_at(vm, slot) {
-                return Some(place);
-            }
-        }
-        None
-    }
-
-    #[tactic(auto, using(crate::proofs::FirstPages::frame_row_found, crate::proofs::FirstPages::pages_few))]
-    fn frame_row(&self, frame: u32) -> Result<FrameRow, AllocError>
-        requires { length (all_places self.now) < 2 ^ 32 }
-        ensures { IfOk result (λ row. row ≡ frame_row self.now frame) }
-    {
-        if self.is_overhead(frame) {
-            return Ok(FrameRow::Overhead);
-        }
-        let pages = self.pages_at(frame);
-        first_row(self.first_page_in(frame), pages as u32)
-    }
-
-    #[tactic(auto, using(crate::proofs::FirstPages::slot_row_found))]
-    fn slot_row(&self, slot: u32) -> Result<SlotRow, AllocError>
-        ensures { IfOk result (λ row. row ≡ slot_row self.now slot) }
-    {
-        first_slot(self.first_page_out_at(slot))
-    }
-
-    fn frame_rows(&self, alloc: Global, frames: u32) -> Result<Rows<FrameRow>, AllocError>
-        requires { length (all_places self.now) < 2 ^ 32 }
-        ensures { IfOk result (λ rows. rows ≡ frame_rows frames self.now) }
-    {
-        let mut rows = Rows::new(alloc);
-        for frame in 0..frames {
-            rows.push(self.frame_row(frame)?)?;
-        }
-        Ok(rows)
-    }
-
-    fn slot_rows(&self, alloc: Global, slots: u32) -> Result<Rows<SlotRow>, AllocError>
-        ensures { IfOk result (λ rows. rows ≡ slot_rows slots self.now) }
-    {
-        let mut rows = Rows::new(alloc);
-        for slot in 0..slots {
-            rows.push(self.slot_row(slot)?)?;
-        }
-        Ok(rows)
-    }
+fn is_overhead(site: &Site, frame: u32) -> bool
+    ensures { result ≡ list_any (λ vm. list_any (λ own. own == frame) (vm_overhead vm)) site.now.vms }
+{
+    site.vms.as_slice().iter().any(|vm| has_frame(vm, frame))
 }
 
-impl Scene {
-    ghost use Rattle.esx_plain.specs.Show.{shown};
-    ghost use Rattle.esx_plain.specs.Sound.{IsSound};
-
-    pub(crate) fn shown(&self, alloc: Global, config: &Config) -> Result<Book, AllocError>
-        requires config { IsConfig config.now }
-        requires sound { IsSound config.now self.now.site }
-        ensures { IfOk result (λ book. book ≡ shown config.now self.now) }
-    {
-        let site = &self.site;
-        let frames = site.frame_rows(alloc, config.frames)?;
-        let shared = shared_rows(alloc, frames.as_slice())?;
-        Ok(Book {
-            slots: site.slot_rows(alloc, config.slots)?,
-            vms: site.vm_rows(alloc)?,
-            hints: Rows::from_vec(Vec::from_slice(alloc, site.hints.as_slice())?),
-            tau: site.tau,
-            level: self.level,
-            frames,
-            shared,
-        })
+/// The first page, by machine and by number, that is in a frame.
+#[tactic(auto, unfolding(esx_model::specs::Site::all_places))]
+fn first_page_in(site: &Site, frame: u32) -> Option<&Place>
+    ensures { option_copied result ≡ find (is_here_at frame) (all_places site.now) }
+{
+    for vm in site.vms.as_slice() {
+        if let Some(place) = page_in(vm, frame) {
+            return Some(place);
+        }
     }
+    None
+}
+
+/// The first page, by machine and by number, that is in a slot.
+#[tactic(auto, unfolding(esx_model::specs::Site::all_places))]
+fn first_page_out_at(site: &Site, slot: u32) -> Option<&Place>
+    ensures { option_copied result ≡ find (is_out_at slot) (all_places site.now) }
+{
+    for vm in site.vms.as_slice() {
+        if let Some(place) = page_out_at(vm, slot) {
+            return Some(place);
+        }
+    }
+    None
+}
+
+#[tactic(auto, using(crate::proofs::FirstPages::frame_row_found, crate::proofs::FirstPages::pages_few))]
+fn frame_row(site: &Site, frame: u32) -> Result<FrameRow, AllocError>
+    requires { length (all_places site.now) < 2 ^ 32 }
+    ensures { IfOk result (λ row. row ≡ frame_row site.now frame) }
+{
+    if is_overhead(site, frame) {
+        return Ok(FrameRow::Overhead);
+    }
+    let pages = pages_at(site, frame);
+    first_row(first_page_in(site, frame), pages as u32)
+}
+
+#[tactic(auto, using(crate::proofs::FirstPages::slot_row_found))]
+fn slot_row(site: &Site, slot: u32) -> Result<SlotRow, AllocError>
+    ensures { IfOk result (λ row. row ≡ slot_row site.now slot) }
+{
+    first_slot(first_page_out_at(site, slot))
+}
+
+fn frame_rows(site: &Site, alloc: Global, frames: u32) -> Result<Rows<FrameRow>, AllocError>
+    requires { length (all_places site.now) < 2 ^ 32 }
+    ensures { IfOk result (λ rows. rows ≡ frame_rows frames site.now) }
+{
+    let mut rows = Rows::new(alloc);
+    for frame in 0..frames {
+        rows.push(frame_row(site, frame)?)?;
+    }
+    Ok(rows)
+}
+
+fn slot_rows(site: &Site, alloc: Global, slots: u32) -> Result<Rows<SlotRow>, AllocError>
+    ensures { IfOk result (λ rows. rows ≡ slot_rows slots site.now) }
+{
+    let mut rows = Rows::new(alloc);
+    for slot in 0..slots {
+        rows.push(slot_row(site, slot)?)?;
+    }
+    Ok(rows)
+}
+
+/// The tables that show a scene.
+#[tactic(auto, using(crate::proofs::FirstPages::places_few))]
+pub fn shown(alloc: Global, config: &Config, scene: &Scene) -> Result<Book, AllocError>
+    requires config { IsConfig config.now }
+    requires sound { IsSound config.now scene.now.site }
+    ensures { IfOk result (λ book. book ≡ shown config.now scene.now) }
+{
+    let site = &scene.site;
+    let frames = frame_rows(site, alloc, config.frames)?;
+    let shared = shared_rows(alloc, frames.as_slice())?;
+    Ok(Book {
+        slots: slot_rows(site, alloc, config.slots)?,
+        vms: vm_rows(alloc, config, site)?,
+        hints: Rows::from_vec(Vec::from_slice(alloc, site.hints.as_slice())?),
+        tau: site.tau,
+        level: scene.level,
+        frames,
+        shared,
+    })
 }

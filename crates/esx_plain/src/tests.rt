@@ -1,5 +1,7 @@
 use super::*;
-use esx_types::{Config, Event, FrameRow, Level, MapRow, Refusal, VM_NUMBERS, VmId, VmSpec};
+use esx_events::{Boxed, Event, Refusal};
+use esx_types::{Bytes, Config, FrameRow, Level, Rows, VmId, VmSpec};
+use std::alloc::{AllocError, Global};
 use std::rt::HostRuntime;
 
 const SITE: Config = Config {
@@ -14,72 +16,74 @@ const SITE: Config = Config {
     nodes: 16777216,
 };
 
-fn spec(min: u32, max: u32) -> VmSpec {
-    VmSpec {
-        min,
-        max,
-        overhead: 1,
-        shares: 1000,
-        balloon_max: 0,
-    }
+const SPEC: VmSpec = VmSpec {
+    min: 2,
+    max: 4,
+    overhead: 1,
+    shares: 1000,
+    balloon_max: 0,
+};
+
+fn text_in(alloc: Global, vm: VmId) -> Result<Event, AllocError> {
+    let bytes = Bytes::copy_of(alloc, b"the same content")?;
+    Ok(Event::Write {
+        vm,
+        page: 0,
+        at: 0,
+        bytes: Boxed::new(alloc, bytes)?,
+    })
 }
 
-fn first_events(vm: VmId) -> [Event; 3] {
-    [
-        Event::Admit {
-            vm,
-            spec: spec(2, 6),
-        },
-        Event::Start { vm },
-        Event::Read {
-            vm,
-            page: 0,
-            at: 0,
-            len: 16,
-        },
-    ]
+fn no_words(alloc: Global, vm: VmId) -> Result<Event, AllocError> {
+    Ok(Event::Sample {
+        vm,
+        length: 1,
+        words: Boxed::new(alloc, Rows::new(alloc))?,
+    })
 }
 
-/// Frame 0 is overhead, frame 1 has a page of zeros, and the others are free.
+/// The machines have one overhead frame each, and share the frame between them.
 fn frames_are_right(frames: &[FrameRow]) -> bool {
     match frames {
-        [FrameRow::Overhead, FrameRow::Private { bytes }, others @ ..] => {
-            bytes.as_slice() == [0; 16].as_slice()
-                && others.len() == 18
+        [
+            FrameRow::Overhead,
+            FrameRow::Shared { count: 2, bytes },
+            FrameRow::Overhead,
+            others @ ..,
+        ] => {
+            bytes.as_slice() == b"the same content".as_slice()
+                && others.len() == 17
                 && others.iter().all(|row| matches!(row, FrameRow::Free))
         }
         _ => false,
     }
 }
 
-/// Page 0 is in frame 1, and the others were never brought.
-fn pages_are_right(pages: &[MapRow]) -> bool {
-    match pages {
-        [MapRow::Here { frame: 1 }, others @ ..] => {
-            others.len() == 5 && others.iter().all(|row| *row == MapRow::Untouched)
-        }
-        _ => false,
-    }
-}
-
-/// The first machine has its pages right, and there is no other.
-fn machines_are_right(vms: &[Option<VmRow>]) -> bool {
-    match vms {
-        [Some(vm), others @ ..] => {
-            pages_are_right(vm.pages.as_slice())
-                && vms.len() == VM_NUMBERS
-                && others.iter().all(|vm| vm.is_none())
-        }
-        _ => false,
-    }
-}
-
 #[test]
-fn a_read_brings_a_page_of_zeros(rt: HostRuntime) {
-    let vm = VmId::new(0).expect(&rt, "a number");
-    let book = replay(rt.alloc(), &SITE, &first_events(vm)).expect(&rt, "a book");
+fn equal_pages_come_into_one_frame(rt: HostRuntime) {
+    let alloc = rt.alloc();
+    let one = VmId::new(0).expect(&rt, "a number");
+    let two = VmId::new(1).expect(&rt, "a number");
+    let path = [
+        Event::Admit {
+            vm: one,
+            spec: SPEC,
+        },
+        Event::Start { vm: one },
+        text_in(alloc, one).expect(&rt, "memory"),
+        Event::Admit {
+            vm: two,
+            spec: SPEC,
+        },
+        Event::Start { vm: two },
+        text_in(alloc, two).expect(&rt, "memory"),
+        Event::Scan { vm: one, page: 0 },
+        Event::Scan { vm: two, page: 0 },
+    ];
+    let book = replay(alloc, &SITE, &path).expect(&rt, "a book");
     assert!(rt; frames_are_right(book.frames.as_slice()));
-    assert!(rt; machines_are_right(book.vms.as_slice()));
+    assert_eq!(rt; book.shared.len(), 1);
+    assert_eq!(rt; book.hints.len(), 0);
     assert_eq!(rt; book.level, Level::High);
 }
 
@@ -87,46 +91,35 @@ fn a_read_brings_a_page_of_zeros(rt: HostRuntime) {
 fn the_first_refusal_ends_a_path(rt: HostRuntime) {
     let vm = VmId::new(0).expect(&rt, "a number");
     let other = VmId::new(1).expect(&rt, "a number");
-    let far = Event::Read {
-        vm,
-        page: 9,
-        at: 0,
-        len: 1,
-    };
     for (last, refusal) in [
-        (far, Refusal::OutOfRange),
-        (
-            Event::Admit {
-                vm: other,
-                spec: spec(0, 4),
-            },
-            Refusal::BadSpec,
-        ),
-        (
-            Event::Admit {
-                vm: other,
-                spec: spec(19, 19),
-            },
-            Refusal::NoMemoryReserve,
-        ),
-        (
-            Event::Admit {
-                vm: other,
-                spec: spec(1, 6),
-            },
-            Refusal::NoSwapReserve,
-        ),
-        (
-            Event::Admit {
-                vm,
-                spec: spec(2, 6),
-            },
-            Refusal::VmThere,
-        ),
+        (Event::Admit { vm, spec: SPEC }, Refusal::VmThere),
         (Event::Start { vm }, Refusal::NotNeeded),
+        (Event::Ask { vm: other }, Refusal::NoVm),
+        (Event::Lend { vm, page: 0 }, Refusal::OverGoal),
+        (Event::TakeBack { vm, page: 9 }, Refusal::OutOfRange),
+        (Event::TakeBack { vm, page: 3 }, Refusal::NotLent),
+        (
+            no_words(rt.alloc(), vm).expect(&rt, "memory"),
+            Refusal::BadWords,
+        ),
+        (Event::Scan { vm, page: 0 }, Refusal::NotResident),
+        (
+            Event::SwapOut { vm, word: 0 },
+            Refusal::NotNow { level: Level::High },
+        ),
+        (
+            Event::Replace {
+                vm,
+                page: 0,
+                word: 0,
+            },
+            Refusal::NotNeeded,
+        ),
+        (Event::SetTax { tau: 100 }, Refusal::BadSpec),
+        (Event::Gone { vm }, Refusal::NotNeeded),
     ] {
-        let [admit, start, read] = first_events(vm);
-        let fault = replay(rt.alloc(), &SITE, &[admit, start, read, last]).err();
-        assert_eq!(rt; fault, Some(PlainFault::Refused { at: 3, refusal }));
+        let path = [Event::Admit { vm, spec: SPEC }, Event::Start { vm }, last];
+        let fault = replay(rt.alloc(), &SITE, &path).err();
+        assert_eq!(rt; fault, Some(PlainFault::Refused { at: 2, refusal }));
     }
 }

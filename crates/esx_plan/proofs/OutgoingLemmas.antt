@@ -6,7 +6,7 @@ use Rattle.std.specs.Result.{IfOk, IfErr, IsErrOf}
 use Rattle.std.specs.Io.KnownBytes.{Appends, Keeps, append_known}
 use Rattle.esx_types.specs.Ends.{write_failures}
 use Rattle.std.proofs.lemmas.Grind.{common_steps}
-use Rattle.esx_plain.specs.Console.{Session}
+use Rattle.esx_model.specs.Console.{Session}
 use Rattle.esx_text.specs.declared.fault.ServeFault.{ServeFault}
 use Rattle.esx_text.specs.declared.fault.ServeFault.TheVariants.{Read, Write, OutOfMemory}
 use Rattle.esx_text.specs.Answers.{Answers, Faults}

@@ -2,7 +2,7 @@
 
 ghost use Rattle.std.specs.Prelude.{◌≡◌, ◌+◌, ◌-◌, ◌^◌, ◌<◌, ◌≤◌, ◌⊎◌, [], IfOk, IfErr, IsErrOf};
 ghost use Rattle.esx_types.specs.Ranges.{IsConfig};
-ghost use Rattle.esx_plain.specs.Console.{Session};
+ghost use Rattle.esx_model.specs.Console.{Session};
 ghost use Rattle.esx_text.specs.Answers.{Answers, Faults, write_faults};
 ghost use Rattle.esx_plan.specs.Site.{at_opening};
 

@@ -9,8 +9,8 @@ ghost use Rattle.esx_types.specs.Ranges.{IsConfig};
 use crate::site::serve_site;
 use crate::{Failure, SITE};
 use esx_reading::TextFault;
-use esx_text::{ServeFault, parse_command, print_command, print_reply};
-use esx_types::{Config, MemorySink, MemorySource, PageState, Reply, Said};
+use esx_text::{ServeFault, parse_command, print_command};
+use esx_types::{Config, MemorySink, MemorySource};
 use std::alloc::Global;
 use std::marker::Brand;
 use std::sync::ledger::{Blank, Ledger};
@@ -80,7 +80,7 @@ const ROWS: [Row; 15] = [
     },
     // lines that are no command
     Row {
-        input: b"start 00\nREAD 0 0 0 1\nwrite 0 0 0 2A\nwrite 0 0 0 2\nread  0 0 0 1\n read 0 0 0 1\nread 0 0 0 1 \nread 32 0 0 1\nread 0 4294967296 0 1\nread 0 0 0 18446744073709551616\nsum sum\nundo\nundo -1\ngoto 0\nsession\nhelp\n\xc3\xa9\n",
+        input: b"start 00\nREAD 0 0 0 1\nwrite 0 0 0 2A\nwrite 0 0 0 2\nread  0 0 0 1\n read 0 0 0 1\nread 0 0 0 1 \nread 32 0 0 1\nread 0 4294967296 0 1\nread 0 0 0 18446744073709551616\nsum sum\nundo\nundo -1\ngoto -1\nsession\nhelp\n\xc3\xa9\n",
         output: b"? line 1\n? line 2\n? line 3\n? line 4\n? line 5\n? line 6\n? line 7\n? line 8\n? line 9\n? line 10\n? line 11\n? line 12\n? line 13\n? line 14\n? line 15\n? line 16\n? line 17\n",
     },
     // lines with no answer and odd ends
@@ -212,20 +212,5 @@ fn commands(rt: HostRuntime) -> Result<(), Fail> {
         };
         assert_eq!(rt; print_command(rt.alloc(), &call)?.as_str(), text);
     }
-    Ok(())
-}
-
-#[test]
-fn reply_of_a_shared_page(rt: HostRuntime) -> Result<(), Fail> {
-    let reply = Reply {
-        jumps: 0,
-        said: Said::Page {
-            state: PageState::Shared { frame: 3, count: 1 },
-        },
-    };
-    assert_eq!(rt;
-        print_reply(rt.alloc(), &reply)?.as_str(),
-        "here frame 3 shared 1\n"
-    );
     Ok(())
 }

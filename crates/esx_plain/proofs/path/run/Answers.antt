@@ -1,8 +1,9 @@
 use Rattle.std.proofs.Common.{◌+◌, drop, arith, sym, ap, ◌∙◌, subst}
-use Rattle.esx_plain.specs.declared.scene.Scene.{Scene}
-use Rattle.esx_plain.specs.Sound.{IsSound}
-use Rattle.esx_plain.specs.Replay.{run, run_from, after_one}
-use Rattle.esx_plain.proofs.Laws.{opening_sound, next_sound, run_more, run_none, fault_runs}
+use Rattle.esx_model.specs.declared.scene.Scene.{Scene}
+use Rattle.esx_model.specs.sound.Sound.{IsSound}
+use Rattle.esx_model.specs.Replay.{run, run_from, after_one}
+use Rattle.esx_model.proofs.EverySound.{opening_sound, every_event_sound}
+use Rattle.esx_plain.proofs.Paths.{run_more, run_none, fault_runs}
 use Rattle.esx_plain.proofs.path.run.Goals as goal
 
 pub loop-index-init : goal.loop-index-init
@@ -11,7 +12,7 @@ loop-index-init c =
     let is = c.in-Ok.ensures in
     record {
       rest = ap (run_from config 0 c.args.events.now) is;
-      sound = (let P : Scene → Type 0 = λ t. IsSound config t.site in subst P (sym is) (opening_sound config));
+      sound = (let P : Scene → Type 0 = λ t. IsSound config t.site in subst P (sym is) (opening_sound config c.requires));
     }
 
 pub returns-in-Err : goal.returns-in-Err
@@ -20,7 +21,7 @@ returns-in-Err c =
     let events = c.args.events.now in
     let steps = c.in-Err.ensures.steps in
     let more = run_more config events c.loop-index.index c.index-events-index.result c.loop-index.scene (omega arith) c.index-events-index.is in
-    record { runs = rw c.fault_at.ensures (fault_runs c.loop-index.index c.in-Err.refusal (run config events) (λ other. sym c.loop-index.invariant.rest ∙ more ∙ ap (λ o. after_one c.loop-index.index o (run_from config (c.loop-index.index + 1) (drop (c.loop-index.index + 1) events))) (steps.1 other))); sound = tt }
+    record { runs = rw c.fault_at.ensures (fault_runs c.loop-index.index c.in-Err.refusal (run config events) (λ other. sym c.loop-index.invariant.rest ∙ more ∙ ap (λ o. after_one c.loop-index.index o (run_from config (c.loop-index.index + 1) (drop (c.loop-index.index + 1) events))) (steps.0 other))); sound = tt }
 
 pub loop-index-preserved : goal.loop-index-preserved
 loop-index-preserved c =
@@ -30,7 +31,7 @@ loop-index-preserved c =
     let more = run_more config events c.loop-index.index c.index-events-index.result c.loop-index.scene (omega arith) c.index-events-index.is in
     record {
       rest = sym (ap (λ o. after_one c.loop-index.index o (run_from config (c.loop-index.index + 1) (drop (c.loop-index.index + 1) events))) ensured.steps) ∙ sym more ∙ c.loop-index.invariant.rest;
-      sound = next_sound config c.loop-index.scene c.next.new.self c.index-events-index.result c.in-Ok-next.field-0 ensured.named c.loop-index.invariant.sound ensured.steps;
+      sound = every_event_sound config c.loop-index.scene c.index-events-index.result (c.in-Ok-next.field-0-0, c.in-Ok-next.after) c.loop-index.invariant.sound ensured.named ensured.steps;
     }
 
 pub returns : goal.returns

@@ -1,6 +1,6 @@
 use Rattle.std.proofs.Common.{◌≡◌, drop}
-use Rattle.esx_plain.specs.Sound.{IsSound}
-use Rattle.esx_plain.specs.Replay.{run, run_from}
+use Rattle.esx_model.specs.sound.Sound.{IsSound}
+use Rattle.esx_model.specs.Replay.{run, run_from}
 use Rattle.esx_plain.proofs.path.run.Given as goal
 
 abbrev pub invariant-loop-index : goal.invariant-loop-index

@@ -1,4 +1,0 @@
-pub mod Lists
-pub mod FirstPages
-pub mod Tables
-pub mod Paths
