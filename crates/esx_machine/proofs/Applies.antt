@@ -24,7 +24,7 @@ use Rattle.esx_tables.specs.declared.change.Change.{Change}
 use Rattle.esx_tables.specs.Changes.{exchanged}
 use Rattle.esx_tables.proofs.Back.{exchanged_back}
 use Rattle.esx_plans.specs.plan.Planned.{Planned, Makes, Refines}
-use Rattle.esx_plans.specs.plan.Event.{ArePlannable, plan_of, IsPlanned}
+use Rattle.esx_plans.specs.plan.Event.{ArePlannable, plan_of}
 use Rattle.esx_plans.proofs.refines.Event.{plannable, plan_refines}
 use Rattle.esx_machine.specs.Machine.{Kept, IsKept, Shows, Back, flipped, Trades, Accepts, Refuses}
 
@@ -33,11 +33,11 @@ pub kept_plannable : (k : Kept) → IsKept k → ArePlannable k.config k.tables
 kept_plannable k kept = subst (ArePlannable k.config) (sym kept.shows) (plannable k.config kept.site kept.config kept.sound)
 
 -- the machine's plan refines the event on the scene
-at_scene : (k : Kept) (t : Scene) (e : Event) → Shows k t → NamesVm e → IsPlanned e → Refines k.config t.site (plan_of k.config k.tables k.level e) (step k.config t.site t.level e)
-at_scene k t e shows named planned =
+at_scene : (k : Kept) (t : Scene) (e : Event) → Shows k t → NamesVm e → Refines k.config t.site (plan_of k.config k.tables k.level e) (step k.config t.site t.level e)
+at_scene k t e shows named =
     let P : Tables → Type 0 = λ x. Refines k.config t.site (plan_of k.config x k.level e) (step k.config t.site t.level e) in
     let Q : Level → Type 0 = λ l. Refines k.config t.site (plan_of k.config (tables_of k.config t.site) l e) (step k.config t.site t.level e) in
-    subst P (sym shows.tables) (subst Q (sym shows.level) (plan_refines k.config t.site t.level e shows.sound named planned))
+    subst P (sym shows.tables) (subst Q (sym shows.level) (plan_refines k.config t.site t.level e shows.sound named))
 
 -- what is planned comes
 comes : (c : Config) (s : Site) (a : Answer) (cs : List Change) (o : Outcome) → Refines c s (Ok (a, cs)) o → (t : Site) × (o ≡ Ok (a, t)) × Makes c s cs t
@@ -56,7 +56,6 @@ goes c s (Err e) o ok h = cc
 -- An event made by exchanging changes: t and ds are what the exchange gives, and the level follows.
 pub record Made (k : Kept) (e : Event) (a : Answer) (cs : List Change) (t : Tables) (ds : List Change) (level : Level) : Type 0 where
   pub named : NamesVm e
-  pub planned : IsPlanned e
   pub plan : plan_of k.config k.tables k.level e ≡ Ok (a, cs)
   pub tables : t ≡ (exchanged k.tables cs).0
   pub changes : ds ≡ (exchanged k.tables cs).1
@@ -82,7 +81,7 @@ accepted k e a cs t ds level kept m scene shows =
     let c : Config = k.config in
     let s : Site = scene.site in
     let P : Planned → Type 0 = λ d. Refines c s d (step c s scene.level e) in
-    let come = comes c s a cs (step c s scene.level e) (subst P m.plan (at_scene k scene e shows m.named m.planned)) in
+    let come = comes c s a cs (step c s scene.level e) (subst P m.plan (at_scene k scene e shows m.named)) in
     let u : Scene = record { site = come.0; level = next_level c scene.level (free_count c.frames come.0) } in
     let gives : next c scene e ≡ Ok (a, u) = ap (settled c scene.level) come.1 in
     let tables : t ≡ tables_of c come.0 = m.tables ∙ ap (λ (x : Tables). (exchanged x cs).0) shows.tables ∙ come.2 in
@@ -114,15 +113,15 @@ settled_goes c level (Ok r) h = refl
 settled_goes c level (Err e) h = cc
 
 -- a refusal, or want of memory
-pub refused : (k : Kept) (e : Event) (r : Refusal) → NamesVm e → IsPlanned e
+pub refused : (k : Kept) (e : Event) (r : Refusal) → NamesVm e
     → ((r ≡ OutOfMemory → ⊥) → plan_of k.config k.tables k.level e ≡ Err r) × (r ≡ OutOfMemory → IsOk (plan_of k.config k.tables k.level e))
     → (scene : Scene) → Shows k scene → Refuses k k r (next k.config scene e)
 unfolding next
-refused k e r named planned h scene shows =
+refused k e r named h scene shows =
     let c : Config = k.config in
     let s : Site = scene.site in
     let o : Outcome = step c s scene.level e in
-    let refines = at_scene k scene e shows named planned in
+    let refines = at_scene k scene e shows named in
     let P : Planned → Type 0 = λ d. Refines c s d o in
     record {
       same = refl;

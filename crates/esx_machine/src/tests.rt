@@ -6,6 +6,7 @@ use crate::machine::Machine;
 use esx_events::{Answer, Event, PageState};
 use esx_model::VmRow;
 use esx_types::{Config, VmId, VmSpec};
+use std::alloc::Global;
 use std::process::Abort;
 use std::test::Fail;
 
@@ -53,17 +54,14 @@ fn opens_with_ample_memory(rt: HostRuntime) -> Result<(), Fail> {
     let machine = Machine::open(rt.alloc(), SITE)?;
     let book = machine.book()?;
     assert_eq!(rt; book.frames.len(), 20);
-    let rows = machine.table()?;
-    assert_eq!(rt; rows.len(), 0);
     Ok(())
 }
 
-#[test]
-fn admits_with_ample_memory(rt: HostRuntime) -> Result<(), Fail> {
-    let vm = VmId::new(0).ok_or("vm")?;
-    let mut machine = Machine::open(rt.alloc(), SITE)?;
-    expect_rise(&rt, &machine)?;
-    let (answer, record) = machine.apply(&Event::Admit { vm, spec: SPEC })?;
+/// A site with one machine, which runs.
+fn running(rt: &impl Abort, alloc: Global, vm: VmId) -> Result<Machine, Fail> {
+    let mut machine = Machine::open(alloc, SITE)?;
+    expect_rise(rt, &machine)?;
+    let (answer, _) = machine.apply(&Event::Admit { vm, spec: SPEC })?;
     assert!(rt;
         matches!(
             &answer,
@@ -75,6 +73,28 @@ fn admits_with_ample_memory(rt: HostRuntime) -> Result<(), Fail> {
             }
         )
     );
-    assert_eq!(rt; record.size().rows, 1);
+    expect_rise(rt, &machine)?;
+    let (answer, _) = machine.apply(&Event::Start { vm })?;
+    assert!(rt; matches!(&answer, Answer::Started { running: true, .. }));
+    Ok(machine)
+}
+
+#[test]
+fn reads_with_ample_memory(rt: HostRuntime) -> Result<(), Fail> {
+    let vm = VmId::new(0).ok_or("vm")?;
+    let mut machine = running(&rt, rt.alloc(), vm)?;
+    expect_rise(&rt, &machine)?;
+    let read = Event::Read {
+        vm,
+        page: 0,
+        at: 0,
+        len: 1,
+    };
+    let (answer, record) = machine.apply(&read)?;
+    assert!(rt; matches!(&answer, Answer::Bytes { .. }));
+    assert_eq!(rt; record.size().targets, 0);
+    assert_eq!(rt; machine.of_page(vm, 0)?, PageState::Private { frame: 1 });
+    assert_eq!(rt; machine.of_vm(vm)?.slow, 65536);
+    assert_eq!(rt; machine.table()?.len(), 1);
     Ok(())
 }

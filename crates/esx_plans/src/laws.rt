@@ -20,7 +20,11 @@ ghost use Rattle.esx_model.specs.event.Starting.{start};
 ghost use Rattle.esx_model.specs.event.Access.{read, write};
 ghost use Rattle.esx_model.specs.event.Paging.{replace, swap_out};
 ghost use Rattle.esx_model.specs.event.Sharing.{look, scan};
-ghost use Rattle.esx_model.specs.sound.Sound.{IsSound};
+ghost use Rattle.esx_model.specs.sound.Sound.{IsSound, NamesVm};
+ghost use Rattle.esx_model.specs.Step.{step};
+ghost use Rattle.esx_events.specs.declared.event.Event.{Event};
+ghost use Rattle.esx_types.specs.Ranges.{IsConfig};
+ghost use Rattle.esx_plans.specs.plan.Event.{ArePlannable, plan_of};
 ghost use Rattle.esx_plans.specs.plan.Planned.{Refines};
 ghost use Rattle.esx_plans.specs.plan.Admission.{admit_plan};
 ghost use Rattle.esx_plans.specs.plan.Leaving.{stop_plan, drop_plan, gone_plan};
@@ -124,4 +128,11 @@ pub fn scan_refines()
 /// The plan of a page that is paged out does to the tables of a sound site what the event does to the site.
 pub fn swap_out_refines()
     ensures { (c : Config) (s : Site) (level : Level) (n word : ℕ) → IsSound c s → Refines c s (swap_out_plan (tables_of c s) level n word) (swap_out c s level n word) }
+{}
+
+/// The plan of each event does to the tables of a sound site what the event does to the site, and such
+/// tables have all that plans rest on.
+pub fn events_refine()
+    ensures whole { (c : Config) (s : Site) → IsConfig c → IsSound c s → ArePlannable c (tables_of c s) }
+    ensures plan { (c : Config) (s : Site) (level : Level) (event : Event) → IsSound c s → NamesVm event → Refines c s (plan_of c (tables_of c s) level event) (step c s level event) }
 {}

@@ -15,7 +15,6 @@ pub mod replacing;
 pub mod sampling;
 pub mod sharing;
 pub mod starting;
-mod stub;
 
 use esx_events::Answer;
 use esx_tables::Record;

@@ -5,16 +5,19 @@ ghost use Rattle.esx_types.specs.declared.config.TheConstants.{VM_NUMBERS};
 ghost use Rattle.esx_model.specs.sound.Sound.{NamesVm};
 ghost use Rattle.esx_plans.specs.plan.Planned.{Plans};
 ghost use Rattle.esx_plans.specs.plan.Balloon.{CanEpochsRise};
-ghost use Rattle.esx_plans.specs.plan.Event.{ArePlannable, plan_of, IsPlanned};
+ghost use Rattle.esx_plans.specs.plan.Event.{ArePlannable, plan_of};
 
 use crate::plan::Plan;
+use crate::plan::access::{plan_read, plan_write};
 use crate::plan::admission::plan_admit;
 use crate::plan::balloon::{plan_ask, plan_lend, plan_take_back};
 use crate::plan::leaving::{plan_drop_page, plan_gone, plan_stop};
+use crate::plan::paging::plan_swap_out;
 use crate::plan::rebalancing::{plan_rebalance, plan_shares, plan_tax};
+use crate::plan::replacing::plan_replace;
 use crate::plan::sampling::plan_sample;
+use crate::plan::sharing::plan_scan;
 use crate::plan::starting::plan_start;
-use crate::plan::stub::missing;
 use esx_events::{Event, Refusal};
 use esx_tables::SiteTables;
 use esx_types::{Config, Level, VmId};
@@ -64,12 +67,23 @@ pub fn plan_event(
     requires rise { CanEpochsRise tables.now }
     ensures plans { Plans result (plan_of config.now tables.now level event.now) }
     ensures named { NamesVm event.now }
-    ensures planned { IsPlanned event.now }
 {
     names_vm(event);
     match event {
         Event::Admit { vm, spec } => plan_admit(tables, alloc, config, *vm, *spec),
         Event::Start { vm } => plan_start(tables, alloc, *vm),
+        Event::Read { vm, page, at, len } => {
+            plan_read(tables, alloc, config, level, *vm, *page, *at, *len)
+        }
+        Event::Write {
+            vm,
+            page,
+            at,
+            bytes,
+        } => {
+            let new = bytes.get().as_slice();
+            plan_write(tables, alloc, config, level, *vm, *page, *at, new)
+        }
         Event::Ask { vm } => plan_ask(tables, alloc, *vm),
         Event::Lend { vm, page } => plan_lend(tables, alloc, *vm, *page),
         Event::TakeBack { vm, page } => plan_take_back(tables, alloc, *vm, *page),
@@ -77,11 +91,15 @@ pub fn plan_event(
             plan_sample(tables, alloc, *vm, *length, words.get().as_slice())
         }
         Event::Rebalance => plan_rebalance(tables, alloc, config, level),
+        Event::Scan { vm, page } => plan_scan(tables, alloc, *vm, *page),
+        Event::SwapOut { vm, word } => plan_swap_out(tables, alloc, level, *vm, *word),
+        Event::Replace { vm, page, word } => {
+            plan_replace(tables, alloc, config, *vm, *page, *word)
+        }
         Event::SetShares { vm, shares } => plan_shares(tables, alloc, *vm, *shares),
         Event::SetTax { tau } => plan_tax(alloc, *tau),
         Event::Stop { vm } => plan_stop(tables, alloc, *vm),
         Event::DropPage { vm, page } => plan_drop_page(tables, alloc, *vm, *page),
         Event::Gone { vm } => plan_gone(tables, alloc, *vm),
-        _ => missing(),
     }
 }

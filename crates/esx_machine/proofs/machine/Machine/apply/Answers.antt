@@ -21,7 +21,7 @@ pub returns-in-Err : goal.returns-in-Err
 returns-in-Err c =
     let k : Kept = record { config = c.self.inside.config; level = c.self.inside.level; tables = c.self.inside.tables } in
     let P : Kept → Type 0 = λ k. (scene : Scene) → Shows k scene → Refuses k k c.in-Err.refusal (next k.config scene c.args.event.now) in
-    subst P c.self.view_is (refused k c.args.event.now c.in-Err.refusal c.in-Err.ensures.named c.in-Err.ensures.planned c.in-Err.ensures.plans)
+    subst P c.self.view_is (refused k c.args.event.now c.in-Err.refusal c.in-Err.ensures.named c.in-Err.ensures.plans)
 
 pub invariant_of-self : goal.invariant_of-self
 invariant_of-self c =
@@ -32,7 +32,7 @@ invariant_of-self c =
     let follows : level ≡ next_level k.config k.level (count_by is_free t.frames) =
     c.next-self-inside.ensures ∙ ap (λ (site : Config). next_level site k.level c.counts-free.result.free) c.of.ensures ∙ ap (λ (n : ℕ). next_level k.config k.level n) free in
     kept_after k c.args.event.now c.in-Ok.plan.answer c.in-Ok.plan.changes t c.exchange.new.back level c.self.invariant
-    (record { named = c.in-Ok.ensures.named; planned = c.in-Ok.ensures.planned; plan = c.in-Ok.ensures.plans; tables = c.exchange.ensures.tables; changes = c.exchange.ensures.back; follows = follows })
+    (record { named = c.in-Ok.ensures.named; plan = c.in-Ok.ensures.plans; tables = c.exchange.ensures.tables; changes = c.exchange.ensures.back; follows = follows })
 
 pub returns : goal.returns
 returns c =
@@ -44,4 +44,4 @@ returns c =
     c.next-self-inside.ensures ∙ ap (λ (site : Config). next_level site k.level c.counts-free.result.free) c.of.ensures ∙ ap (λ (n : ℕ). next_level k.config k.level n) free in
     let P : Kept → Type 0 = λ old. (scene : Scene) → Shows old scene → Accepts old (after k t level) c.in-Ok.plan.answer (back k c.exchange.new.back) (next old.config scene c.args.event.now) in
     subst P c.self.view_is (accepted k c.args.event.now c.in-Ok.plan.answer c.in-Ok.plan.changes t c.exchange.new.back level c.self.invariant
-    (record { named = c.in-Ok.ensures.named; planned = c.in-Ok.ensures.planned; plan = c.in-Ok.ensures.plans; tables = c.exchange.ensures.tables; changes = c.exchange.ensures.back; follows = follows }))
+    (record { named = c.in-Ok.ensures.named; plan = c.in-Ok.ensures.plans; tables = c.exchange.ensures.tables; changes = c.exchange.ensures.back; follows = follows }))

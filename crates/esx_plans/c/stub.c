@@ -1,1 +1,0 @@
-unsigned esx_stub(void) { return 0; }
