@@ -2,16 +2,16 @@
 use Rattle.std.proofs.Common.{◌≡◌, ◌≢◌, refl, sym, ◌∙◌, ap, subst, ℕ, List, [], ◌∷◌, ◌++◌, Option, Some, None, ◌⊎◌, inl, inr, append-nil, append_assoc}
 use Rattle.std.specs.List.{AllByRecursion}
 use Rattle.esx_types.specs.declared.config.Config.{Config}
-use Rattle.esx_types.specs.declared.event.Refusal.{Refusal}
-use Rattle.esx_types.specs.declared.event.Refusal.TheVariants.{NothingToUndo, NothingToRedo}
-use Rattle.esx_types.specs.declared.call.Call.{Call}
-use Rattle.esx_types.specs.declared.call.Call.TheVariants as calls
-use Rattle.esx_types.specs.declared.call.Said.TheVariants as said
-use Rattle.esx_types.specs.declared.call.Line.{Line}
-use Rattle.esx_plain.specs.History.{History, undo, redo, then_go}
-use Rattle.esx_plain.specs.Console.{Session, history, history_from, after, outcome, move_outcome, next_reply, lined, stand_of, AreReplies, IsLegal}
+use Rattle.esx_events.specs.declared.event.Refusal.{Refusal}
+use Rattle.esx_events.specs.declared.event.Refusal.TheVariants.{NothingToUndo, NothingToRedo}
+use Rattle.esx_events.specs.declared.call.Call.{Call}
+use Rattle.esx_events.specs.declared.call.Call.TheVariants as calls
+use Rattle.esx_events.specs.declared.call.Said.TheVariants as said
+use Rattle.esx_events.specs.declared.call.Line.{Line}
+use Rattle.esx_model.specs.History.{History, undo, redo, then_go}
+use Rattle.esx_model.specs.Console.{Session, history, history_from, after, outcome, move_outcome, next_reply, lined, stand_of, AreReplies, IsLegal}
 use Rattle.esx_journal.specs.Turns.{Turn, Undo, Redo, turn, turned}
-use Rattle.esx_console.specs.Calls.{Asked, opened_session, lined_all, MakesNoEvent}
+use Rattle.esx_console.specs.Calls.{Asked, opened_session, lined_all, TurnsOrAsks}
 use Rattle.esx_console.proofs.Logs.{lined_history, lined_legal}
 
 pub all_legal : (s : Session) (asked : List Asked) → IsLegal s → IsLegal (lined_all s asked)
@@ -94,7 +94,7 @@ redo_stays s caller k told = lined_history s caller (calls.Redo k) ∙ of (redo 
     of None e = refl
     of (Some t) e = cc
 
--- a call that is no event is a turn, or changes nothing
+-- such a call is a turn, or changes nothing
 abbrev OneTurn : History → Call → Type 0
 OneTurn h call = (after h call ≡ h) ⊎ ((x : Turn) × (turn x h ≡ Some (after h call)))
 
@@ -102,17 +102,26 @@ moved : (h : History) (call : Call) (x : Turn) (e : Refusal) (o : Option History
 moved h call x e (Some t) is to = inr (x, is ∙ ap (λ t. Some t) (sym to))
 moved h call x e None is to = inl to
 
-one_turn : (h : History) (call : Call) → MakesNoEvent call → OneTurn h call
+one_turn : (h : History) (call : Call) → TurnsOrAsks call → OneTurn h call
 unfolding outcome
 one_turn h (calls.Do e) ok = absurd ok
 one_turn h (calls.Undo k) ok = moved h (calls.Undo k) (Undo k) NothingToUndo (undo k h) refl refl
 one_turn h (calls.Redo k) ok = moved h (calls.Redo k) (Redo k) NothingToRedo (redo k h) refl refl
+one_turn h (calls.Goto n) ok = absurd ok
+one_turn h (calls.Visit name) ok = absurd ok
+one_turn h (calls.Mark name) ok = absurd ok
+one_turn h (calls.Prune n) ok = absurd ok
+one_turn h (calls.WhatIf es) ok = inl refl
 one_turn h calls.Sum ok = inl refl
+one_turn h calls.Table ok = inl refl
+one_turn h (calls.OfVm n) ok = inl refl
 one_turn h (calls.OfPage n page) ok = inl refl
+one_turn h (calls.Advise n page) ok = inl refl
 one_turn h calls.Stand ok = inl refl
+one_turn h calls.Marks ok = inl refl
 
--- calls with no event among them are turns
-pub all_turns : (s : Session) (asked : List Asked) → AllByRecursion (λ x. MakesNoEvent x.call) asked → (turns : List Turn) × (turned turns (history s) ≡ Some (history (lined_all s asked)))
+-- such calls are turns
+pub all_turns : (s : Session) (asked : List Asked) → AllByRecursion (λ x. TurnsOrAsks x.call) asked → (turns : List Turn) × (turned turns (history s) ≡ Some (history (lined_all s asked)))
 unfolding lined_all turned
 all_turns s [] ok = ([], refl)
 all_turns s (x ∷ later) ok = of (one_turn (history s) x.call ok.0) (all_turns (lined s x.caller x.call) later ok.1)

@@ -1,12 +1,12 @@
 -- Lists of calls, and what is said of them.
 use Rattle.std.specs.Prelude.{◌≡◌, ℕ, ◌-◌, List, [], ◌∷◌, length, take, Ok}
 use Rattle.esx_types.specs.declared.config.Config.{Config}
-use Rattle.esx_types.specs.declared.call.Call.{Call}
-use Rattle.esx_types.specs.declared.call.Call.TheVariants as calls
-use Rattle.esx_types.specs.declared.call.Said.{Said}
-use Rattle.esx_plain.specs.Replay.{replay_of}
-use Rattle.esx_plain.specs.History.{History, here, book_at}
-use Rattle.esx_plain.specs.Console.{Session, history, next_reply, lined, stand_of}
+use Rattle.esx_events.specs.declared.call.Call.{Call}
+use Rattle.esx_events.specs.declared.call.Call.TheVariants as calls
+use Rattle.esx_events.specs.declared.call.Said.{Said}
+use Rattle.esx_model.specs.Replay.{replay_of}
+use Rattle.esx_model.specs.History.{History, here, book_at}
+use Rattle.esx_model.specs.Console.{Session, history, next_reply, lined, stand_of}
 
 -- A call, and who makes it.
 pub record Asked : Type 0 where
@@ -34,14 +34,23 @@ depth_of s = length (here (history s))
 abbrev pub said_next : Session → Call → Said
 said_next s call = (next_reply s call).said
 
--- an undo, a redo or a question
-abbrev pub MakesNoEvent : Call → Type 0
-MakesNoEvent (calls.Do e) = ⊥
-MakesNoEvent (calls.Undo k) = Unit {0}
-MakesNoEvent (calls.Redo k) = Unit {0}
-MakesNoEvent calls.Sum = Unit {0}
-MakesNoEvent (calls.OfPage n page) = Unit {0}
-MakesNoEvent calls.Stand = Unit {0}
+-- an undo, a redo, a question or a try of events
+abbrev pub TurnsOrAsks : Call → Type 0
+TurnsOrAsks (calls.Do e) = ⊥
+TurnsOrAsks (calls.Undo k) = Unit {0}
+TurnsOrAsks (calls.Redo k) = Unit {0}
+TurnsOrAsks (calls.Goto n) = ⊥
+TurnsOrAsks (calls.Visit name) = ⊥
+TurnsOrAsks (calls.Mark name) = ⊥
+TurnsOrAsks (calls.Prune n) = ⊥
+TurnsOrAsks (calls.WhatIf events) = Unit {0}
+TurnsOrAsks calls.Sum = Unit {0}
+TurnsOrAsks calls.Table = Unit {0}
+TurnsOrAsks (calls.OfVm n) = Unit {0}
+TurnsOrAsks (calls.OfPage n page) = Unit {0}
+TurnsOrAsks (calls.Advise n page) = Unit {0}
+TurnsOrAsks calls.Stand = Unit {0}
+TurnsOrAsks calls.Marks = Unit {0}
 
 -- a line that undid k events: the reply tells where the cursor is, and the tables are those of the path without them
 pub record UndidLine (s after : Session) (k : ℕ) : Type 0 where

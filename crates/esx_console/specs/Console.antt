@@ -1,10 +1,10 @@
 -- What a console keeps.
-use Rattle.std.specs.Prelude.{◌≡◌, ℕ, ◌+◌, ◌≤◌, length, Bool, if◌then◌else◌}
+use Rattle.std.specs.Prelude.{◌≡◌, ℕ, ◌≤◌, length}
 use Rattle.esx_types.specs.Ranges.{IsConfig}
-use Rattle.esx_types.specs.declared.call.Call.{Call}
-use Rattle.esx_types.specs.declared.call.Said.{Said}
-use Rattle.esx_plain.specs.History.{History}
-use Rattle.esx_plain.specs.Console.{Session, history, IsLegal, outcome, after}
+use Rattle.esx_types.specs.declared.level.Level.{Level}
+use Rattle.esx_model.specs.Readings.{gauge_of}
+use Rattle.esx_model.specs.History.{book_at}
+use Rattle.esx_model.specs.Console.{Session, history, IsLegal}
 use Rattle.esx_journal.specs.Journal.{Kept, Holds}
 
 -- its log is legal, its journal and its count of jumps are those that the log leads to
@@ -15,9 +15,6 @@ pub record IsConsole (s : Session) (journal : Kept) (jumps : ℕ) : Type 0 where
   pub jumps_are : jumps ≡ (history s).jumps
   pub jumps_few : jumps ≤ length s.log
 
--- what a journal is left with by a call, and what is said to it, twice
-pub record Hears (new : Kept) (h : History) (call : Call) (said copy : Said) (jumped : Bool) : Type 0 where
-  pub holds : Holds new (after h call)
-  pub said_is : said ≡ (outcome h call).0
-  pub copy_is : copy ≡ (outcome h call).0
-  pub jumps : (after h call).jumps ≡ h.jumps + (if jumped then 1 else 0)
+-- the gauge of the tables after a session: the free frames and the level
+abbrev pub session_gauge : Session → ℕ × Level
+session_gauge s = ((gauge_of (book_at (history s))).free, (gauge_of (book_at (history s))).level)

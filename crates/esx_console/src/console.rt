@@ -2,15 +2,18 @@
 
 ghost use Rattle.std.specs.Prelude.{◌≡◌, ◌≢◌, ◌+◌, ◌<◌, ◌≤◌, ◌^◌, if◌then◌else◌, [], length, Ok, IfOk, IfErr, OnErr};
 ghost use Rattle.esx_types.specs.Ranges.{IsConfig};
-ghost use Rattle.esx_plain.specs.Replay.{replay_of};
-ghost use Rattle.esx_plain.specs.History.{here, book_at};
-ghost use Rattle.esx_plain.specs.Console.{history, next_reply, lined, gauge_of, IsLegal};
+ghost use Rattle.esx_model.specs.Replay.{replay_of};
+ghost use Rattle.esx_model.specs.History.{here, book_at};
+ghost use Rattle.esx_model.specs.Console.{history, next_reply, lined, IsLegal};
+ghost use Rattle.esx_machine.specs.Machine.{book_in};
+ghost use Rattle.esx_console.specs.Console.{session_gauge};
 
 use crate::hearing::hear;
+use esx_events::{Call, Line, Refusal, Reply};
 use esx_journal::Journal;
 use esx_machine::Machine;
-use esx_plain::Book;
-use esx_types::{Call, Config, Level, Line, Refusal, Reply};
+use esx_model::Book;
+use esx_types::{Config, Level};
 use std::alloc::{AllocError, Global};
 use std::marker::Model;
 
@@ -27,7 +30,7 @@ pub struct Console {
 }
 
 impl Model for Console {
-    ghost use Rattle.esx_plain.specs.Console.{Session};
+    ghost use Rattle.esx_model.specs.Console.{Session};
     ghost use Rattle.esx_console.specs.Console.{IsConsole};
 
     ghost Value = { Session };
@@ -60,7 +63,8 @@ impl Console {
         ensures legal { IsLegal self.new }
     {
         self.log.reserve(1)?;
-        let heard = hear(&mut self.journal, &call)?;
+        let alloc = *self.log.allocator();
+        let heard = hear(&mut self.journal, alloc, &call)?;
         let jumps = counted(self.jumps, heard.jumped);
         self.jumps = jumps;
         self.log.push_reserved(Line {
@@ -97,15 +101,15 @@ impl Console {
     #[tactic(auto, using(crate::proofs::Keeps::history_site))]
     pub fn machine(&self) -> &Machine
         ensures config { result.now.config ≡ self.now.site }
-        ensures tables { result.now.book ≡ book_at (history self.now) }
-        ensures replay { replay_of self.now.site (here (history self.now)) ≡ Ok result.now.book }
+        ensures tables { book_in result.now ≡ book_at (history self.now) }
+        ensures replay { replay_of self.now.site (here (history self.now)) ≡ Ok (book_in result.now) }
     {
         self.journal.machine()
     }
 
     /// How scarce frames are: how many are free, and the level.
     pub fn gauge(&self) -> (u32, Level)
-        ensures { result ≡ gauge_of self.now }
+        ensures { result ≡ session_gauge self.now }
     {
         let machine = self.machine();
         (machine.free(), machine.level())

@@ -2,14 +2,14 @@
 
 ghost use Rattle.std.specs.Prelude.{◌≡◌, ◌≢◌, ◌<◌, ◌≤◌, ◌+◌, ℕ, List, All, Ok};
 ghost use Rattle.esx_types.specs.declared.config.Config.{Config};
-ghost use Rattle.esx_types.specs.declared.event.Refusal.TheVariants.{NothingToUndo, NothingToRedo};
-ghost use Rattle.esx_types.specs.declared.call.Call.TheVariants.{Undo, Redo};
-ghost use Rattle.esx_types.specs.declared.call.Said.TheVariants.{Refused};
-ghost use Rattle.esx_plain.specs.Replay.{replay_of};
-ghost use Rattle.esx_plain.specs.History.{here, book_at};
-ghost use Rattle.esx_plain.specs.Console.{Session, IsLegal, history, lined, stand_of};
+ghost use Rattle.esx_events.specs.declared.event.Refusal.TheVariants.{NothingToUndo, NothingToRedo};
+ghost use Rattle.esx_events.specs.declared.call.Call.TheVariants.{Undo, Redo};
+ghost use Rattle.esx_events.specs.declared.call.Said.TheVariants.{Refused};
+ghost use Rattle.esx_model.specs.Replay.{replay_of};
+ghost use Rattle.esx_model.specs.History.{here, book_at};
+ghost use Rattle.esx_model.specs.Console.{Session, IsLegal, history, lined, stand_of};
 ghost use Rattle.esx_journal.specs.Turns.{IsSamePlace, Lengthens};
-ghost use Rattle.esx_console.specs.Calls.{Asked, opened_session, lined_all, history_of, depth_of, said_next, MakesNoEvent, UndidLine};
+ghost use Rattle.esx_console.specs.Calls.{Asked, opened_session, lined_all, history_of, depth_of, said_next, TurnsOrAsks, UndidLine};
 
 use crate::console::Console;
 use esx_journal::laws::{
@@ -74,21 +74,20 @@ pub fn undo_and_redo_lines()
     there_and_back();
 }
 
-/// Calls with no event among them, by any callers, that leave the cursor as deep as it was leave it at
-/// the same node, with the same path and tables.
+/// Undos, redos, questions and tries of events, by any callers, that leave the cursor as deep as it was leave
+/// it at the same node, with the same path and tables.
 pub fn calls_that_cancel()
-    ensures { (s : Session) (asked : List Asked) → All (λ x. MakesNoEvent x.call) asked → depth_of (lined_all s asked) ≡ depth_of s
+    ensures { (s : Session) (asked : List Asked) → All (λ x. TurnsOrAsks x.call) asked → depth_of (lined_all s asked) ≡ depth_of s
         → IsSamePlace (history s) (history (lined_all s asked)) }
 {
     turns_meet();
 }
 
-/// After calls with no event among them one redo, or one undo, of the events by which the depth differs
-/// leads back.
+/// After such calls one redo, or one undo, of the events by which the depth differs leads back.
 pub fn calls_then_back()
-    ensures by_redo { (s : Session) (asked : List Asked) (caller count : ℕ) → All (λ x. MakesNoEvent x.call) asked
+    ensures by_redo { (s : Session) (asked : List Asked) (caller count : ℕ) → All (λ x. TurnsOrAsks x.call) asked
         → depth_of (lined_all s asked) + count ≡ depth_of s → IsSamePlace (history s) (history (lined (lined_all s asked) caller (Redo count))) }
-    ensures by_undo { (s : Session) (asked : List Asked) (caller count : ℕ) → All (λ x. MakesNoEvent x.call) asked
+    ensures by_undo { (s : Session) (asked : List Asked) (caller count : ℕ) → All (λ x. TurnsOrAsks x.call) asked
         → depth_of (lined_all s asked) ≡ depth_of s + count → IsSamePlace (history s) (history (lined (lined_all s asked) caller (Undo count))) }
 {
     turns_add_up();

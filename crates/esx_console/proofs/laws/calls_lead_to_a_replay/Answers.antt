@@ -1,8 +1,8 @@
 use Rattle.std.proofs.Common.{◌∙◌, sym, ap}
 use Rattle.esx_types.specs.declared.config.Config.{Config}
-use Rattle.esx_plain.specs.Replay.{replay_of}
-use Rattle.esx_plain.specs.History.{here}
-use Rattle.esx_plain.specs.Console.{Session, history}
+use Rattle.esx_model.specs.Replay.{replay_of}
+use Rattle.esx_model.specs.History.{here}
+use Rattle.esx_model.specs.Console.{Session, history}
 use Rattle.esx_console.specs.Calls.{opened_session, lined_all}
 use Rattle.esx_console.proofs.Lines.{all_site}
 use Rattle.esx_console.proofs.Reaching.{session_reached, replayed}

@@ -1,7 +1,7 @@
 use Rattle.std.proofs.Common.{◌∙◌, sym, ap, subst}
-use Rattle.esx_types.specs.declared.call.Call.TheVariants as calls
-use Rattle.esx_plain.specs.History.{History}
-use Rattle.esx_plain.specs.Console.{history, stand_of}
+use Rattle.esx_events.specs.declared.call.Call.TheVariants as calls
+use Rattle.esx_model.specs.History.{History}
+use Rattle.esx_model.specs.Console.{history, stand_of}
 use Rattle.esx_journal.specs.Turns.{Lengthens}
 use Rattle.esx_console.proofs.Logs.{lined_history}
 use Rattle.esx_console.proofs.Lines.{redo_after, redo_goes, said_redone, redo_stays}

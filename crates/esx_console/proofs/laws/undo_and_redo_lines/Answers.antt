@@ -1,9 +1,9 @@
 use Rattle.std.proofs.Common.{◌≡◌, ◌∙◌, sym, ap, subst, Some, List, length}
-use Rattle.esx_types.specs.declared.event.Event.{Event}
-use Rattle.esx_types.specs.declared.call.Call.TheVariants as calls
-use Rattle.esx_types.specs.declared.call.Said.TheVariants as said
-use Rattle.esx_plain.specs.History.{History, cursor, here, redo}
-use Rattle.esx_plain.specs.Console.{Session, history, lined, stand_of}
+use Rattle.esx_events.specs.declared.event.Event.{Event}
+use Rattle.esx_events.specs.declared.call.Call.TheVariants as calls
+use Rattle.esx_events.specs.declared.call.Said.TheVariants as said
+use Rattle.esx_model.specs.History.{History, cursor, here, redo}
+use Rattle.esx_model.specs.Console.{Session, history, lined, stand_of}
 use Rattle.esx_journal.specs.Turns.{IsSamePlace}
 use Rattle.esx_console.proofs.Logs.{lined_history}
 use Rattle.esx_console.proofs.Lines.{undo_after, redo_after, said_redone}

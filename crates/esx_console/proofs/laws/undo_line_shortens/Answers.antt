@@ -1,9 +1,9 @@
 use Rattle.std.proofs.Common.{◌≡◌, ◌∙◌, sym, ap, ◌-◌, take, Ok}
 use Rattle.esx_types.specs.declared.config.Config.{Config}
-use Rattle.esx_types.specs.declared.call.Call.TheVariants as calls
-use Rattle.esx_plain.specs.Replay.{replay_of}
-use Rattle.esx_plain.specs.History.{History, here, book_at}
-use Rattle.esx_plain.specs.Console.{history, lined, stand_of}
+use Rattle.esx_events.specs.declared.call.Call.TheVariants as calls
+use Rattle.esx_model.specs.Replay.{replay_of}
+use Rattle.esx_model.specs.History.{History, here, book_at}
+use Rattle.esx_model.specs.Console.{history, lined, stand_of}
 use Rattle.esx_console.specs.Calls.{depth_of}
 use Rattle.esx_console.proofs.Keeps.{history_site}
 use Rattle.esx_console.proofs.Logs.{lined_history}

@@ -1,6 +1,6 @@
 use Rattle.std.proofs.Common.{◌≡◌, sym, ◌∙◌, ap, subst, ℕ}
-use Rattle.esx_types.specs.declared.call.Reply.{Reply}
-use Rattle.esx_plain.specs.Console.{Session, history, next_reply, lined, IsLegal}
+use Rattle.esx_events.specs.declared.call.Reply.{Reply}
+use Rattle.esx_model.specs.Console.{Session, history, next_reply, lined, IsLegal}
 use Rattle.esx_console.specs.Console.{IsConsole}
 use Rattle.esx_console.proofs.Logs.{heard_reply, keeps_line, kept_lines}
 use Rattle.esx_console.proofs.console.Console.call.Goals as goal
@@ -10,11 +10,11 @@ invariant_of-self-2 c =
     let s : Session = record { site = c.self.inside.site; log = c.self.inside.log.items } in
     let heard = c.in_ok-heard.heard in
     let hears = c.in_ok-heard.ensures.ok (history s) c.self.invariant.journal_holds in
-    let lines = kept_lines s _ _ _ c.args.caller c.args.call heard.said heard.copy heard.jumped c.counted-jumps.result _ _ c.self.invariant hears c.counted-jumps.ensures
+    let lines = kept_lines s _ _ _ c.args.caller c.args.call heard c.counted-jumps.result _ _ c.self.invariant hears c.counted-jumps.ensures
     c.in_ok-reserve.ensures.items c.push_reserved.ensures.items in
     let P : Session → Type 0 = λ t. IsConsole t c.hear.new.journal c.counted-jumps.result in
     let Q : ℕ → Type 0 = λ n. IsConsole (lined s c.args.caller c.args.call) c.hear.new.journal n in
-    subst P (sym lines) (subst Q (sym c.counted-jumps.ensures) (keeps_line s _ _ _ c.args.caller c.args.call heard.said heard.copy heard.jumped c.self.invariant hears))
+    subst P (sym lines) (subst Q (sym c.counted-jumps.ensures) (keeps_line s _ _ _ c.args.caller c.args.call heard c.self.invariant hears))
 
 pub returns-clause-ok : goal.returns-clause-ok
 returns-clause-ok c =
@@ -22,9 +22,9 @@ returns-clause-ok c =
     let heard = c.in_ok-heard.heard in
     let hears = c.in_ok-heard.ensures.ok (history s) c.self.invariant.journal_holds in
     let count : ◌≡◌ {A = Reply} (record { jumps = c.counted-jumps.result; said = heard.said }) _ = ap (λ n. record { jumps = n; said = heard.said }) c.counted-jumps.ensures in
-    let lines = kept_lines s _ _ _ c.args.caller c.args.call heard.said heard.copy heard.jumped c.counted-jumps.result _ _ c.self.invariant hears c.counted-jumps.ensures
+    let lines = kept_lines s _ _ _ c.args.caller c.args.call heard c.counted-jumps.result _ _ c.self.invariant hears c.counted-jumps.ensures
     c.in_ok-reserve.ensures.items c.push_reserved.ensures.items in (
-      count ∙ (heard_reply s _ _ _ c.args.call heard.said heard.copy heard.said heard.jumped c.self.invariant hears hears.said_is ∙ ap (λ t. next_reply t c.args.call) c.self.view_is),
+      count ∙ (heard_reply s _ _ _ c.args.call heard heard.said c.self.invariant hears hears.said_is ∙ ap (λ t. next_reply t c.args.call) c.self.view_is),
       lines ∙ ap (λ t. lined t c.args.caller c.args.call) c.self.view_is,
     )
 
@@ -33,6 +33,6 @@ returns-clause-legal c =
     let s : Session = record { site = c.self.inside.site; log = c.self.inside.log.items } in
     let heard = c.in_ok-heard.heard in
     let hears = c.in_ok-heard.ensures.ok (history s) c.self.invariant.journal_holds in
-    let lines = kept_lines s _ _ _ c.args.caller c.args.call heard.said heard.copy heard.jumped c.counted-jumps.result _ _ c.self.invariant hears c.counted-jumps.ensures
+    let lines = kept_lines s _ _ _ c.args.caller c.args.call heard c.counted-jumps.result _ _ c.self.invariant hears c.counted-jumps.ensures
     c.in_ok-reserve.ensures.items c.push_reserved.ensures.items in
-    subst IsLegal (sym lines) (keeps_line s _ _ _ c.args.caller c.args.call heard.said heard.copy heard.jumped c.self.invariant hears).legal
+    subst IsLegal (sym lines) (keeps_line s _ _ _ c.args.caller c.args.call heard c.self.invariant hears).legal

@@ -1,5 +1,5 @@
 use Rattle.std.proofs.Common.{◌∙◌, ap}
-use Rattle.esx_plain.specs.Console.{Session, history}
+use Rattle.esx_model.specs.Console.{Session, history}
 use Rattle.esx_machine.specs.Machine as machines
 use Rattle.esx_console.proofs.Keeps.{history_site}
 use Rattle.esx_console.proofs.console.Console.machine.Goals as goal

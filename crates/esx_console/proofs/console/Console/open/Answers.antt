@@ -1,5 +1,5 @@
 use Rattle.std.proofs.Common.{List, sym, subst}
-use Rattle.esx_types.specs.declared.call.Line.{Line}
+use Rattle.esx_events.specs.declared.call.Line.{Line}
 use Rattle.esx_console.specs.Console.{IsConsole}
 use Rattle.esx_console.proofs.Logs.{first_lines}
 use Rattle.esx_console.proofs.console.Console.open.Goals as goal

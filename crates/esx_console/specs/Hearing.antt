@@ -1,0 +1,32 @@
+-- What is heard of a journal at a call.
+use Rattle.std.specs.Prelude.{◌≡◌, ℕ, ◌+◌, Bool, Result, Ok, Err, if◌then◌else◌}
+use Rattle.esx_events.specs.declared.event.Refusal.{Refusal}
+use Rattle.esx_events.specs.declared.call.Call.{Call}
+use Rattle.esx_events.specs.declared.call.Said.{Said}
+use Rattle.esx_events.specs.declared.call.Said.TheVariants as said
+use Rattle.esx_events.specs.declared.call.Stand.{Stand}
+use Rattle.esx_model.specs.History.{History}
+use Rattle.esx_model.specs.Console.{outcome, after}
+use Rattle.esx_journal.specs.Journal.{Kept, Holds}
+use Rattle.esx_console.specs.declared.hearing.Heard.{Heard}
+
+-- what a journal is left with by a call, and what is said to it, twice
+pub record Hears (new : Kept) (h : History) (call : Call) (heard : Heard) : Type 0 where
+  pub holds : Holds new (after h call)
+  pub said_is : heard.said ≡ (outcome h call).0
+  pub copy_is : heard.copy ≡ (outcome h call).0
+  pub jumps : (after h call).jumps ≡ h.jumps + (if heard.jumped then 1 else 0)
+
+-- the same for the caller and for the log
+abbrev pub twice : Said → Bool → Heard
+twice s jumped = record { said = s; copy = s; jumped = jumped }
+
+-- to a move
+abbrev pub move_said : Result Stand Refusal → Said
+move_said (Ok stand) = said.Stand stand
+move_said (Err e) = said.Refused e
+
+-- to a prune
+abbrev pub prune_said : Result ℕ Refusal → Said
+prune_said (Ok count) = said.Pruned count
+prune_said (Err e) = said.Refused e
