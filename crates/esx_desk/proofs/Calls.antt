@@ -1,8 +1,8 @@
 -- What a console's call leaves of a log.
 use Rattle.std.proofs.Common.{◌≡◌, ℕ, [], ◌∷◌, ◌++◌, Result, Ok, Err, IfOk, OnErr, ap, sym, ◌∙◌}
-use Rattle.esx_types.specs.declared.call.Call.{Call}
-use Rattle.esx_types.specs.declared.call.Reply.{Reply}
-use Rattle.esx_plain.specs.Console.{Session, next_reply, lined}
+use Rattle.esx_events.specs.declared.call.Call.{Call}
+use Rattle.esx_events.specs.declared.call.Reply.{Reply}
+use Rattle.esx_model.specs.Console.{Session, next_reply, lined}
 use Rattle.esx_desk.specs.Told.{line}
 
 -- what a console's call says

@@ -2,7 +2,7 @@
 use Rattle.std.proofs.Common.{◌≡◌, ◌∙◌, ℕ, sym, List, All, get_or}
 use Rattle.std.proofs.lemmas.Option.{slice_get-get_or}
 use Rattle.esx_types.specs.declared.config.Config.{Config}
-use Rattle.esx_types.specs.declared.call.Line.{Line}
+use Rattle.esx_events.specs.declared.call.Line.{Line}
 use Rattle.esx_lock.specs.Passes.{LockView, Known, AreOpened}
 use Rattle.esx_desk.specs.Told.{IsOf}
 

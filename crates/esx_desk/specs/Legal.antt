@@ -3,11 +3,12 @@ use Rattle.std.specs.Prelude.{◌≡◌, ℕ, List, [], ◌∷◌, ◌++◌}
 use Rattle.std.specs.Coded.{×_prop, Unit-prop}
 use Rattle.std.proofs.Props.{props}
 use Rattle.esx_types.specs.declared.config.Config.{Config}
-use Rattle.esx_types.specs.declared.call.Reply.{Reply}
-use Rattle.esx_types.specs.declared.call.Line.{Line}
+use Rattle.esx_events.specs.declared.call.Reply.{Reply}
+use Rattle.esx_events.specs.declared.call.Line.{Line}
 use Rattle.esx_types.specs.declared.level.Level.{Level}
-use Rattle.esx_plain.specs.History.{History, opened}
-use Rattle.esx_plain.specs.Console.{Session, after, reply_to, gauge_of, AreReplies, IsLegal}
+use Rattle.esx_model.specs.History.{History, opened}
+use Rattle.esx_model.specs.Console.{Session, after, reply_to, AreReplies, IsLegal}
+use Rattle.esx_console.specs.Console.{session_gauge}
 
 abbrev pub session : Config → List Line → Session
 session site log = record { site = site; log = log }
@@ -16,7 +17,7 @@ abbrev pub legal_for : Config → List Line → Type 0
 legal_for site log = IsLegal (session site log)
 
 abbrev pub gauge_for : Config → List Line → ℕ × Level
-gauge_for site log = gauge_of (session site log)
+gauge_for site log = session_gauge (session site log)
 
 replies_begin : (h : History) (log later : List Line) → AreReplies h (log ++ later) → AreReplies h log
 replies_begin h [] later are = tt

@@ -1,10 +1,10 @@
 -- What a desk's calls tell a pass.
 use Rattle.std.specs.Prelude.{◌≡◌, ℕ, ◌%◌, ◌⊎◌, true, false, List, [], ◌∷◌, ◌++◌}
-use Rattle.esx_types.specs.declared.call.Call.{Call}
-use Rattle.esx_types.specs.declared.call.Reply.{Reply}
-use Rattle.esx_types.specs.declared.call.Line.{Line}
+use Rattle.esx_events.specs.declared.call.Call.{Call}
+use Rattle.esx_events.specs.declared.call.Reply.{Reply}
+use Rattle.esx_events.specs.declared.call.Line.{Line}
 use Rattle.esx_types.specs.Ids.{IsLeast}
-use Rattle.esx_plain.specs.Console.{next_reply}
+use Rattle.esx_model.specs.Console.{next_reply}
 use Rattle.esx_lock.specs.declared.view.Hold.TheVariants.{Free}
 use Rattle.esx_lock.specs.declared.view.View.{View}
 use Rattle.esx_lock.specs.Logs.{OthersOf, Follows}

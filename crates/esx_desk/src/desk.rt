@@ -3,7 +3,7 @@
 ghost use Rattle.std.specs.Prelude.{◌≡◌, ℕ, ◌<◌, ◌≤◌, ◌%◌, ◌≢◌, ◌&&◌, ◌||◌, ◌↔◌, ◌++◌, ◌∷◌, not, true, false, [], length, All, IsTrue, IfOk, IfErr, OnErr};
 ghost use Rattle.esx_types.specs.Ranges.{IsConfig};
 ghost use Rattle.esx_types.specs.Ids.{has};
-ghost use Rattle.esx_plain.specs.Console.{next_reply};
+ghost use Rattle.esx_model.specs.Console.{next_reply};
 ghost use Rattle.esx_lock.specs.declared.view.Hold.TheVariants.{Held};
 ghost use Rattle.esx_lock.specs.Words.{word_for};
 ghost use Rattle.esx_lock.specs.Passes.{SomeId, IsSame, IsAlike, Meet, AreOpened};
@@ -13,8 +13,9 @@ ghost use Rattle.esx_desk.specs.declared.desk.TryFault.TheVariants as faults;
 
 use crate::legal::LegalConsole;
 use esx_console::Console;
+use esx_events::{Call, Refusal, Reply};
 use esx_lock::{Busy, Gauge, OwnLock, Pass};
-use esx_types::{CALLERS, Call, Config, Ids, Refusal, Reply};
+use esx_types::{CALLERS, Config, Ids};
 use std::alloc::{AllocError, Global};
 use std::marker::Model;
 use std::sync::Wait;

@@ -1,11 +1,11 @@
 //! Laws of what passes know.
 
 ghost use Rattle.std.specs.Prelude.{◌≡◌, ℕ, List};
-ghost use Rattle.esx_types.specs.declared.call.Call.{Call};
-ghost use Rattle.esx_types.specs.declared.call.Reply.{Reply};
+ghost use Rattle.esx_events.specs.declared.call.Call.{Call};
+ghost use Rattle.esx_events.specs.declared.call.Reply.{Reply};
 ghost use Rattle.esx_lock.specs.declared.view.View.{View};
 ghost use Rattle.esx_lock.specs.Passes.{IsWhole};
-ghost use Rattle.esx_plain.specs.Console.{next_reply, lined};
+ghost use Rattle.esx_model.specs.Console.{next_reply, lined};
 ghost use Rattle.esx_desk.specs.Legal.{session};
 ghost use Rattle.esx_desk.specs.Told.{Adds};
 

@@ -1,14 +1,15 @@
 //! The console that a desk's lock keeps.
 
 ghost use Rattle.std.specs.Prelude.{◌≡◌, ◌++◌, ◌∷◌, [], IfOk, OnErr};
-ghost use Rattle.esx_plain.specs.History.{opened};
-ghost use Rattle.esx_plain.specs.Console.{next_reply, IsLegal};
+ghost use Rattle.esx_model.specs.History.{opened};
+ghost use Rattle.esx_model.specs.Console.{next_reply, IsLegal};
 ghost use Rattle.esx_desk.specs.Legal.{AreReplies-prop};
 ghost use Rattle.esx_desk.specs.Told.{line};
 
 use esx_console::Console;
+use esx_events::{Call, Reply};
 use esx_lock::Gauged;
-use esx_types::{Call, Level, Reply};
+use esx_types::Level;
 use std::alloc::AllocError;
 
 /// A console, and that its log is legal.

@@ -1,7 +1,7 @@
 use Rattle.std.proofs.Common.{◌∙◌, ap, refl, List, [], ◌∷◌, ◌++◌}
-use Rattle.esx_types.specs.declared.call.Line.{Line}
-use Rattle.esx_types.specs.declared.call.Reply.{Reply}
-use Rattle.esx_plain.specs.Console.{next_reply}
+use Rattle.esx_events.specs.declared.call.Line.{Line}
+use Rattle.esx_events.specs.declared.call.Reply.{Reply}
+use Rattle.esx_model.specs.Console.{next_reply}
 use Rattle.esx_desk.specs.Legal.{session}
 use Rattle.esx_desk.specs.Told.{line}
 use Rattle.esx_desk.proofs.laws.whole_pass_has_a_console.Goals as goal

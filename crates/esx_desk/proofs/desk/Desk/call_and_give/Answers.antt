@@ -1,5 +1,5 @@
 use Rattle.std.proofs.Common.{sym, ap}
-use Rattle.esx_plain.specs.Console.{Session}
+use Rattle.esx_model.specs.Console.{Session}
 use Rattle.esx_lock.proofs.Grown.{grows_one}
 use Rattle.esx_desk.specs.Told.{line}
 use Rattle.esx_desk.proofs.desk.Desk.call_and_give.Goals as goal
