@@ -3,7 +3,7 @@ use Rattle.std.proofs.Common.{◌≡◌, ℕ, ◌≤◌, ◌<◌, true, false, t
 use Rattle.std.proofs.lemmas.List.{append_cancel_left}
 use mathlib.Core.List.{IsPrefix}
 use Rattle.esx_types.specs.declared.ids.Ids.{Ids}
-use Rattle.esx_types.specs.declared.call.Line.{Line}
+use Rattle.esx_events.specs.declared.call.Line.{Line}
 use Rattle.esx_types.specs.Ids.{has}
 use Rattle.esx_lock.specs.Logs.{Callers, OthersOf, Follows}
 

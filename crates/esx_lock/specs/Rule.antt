@@ -5,7 +5,7 @@ use mathlib.Core.Option as optional
 use lib.ListN.{get_elem?}
 use Rattle.atomic_table.specs.Table.{State}
 use Rattle.esx_types.specs.declared.ids.Ids.{Ids}
-use Rattle.esx_types.specs.declared.call.Line.{Line}
+use Rattle.esx_events.specs.declared.call.Line.{Line}
 use Rattle.esx_types.specs.declared.level.Level.{Level}
 use Rattle.esx_types.specs.declared.config.Config.{Config}
 use Rattle.esx_types.specs.Ids.{has, no_ids}

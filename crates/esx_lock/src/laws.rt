@@ -1,7 +1,7 @@
 //! Laws of what passes know.
 
 ghost use Rattle.std.specs.Prelude.{◌≡◌, List};
-ghost use Rattle.esx_types.specs.declared.call.Line.{Line};
+ghost use Rattle.esx_events.specs.declared.call.Line.{Line};
 ghost use Rattle.esx_lock.specs.declared.view.View.{View};
 ghost use Rattle.esx_lock.specs.Logs.{Follows};
 ghost use Rattle.esx_lock.specs.Passes.{IsWhole};

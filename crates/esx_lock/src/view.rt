@@ -1,6 +1,7 @@
 //! What a pass knows. Clauses name these types; no value of them is made.
 
-use esx_types::{Config, Ids, Line};
+use esx_events::Line;
+use esx_types::{Config, Ids};
 use std::collections::LinkedList;
 
 /// Does a pass hold the lock? It is `Moving` inside `take` and `give` alone, while the slot of the value is

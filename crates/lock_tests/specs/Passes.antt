@@ -1,6 +1,6 @@
 -- Passes of a lock between its calls.
 use Rattle.std.specs.Prelude.{◌≡◌, ℕ, List, [], ◌∷◌, ◌++◌}
-use Rattle.esx_types.specs.declared.call.Line.{Line}
+use Rattle.esx_events.specs.declared.call.Line.{Line}
 use Rattle.esx_types.specs.Ids.{IsLeast}
 use Rattle.esx_lock.specs.declared.view.View.{View}
 use Rattle.esx_lock.specs.declared.view.Hold.TheVariants.{Free}

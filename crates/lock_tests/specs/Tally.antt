@@ -1,9 +1,9 @@
 -- What a tally's log says.
 use Rattle.std.specs.Prelude.{ℕ, ◌-◌, ◌==◌, List, length, cond}
-use Rattle.esx_types.specs.declared.call.Line.{Line}
-use Rattle.esx_types.specs.declared.call.Call.TheVariants.{Stand}
-use Rattle.esx_types.specs.declared.call.Said.TheVariants.{Refused}
-use Rattle.esx_types.specs.declared.event.Refusal.TheVariants.{Full}
+use Rattle.esx_events.specs.declared.call.Line.{Line}
+use Rattle.esx_events.specs.declared.call.Call.TheVariants.{Stand}
+use Rattle.esx_events.specs.declared.call.Said.TheVariants.{Refused}
+use Rattle.esx_events.specs.declared.event.Refusal.TheVariants.{Full}
 use Rattle.esx_types.specs.declared.level.Level.{Level}
 use Rattle.esx_types.specs.declared.level.Level.TheVariants.{High, Soft}
 use Rattle.esx_types.specs.declared.config.Config.{Config}

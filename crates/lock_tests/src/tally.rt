@@ -4,7 +4,8 @@ ghost use Rattle.std.specs.Prelude.{◌≡◌, ◌++◌, ◌∷◌, [], OnOk, On
 ghost use Rattle.lock_tests.specs.Tally.{line_of};
 
 use esx_lock::Gauged;
-use esx_types::{Call, Config, Level, Line, Refusal, Reply, Said};
+use esx_events::{Call, Line, Refusal, Reply, Said};
+use esx_types::{Config, Level};
 use std::alloc::{AllocError, Global};
 
 /// Lines that callers number as they like. At a site with no frames none is ever free and the level is `High`;

@@ -1,7 +1,7 @@
 use Rattle.std.proofs.Common.{◌≡◌, ◌<◌, ◌||◌, ◌++◌, ◌∷◌, [], List, ℕ, zero, suc, Bool, true, arith, ap, subst, ◌∙◌, ⊎_elim}
 use Rattle.std.proofs.Math.Bool.{or-true}
 use Rattle.esx_types.specs.declared.ids.Ids.{Ids}
-use Rattle.esx_types.specs.declared.call.Line.{Line}
+use Rattle.esx_events.specs.declared.call.Line.{Line}
 use Rattle.esx_types.specs.Ids.{has}
 use Rattle.esx_lock.proofs.Grown.{grows_one}
 use Rattle.lock_tests.specs.Tally.{line_of}
