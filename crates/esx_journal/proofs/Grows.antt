@@ -14,7 +14,8 @@ use Rattle.esx_model.specs.Tree.{Node, Move, Up, Down, parent, alive, path, on_w
 use Rattle.esx_model.specs.History.{History, cursor, here, opened, done, answered, do_event, child, if_alive, down_once, down_to, then_go, redone, redo, scene_or, scene_at, book_at}
 use Rattle.esx_machine.specs.Machine as machines
 use Rattle.esx_machine.specs.Machine.{Back}
-use Rattle.esx_machine.specs.Machine.{Shows, Trades, Accepts, Refuses, CanEpochsRise, book_in}
+use Rattle.esx_machine.specs.Machine.{Shows, Trades, Accepts, Refuses, book_in}
+use Rattle.esx_plans.specs.plan.Balloon.{CanEpochsRise}
 use Rattle.esx_model.specs.Show.{shown}
 use Rattle.esx_model.specs.Epochs.{AreEpochsWithin}
 use Rattle.esx_model.proofs.Callers.{later_within, path_within}

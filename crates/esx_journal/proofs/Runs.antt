@@ -15,7 +15,8 @@ use Rattle.esx_model.specs.Replay.{opening, next, after_one, run, run_from}
 use Rattle.esx_model.specs.History.{scene_or}
 use Rattle.esx_model.proofs.Callers.{book_read, shown_within}
 use Rattle.esx_machine.specs.Machine as machines
-use Rattle.esx_machine.specs.Machine.{Shows, CanEpochsRise, book_in}
+use Rattle.esx_machine.specs.Machine.{Shows, book_in}
+use Rattle.esx_plans.specs.plan.Balloon.{CanEpochsRise}
 use Rattle.esx_journal.specs.Journal.{kept_of, kept_after, IsAccepted}
 
 went_on : (i : ℕ) (o : Result (Answer × Scene) Refusal) (go : Scene → Result Scene (ℕ × Refusal)) (u : Scene) → after_one i o go ≡ Ok u → (r : Answer × Scene) × (o ≡ Ok r) × (go r.1 ≡ Ok u)

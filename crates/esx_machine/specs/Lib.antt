@@ -5,5 +5,6 @@ pub use Rattle.esx_model.specs.Advice
 pub use Rattle.esx_model.specs.Site
 pub use Rattle.esx_model.specs.Tables
 pub use Rattle.esx_tables.specs.Changes
+pub use Rattle.esx_plans.specs.plan.Balloon
 pub mod Machine
 pub mod Questions
