@@ -20,7 +20,7 @@ use esx_model::Site;
 use esx_types::{Config, Level};
 use std::alloc::Global;
 
-/// The number of the machine that an event names, if it names one.
+/// The number of the machine that an event names, if it names one. Each arm stands alone, so that a proof sees the event.
 fn number_in(event: &Event) -> Option<u8>
     ensures { NamesVm event.now }
 {

@@ -136,7 +136,6 @@ fn part(alloc: Global, bytes: &[u8], at: usize, len: usize) -> Result<Answer, Al
 }
 
 /// A page comes to a place by an access.
-
 fn after_access(
     alloc: Global,
     config: &Config,
