@@ -2,15 +2,16 @@
 
 ghost use Rattle.std.specs.Prelude.{◌≡◌, [], IfOk};
 ghost use Rattle.esx_desk.specs.Told.{IsOf};
-ghost use Rattle.esx_plain.specs.Console.{lined};
-ghost use Rattle.esx_types.specs.declared.call.Call.TheVariants.{Sum};
+ghost use Rattle.esx_model.specs.Console.{lined};
+ghost use Rattle.esx_events.specs.declared.call.Call.TheVariants.{Sum};
 ghost use Rattle.desk_tests.specs.declared.calls.TheConstants.{SITE};
 
 use crate::calls::{SITE, admit, guest, read, start, write};
 use esx_console::Console;
 use esx_desk::laws::whole_pass_has_a_console;
 use esx_desk::{Desk, Gate, Gauge, Pass, TryFault};
-use esx_types::{Answer, Call, Ids, Refusal, Reply, Said};
+use esx_events::{Answer, Call, Refusal, Reply, Said};
+use esx_types::Ids;
 use std::alloc::{AllocError, Global};
 use std::sync::Wait;
 use std::sync::atomic::{AtomicU64, Ordering};
@@ -134,7 +135,7 @@ fn first_byte(reply: &Reply) -> Option<u8> {
     match &reply.said {
         Said::Done {
             answer: Answer::Bytes { bytes },
-        } => bytes.as_slice().first().copied(),
+        } => bytes.get().as_slice().first().copied(),
         _ => None,
     }
 }

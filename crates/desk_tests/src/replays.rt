@@ -3,7 +3,8 @@
 use crate::calls::{SITE, nth_call};
 use esx_console::Console;
 use esx_desk::Gauge;
-use esx_types::{Call, Level, Line, Refusal, Reply};
+use esx_events::{Call, Line, Refusal, Reply};
+use esx_types::Level;
 use std::alloc::{AllocError, Global};
 
 /// The callers 0 to 7 alone are known here.

@@ -5,7 +5,8 @@ use crate::crowd::{TURNS, share};
 use crate::plays::{alone, closed, goes_on, parts_and_meets, read_byte, started, write_and_look};
 use crate::replays::{callers_of, count_of, gauges_along, in_order};
 use esx_desk::Gauge;
-use esx_types::{Level, Refusal};
+use esx_events::Refusal;
+use esx_types::Level;
 use std::test::Fail;
 
 #[test]

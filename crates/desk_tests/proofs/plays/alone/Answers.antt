@@ -1,7 +1,7 @@
 use Rattle.std.proofs.Common.{◌≡◌, ◌∙◌, ◌<◌, ℕ, true, subst, arith}
-use Rattle.esx_types.specs.declared.call.Call.TheVariants.{Sum}
+use Rattle.esx_events.specs.declared.call.Call.TheVariants.{Sum}
 use Rattle.esx_types.specs.Ids.{has}
-use Rattle.esx_plain.specs.Console.{lined}
+use Rattle.esx_model.specs.Console.{lined}
 use Rattle.esx_lock.specs.Passes.{IsWhole}
 use Rattle.esx_desk.specs.Legal.{session}
 use Rattle.desk_tests.proofs.Popped.{one_popped}
