@@ -47,8 +47,8 @@ sound_readable : (c : Config) (s : Site) → IsSound c s → AreReadable (tables
 sound_readable c s sound = record {
   vms = length-map s.vms (option_map vm_table) ∙ sound.vms;
   each = λ n row there.
-    let found = some_row (vm_at s n) row (sym (row_there c s n) ∙ there) in
-    subst IsReadable (sym found.2) (row_readable c found.0 (sound.each n found.0 found.1));
+      let found = some_row (vm_at s n) row (sym (row_there c s n) ∙ there) in
+      subst IsReadable (sym found.2) (row_readable c found.0 (sound.each n found.0 found.1));
   tau = sound.tau;
 }
 
