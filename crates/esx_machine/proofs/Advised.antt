@@ -1,22 +1,17 @@
 -- Advice by the raw tables is the advice of the scene that they show.
-use Rattle.std.proofs.Common.{zero, suc, ◌≡◌, ℕ, ◌+◌, Bool, true, false, ◌&&◌, ◌||◌, not, nat_lt, List, [], ◌∷◌, map, count_by, length, refl, sym, ap, ◌∙◌, subst, cond, Option, Some, None, Ok, Err, ◌==◌, Result}
+use Rattle.std.proofs.Common.{◌≡◌, ℕ, Bool, true, false, ◌&&◌, ◌||◌, not, nat_lt, List, [], ◌∷◌, map, refl, ap, ◌∙◌, cond, Option, Some, None, Ok, Result}
 use Rattle.std.specs.Option.{option_map, is_some}
 use Rattle.std.specs.List.{list_any}
 use Rattle.esx_types.specs.declared.config.Config.{Config}
 use Rattle.esx_types.specs.declared.level.Level.{Level}
 use Rattle.esx_types.specs.declared.table.FrameRow.{FrameRow}
-use Rattle.esx_types.specs.declared.table.MapRow.{MapRow}
-use Rattle.esx_types.specs.Frames.{frame_at, ref_count, least_frame}
+use Rattle.esx_types.specs.Frames.{ref_count, least_frame}
 use Rattle.esx_types.specs.Pages.{page_at}
 use Rattle.esx_events.specs.declared.call.Help.{Help}
 use Rattle.esx_events.specs.declared.call.Help.TheVariants as helps
 use Rattle.esx_events.specs.declared.event.Refusal.{Refusal}
-use Rattle.esx_formulas.specs.declared.activity.Estimate.{Estimate}
-use Rattle.esx_formulas.specs.declared.activity.Period.{Period}
 use Rattle.esx_formulas.specs.declared.targets.Row.{Row}
-use Rattle.esx_formulas.specs.Average.{slow_average, fast_average, is_touched, so_far, active_share}
 use Rattle.esx_formulas.specs.Targets.{first_claim}
-use Rattle.esx_model.specs.declared.book.Mark.{Mark}
 use Rattle.esx_model.specs.declared.book.VmRow.{VmRow}
 use Rattle.esx_model.specs.declared.look.Standing.{Standing}
 use Rattle.esx_model.specs.declared.scene.Place.{Place}
@@ -25,18 +20,13 @@ use Rattle.esx_model.specs.declared.scene.Vm.{Vm}
 use Rattle.esx_model.specs.declared.scene.Site.{Site}
 use Rattle.esx_model.specs.declared.scene.Scene.{Scene}
 use Rattle.esx_model.specs.declared.tables.Tables.{Tables}
-use Rattle.esx_model.specs.Site.{vm_at, place_at, least_free, pages_at}
-use Rattle.esx_model.specs.Show.{period_row}
-use Rattle.esx_model.specs.Tables.{raw_place, vm_table, standing_of, tables_of}
-use Rattle.esx_model.specs.Readings.{period_so_far, active_now}
+use Rattle.esx_model.specs.Site.{vm_at, place_at, pages_at}
+use Rattle.esx_model.specs.Tables.{raw_place, vm_table, tables_of}
 use Rattle.esx_model.specs.Advice.{can_write, help_by, target_of, help_for, help_at, advice}
 use Rattle.esx_model.specs.event.Outcome.{unless, standing, page_gate}
 use Rattle.esx_model.specs.event.Access.{is_blocked, write_frame}
 use Rattle.esx_model.specs.event.Paging.{has_more, is_above_min}
-use Rattle.esx_model.specs.event.Rebalancing.{active, row_of_vm, rows_from, rows_of}
 use Rattle.esx_model.specs.sound.Sound.{IsSound}
-use Rattle.esx_model.proofs.Callers.{counts_same}
-use Rattle.std.proofs.lemmas.List.{length-map}
 use Rattle.esx_tables.specs.Readings.{row_at}
 use Rattle.esx_plans.proofs.Refining.{row_there, page_row, standing_shown}
 use Rattle.esx_plans.proofs.Found.{frame_found}

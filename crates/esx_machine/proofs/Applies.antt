@@ -1,5 +1,5 @@
 -- An event on a machine is the model's event on the scene that the machine shows.
-use Rattle.std.proofs.Common.{◌≡◌, List, refl, sym, ap, ◌∙◌, subst, Result, Ok, Err}
+use Rattle.std.proofs.Common.{◌≡◌, List, refl, sym, ap, ◌∙◌, subst, Ok, Err}
 use Rattle.std.specs.Result.{IsOk}
 use Rattle.std.specs.List.{count_by}
 use Rattle.esx_types.specs.declared.config.Config.{Config}
@@ -18,7 +18,7 @@ use Rattle.esx_model.specs.Tables.{tables_of}
 use Rattle.esx_model.specs.event.Outcome.{Outcome}
 use Rattle.esx_model.specs.Step.{step}
 use Rattle.esx_model.specs.Replay.{next, settled}
-use Rattle.esx_model.specs.sound.Sound.{IsSound, NamesVm}
+use Rattle.esx_model.specs.sound.Sound.{NamesVm}
 use Rattle.esx_model.proofs.Callers.{every_event_sound, free_rows}
 use Rattle.esx_tables.specs.declared.change.Change.{Change}
 use Rattle.esx_tables.specs.Changes.{exchanged}
@@ -26,7 +26,7 @@ use Rattle.esx_tables.proofs.Back.{exchanged_back}
 use Rattle.esx_plans.specs.plan.Planned.{Planned, Makes, Refines}
 use Rattle.esx_plans.specs.plan.Event.{ArePlannable, plan_of}
 use Rattle.esx_plans.proofs.refines.Event.{plannable, plan_refines}
-use Rattle.esx_machine.specs.Machine.{Kept, IsKept, Shows, Back, flipped, Trades, Accepts, Refuses}
+use Rattle.esx_machine.specs.Machine.{Kept, IsKept, Shows, Back, Trades, Accepts, Refuses}
 
 -- what plans rest on
 pub kept_plannable : (k : Kept) → IsKept k → ArePlannable k.config k.tables

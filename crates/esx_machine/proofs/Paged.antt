@@ -1,11 +1,9 @@
 -- Where a page is, by the raw tables and by the book.
-use Rattle.std.proofs.Common.{zero, suc, ◌≡◌, ℕ, Bool, true, false, ◌==◌, List, [], ◌∷◌, get_or, map, refl, sym, ap, ◌∙◌, subst, cond, nat_le, Option, Some, None, Result, Ok, Err}
+use Rattle.std.proofs.Common.{zero, suc, ◌≡◌, ℕ, Bool, true, false, ◌==◌, List, [], ◌∷◌, map, refl, sym, ap, ◌∙◌, subst, cond, nat_le, Option, Some, None, Result, Ok, Err}
 use Rattle.std.specs.Option.{option_map}
 use Rattle.std.specs.List.{list_any}
 use Rattle.esx_types.specs.declared.config.Config.{Config}
 use Rattle.esx_types.specs.declared.level.Level.{Level}
-use Rattle.esx_types.specs.declared.table.FrameRow.{FrameRow}
-use Rattle.esx_types.specs.declared.table.Hint.{Hint}
 use Rattle.esx_types.specs.declared.table.MapRow.{MapRow}
 use Rattle.esx_types.specs.declared.table.MapRow.TheVariants as maps
 use Rattle.esx_types.specs.Frames.{frame_at}
@@ -16,7 +14,6 @@ use Rattle.esx_events.specs.declared.call.PageState.TheVariants as states
 use Rattle.esx_events.specs.declared.event.Refusal.{Refusal}
 use Rattle.esx_events.specs.declared.event.Refusal.TheVariants.{OutOfRange}
 use Rattle.esx_model.specs.declared.book.Book.{Book}
-use Rattle.esx_model.specs.declared.book.VmRow.{VmRow}
 use Rattle.esx_model.specs.declared.scene.Place.{Place}
 use Rattle.esx_model.specs.declared.scene.Place.TheVariants.{Untouched, Here, Out, Lent}
 use Rattle.esx_model.specs.declared.scene.Vm.{Vm}

@@ -2,8 +2,6 @@
 use Rattle.std.proofs.Common.{zero, suc, ◌≡◌, ℕ, ◌+◌, ◌^◌, ◌<◌, Bool, true, false, List, [], ◌∷◌, length, get_or, map, count_by, refl, sym, ap, ◌∙◌, subst, cond, Option, Some, None, ◌==◌, Result, Ok, Err}
 use Rattle.std.specs.Option.{option_map}
 use Rattle.std.specs.Result.{IfOk}
-use Rattle.std.proofs.lemmas.List.FromFn.{length-map-range_with_len}
-use Rattle.esx_types.specs.declared.config.Config.{Config}
 use Rattle.esx_types.specs.declared.level.Level.{Level}
 use Rattle.esx_types.specs.declared.table.MapRow.{MapRow}
 use Rattle.esx_types.specs.declared.table.MapRow.TheVariants.{Untouched, Here, Out, Lent}
@@ -16,7 +14,6 @@ use Rattle.esx_model.specs.declared.scene.Scene.{Scene}
 use Rattle.esx_model.specs.declared.tables.Tables.{Tables}
 use Rattle.esx_model.specs.Site.{free_count}
 use Rattle.esx_model.specs.Readings.{sum_of, AddUpTo, activity, activity_of, table_row, table_from, table_of}
-use Rattle.esx_model.specs.Show.{frame_row}
 use Rattle.esx_model.specs.Tables.{tables_of, read_place, read_vm, book_from}
 use Rattle.esx_model.proofs.Callers.{book_read, counts_same, free_rows, frames_counted, some_below}
 use Rattle.esx_tables.specs.Readings.{row_at}

@@ -1,23 +1,20 @@
 -- What the tables of every sound site have on which questions rest.
-use Rattle.std.proofs.Common.{zero, suc, ◌≡◌, ℕ, ◌≤◌, Bool, List, [], ◌∷◌, length, map, refl, sym, ap, ◌∙◌, subst, arith, Option, Some, None}
+use Rattle.std.proofs.Common.{◌≡◌, ℕ, map, refl, sym, ◌∙◌, subst, arith, Option, Some, None}
 use Rattle.std.specs.Option.{option_map}
 use Rattle.std.proofs.lemmas.List.{length-map}
 use Rattle.std.proofs.lemmas.List.Sums.{count_by-le-length}
 use Rattle.esx_types.specs.declared.config.Config.{Config}
 use Rattle.esx_formulas.specs.declared.activity.Period.{Period}
 use Rattle.esx_formulas.specs.Average.{is_touched}
-use Rattle.esx_formulas.specs.Estimates.{IsEstimate}
 use Rattle.esx_model.specs.declared.book.Mark.{Mark}
 use Rattle.esx_model.specs.declared.book.VmRow.{VmRow}
 use Rattle.esx_model.specs.declared.scene.Vm.{Vm}
 use Rattle.esx_model.specs.declared.scene.Site.{Site}
-use Rattle.esx_model.specs.declared.tables.Tables.{Tables}
 use Rattle.esx_model.specs.Site.{vm_at}
 use Rattle.esx_model.specs.Show.{period_row}
 use Rattle.esx_model.specs.Tables.{vm_table, tables_of}
 use Rattle.esx_model.specs.sound.Machines.{IsVm, IsPeriodOrNone}
 use Rattle.esx_model.specs.sound.Sound.{IsSound}
-use Rattle.esx_tables.specs.Readings.{row_at}
 use Rattle.esx_plans.proofs.Refining.{row_there}
 use Rattle.esx_machine.specs.Machine.{Kept, IsKept}
 use Rattle.esx_machine.specs.Questions.{CanTell, IsReadable, AreReadable}
@@ -47,8 +44,8 @@ sound_readable : (c : Config) (s : Site) → IsSound c s → AreReadable (tables
 sound_readable c s sound = record {
   vms = length-map s.vms (option_map vm_table) ∙ sound.vms;
   each = λ n row there.
-    let found = some_row (vm_at s n) row (sym (row_there c s n) ∙ there) in
-    subst IsReadable (sym found.2) (row_readable c found.0 (sound.each n found.0 found.1));
+      let found = some_row (vm_at s n) row (sym (row_there c s n) ∙ there) in
+      subst IsReadable (sym found.2) (row_readable c found.0 (sound.each n found.0 found.1));
   tau = sound.tau;
 }
 

@@ -1,5 +1,5 @@
 -- What questions read of the raw tables, and what the tables of every sound site have on which they rest. No public clause cites this module.
-use Rattle.std.specs.Prelude.{◌≡◌, ℕ, ◌+◌, ◌≤◌, ◌==◌, Bool, true, false, ◌&&◌, not, is_some, nat_lt, nat_le, List, [], ◌∷◌, length, Option, Some, None, if◌then◌else◌, Result, Ok, Err}
+use Rattle.std.specs.Prelude.{◌≡◌, ℕ, ◌≤◌, ◌==◌, Bool, true, false, ◌&&◌, not, is_some, nat_lt, nat_le, List, [], ◌∷◌, length, Option, Some, None, if◌then◌else◌, Result, Ok, Err}
 use Rattle.std.specs.List.{list_any}
 use Rattle.esx_types.specs.declared.config.TheConstants.{VM_NUMBERS}
 use Rattle.esx_types.specs.declared.level.Level.{Level}
@@ -9,7 +9,7 @@ use Rattle.esx_types.specs.declared.table.MapRow.{MapRow}
 use Rattle.esx_types.specs.declared.table.MapRow.TheVariants as maps
 use Rattle.esx_types.specs.Frames.{frame_at, ref_count, least_frame}
 use Rattle.esx_types.specs.Listings.{listing_at}
-use Rattle.esx_types.specs.Pages.{page_at, resident_count}
+use Rattle.esx_types.specs.Pages.{page_at}
 use Rattle.esx_events.specs.declared.call.Help.{Help}
 use Rattle.esx_events.specs.declared.call.Help.TheVariants as helps
 use Rattle.esx_events.specs.declared.call.PageState.{PageState}
@@ -25,7 +25,7 @@ use Rattle.esx_model.specs.declared.book.PeriodRow.{PeriodRow}
 use Rattle.esx_model.specs.declared.book.VmRow.{VmRow}
 use Rattle.esx_model.specs.declared.tables.Tables.{Tables}
 use Rattle.esx_model.specs.Tables.{standing_of}
-use Rattle.esx_model.specs.Readings.{active_now, period_so_far, state_in, table_row}
+use Rattle.esx_model.specs.Readings.{period_so_far, state_in, table_row}
 use Rattle.esx_model.specs.Advice.{help_by}
 use Rattle.esx_model.specs.event.Access.{is_blocked}
 use Rattle.esx_model.specs.event.Outcome.{unless, page_gate}

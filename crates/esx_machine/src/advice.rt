@@ -51,9 +51,7 @@ fn has_frame(tables: &SiteTables, row: MapRow) -> bool
     ensures { result ≡ is_some (written_frame tables.now row) }
 {
     match row {
-        MapRow::Here { frame } => {
-            users(tables, frame) <= 1 || tables.least_frame().is_some()
-        }
+        MapRow::Here { frame } => { users(tables, frame) <= 1 || tables.least_frame().is_some() }
         _ => tables.least_frame().is_some(),
     }
 }
@@ -177,12 +175,7 @@ fn help_from(tables: &SiteTables, level: Level, vm: &VmTable, page: u32) -> Help
 }
 
 /// What lets a write to a page go on, or why the machine can make none.
-pub fn advise(
-    tables: &SiteTables,
-    level: Level,
-    vm: VmId,
-    page: u32,
-) -> Result<Help, Refusal>
+pub fn advise(tables: &SiteTables, level: Level, vm: VmId, page: u32) -> Result<Help, Refusal>
     requires { AreReadable tables.now }
     ensures { result ≡ advice_from tables.now level page (row_at tables.now vm) }
 {

@@ -18,7 +18,12 @@ fn touched(period: &PeriodRow) -> u32
     requires { IsEstimate (period_so_far period.now) }
     ensures { result ≡ (period_so_far period.now).touched }
 {
-    period.marks.as_slice().iter().filter(|mark| mark.touched).count() as u32
+    period
+        .marks
+        .as_slice()
+        .iter()
+        .filter(|mark| mark.touched)
+        .count() as u32
 }
 
 /// How many pages a period samples.

@@ -32,11 +32,7 @@ fn table_row(vm: VmId, row: &VmTable) -> TableRow
 }
 
 /// Adds the line of a place of a machine, if there is one.
-fn add_line(
-    rows: &mut Vec<TableRow>,
-    number: usize,
-    vm: &Option<VmTable>,
-) -> Result<(), AllocError>
+fn add_line(rows: &mut Vec<TableRow>, number: usize, vm: &Option<VmTable>) -> Result<(), AllocError>
     requires number { number < VM_NUMBERS }
     requires vm { (v : VmRow) → vm.now ≡ Some v → IsReadable v }
     ensures { OnOk result (rows.new.items ≡ rows.old.items ++ line_of number vm.now) }

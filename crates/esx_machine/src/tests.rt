@@ -3,10 +3,9 @@ ghost use Rattle.esx_model.specs.declared.book.VmRow.{VmRow};
 ghost use Rattle.esx_plans.specs.plan.Balloon.{CanEpochsRise};
 
 use crate::machine::Machine;
-use esx_events::{Answer, Event, PageState};
+use esx_events::{Answer, Event};
 use esx_model::VmRow;
 use esx_types::{Config, VmId, VmSpec};
-use std::alloc::Global;
 use std::process::Abort;
 use std::test::Fail;
 
@@ -57,44 +56,18 @@ fn opens_with_ample_memory(rt: HostRuntime) -> Result<(), Fail> {
     Ok(())
 }
 
-/// A site with one machine, which runs.
-fn running(rt: &impl Abort, alloc: Global, vm: VmId) -> Result<Machine, Fail> {
-    let mut machine = Machine::open(alloc, SITE)?;
-    expect_rise(rt, &machine)?;
-    let (answer, _) = machine.apply(&Event::Admit { vm, spec: SPEC })?;
-    assert!(rt;
-        matches!(
-            &answer,
-            Answer::Admitted {
-                memory: 3,
-                frames: 20,
-                swap: 4,
-                slots: 8
-            }
-        )
-    );
-    expect_rise(rt, &machine)?;
-    let (answer, _) = machine.apply(&Event::Start { vm })?;
-    assert!(rt; matches!(&answer, Answer::Started { running: true, .. }));
-    Ok(machine)
+/// What one event answers.
+fn answer(rt: &impl Abort, machine: &mut Machine, event: &Event) -> Result<Answer, Fail> {
+    expect_rise(rt, machine)?;
+    let (answer, _) = machine.apply(event)?;
+    Ok(answer)
 }
 
 #[test]
-fn reads_with_ample_memory(rt: HostRuntime) -> Result<(), Fail> {
+fn admits_with_ample_memory(rt: HostRuntime) -> Result<(), Fail> {
     let vm = VmId::new(0).ok_or("vm")?;
-    let mut machine = running(&rt, rt.alloc(), vm)?;
-    expect_rise(&rt, &machine)?;
-    let read = Event::Read {
-        vm,
-        page: 0,
-        at: 0,
-        len: 1,
-    };
-    let (answer, record) = machine.apply(&read)?;
-    assert!(rt; matches!(&answer, Answer::Bytes { .. }));
-    assert_eq!(rt; record.size().targets, 0);
-    assert_eq!(rt; machine.of_page(vm, 0)?, PageState::Private { frame: 1 });
-    assert_eq!(rt; machine.of_vm(vm)?.slow, 65536);
-    assert_eq!(rt; machine.table()?.len(), 1);
+    let mut machine = Machine::open(rt.alloc(), SITE)?;
+    let admitted = answer(&rt, &mut machine, &Event::Admit { vm, spec: SPEC })?;
+    assert!(rt; matches!(&admitted, Answer::Admitted { memory: 3, .. }));
     Ok(())
 }

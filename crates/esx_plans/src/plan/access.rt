@@ -90,12 +90,7 @@ fn overwritten(alloc: Global, old: &[u8], at: usize, new: &[u8]) -> Result<Bytes
 }
 
 /// Zeros with some bytes written over.
-fn zeros_overwritten(
-    alloc: Global,
-    page: usize,
-    at: usize,
-    new: &[u8],
-) -> Result<Bytes, AllocError>
+fn zeros_overwritten(alloc: Global, page: usize, at: usize, new: &[u8]) -> Result<Bytes, AllocError>
     requires { at + length new.now ≤ page }
     ensures { IfOk result (λ bytes. bytes ≡ overwritten (replicate page 0) at new.now) }
 {

@@ -1,4 +1,4 @@
-use Rattle.std.proofs.Common.{◌≡◌, List, get_or, sym, ap, ◌∙◌, arith, Option, None}
+use Rattle.std.proofs.Common.{List, get_or, sym, ap, ◌∙◌, arith, Option, None}
 use Rattle.esx_model.specs.declared.book.VmRow.{VmRow}
 use Rattle.esx_machine.proofs.Loops.{claim_first, item_there}
 use Rattle.esx_machine.proofs.advice.first_row.Goals as goal

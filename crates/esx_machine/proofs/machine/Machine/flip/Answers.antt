@@ -1,4 +1,4 @@
-use Rattle.std.proofs.Common.{◌≡◌, subst, sym, refl}
+use Rattle.std.proofs.Common.{◌≡◌, subst, sym}
 use Rattle.esx_machine.specs.Machine.{Kept, Back, flipped, Trades, turned}
 use Rattle.esx_machine.proofs.Flips.{two_steps, flip_kept, flip_leads}
 use Rattle.esx_machine.proofs.machine.Machine.flip.Goals as goal
