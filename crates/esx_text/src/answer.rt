@@ -6,14 +6,14 @@ ghost use Rattle.esx_model.specs.Console.{Session};
 ghost use Rattle.esx_text.specs.Lines.{Keeps, IsSilent};
 ghost use Rattle.esx_text.specs.Answers.{IsAsked, IsServed, write_faults};
 
-use esx_words::parse_command;
 use crate::fault::ServeFault;
-use esx_replies::write_reply;
-use esx_writing::{AnswerBuffer, Piece, write_pieces};
 use esx_console::Console;
-use esx_reading::TextFault;
 use esx_events::Call;
+use esx_reading::TextFault;
+use esx_replies::write_reply;
 use esx_types::Sink;
+use esx_words::parse_command;
+use esx_writing::{AnswerBuffer, Piece, write_pieces};
 use std::alloc::{AllocError, Global};
 
 /// The longest line of a command, in bytes.

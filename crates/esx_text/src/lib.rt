@@ -8,7 +8,7 @@ mod line;
 mod service;
 
 pub use esx_reading::TextFault;
-pub use fault::ServeFault;
 pub use esx_replies::print_reply;
 pub use esx_words::{parse_command, print_command};
+pub use fault::ServeFault;
 pub use service::{give_up, serve};

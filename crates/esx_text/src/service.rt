@@ -10,9 +10,9 @@ ghost use Rattle.esx_text.specs.Answers.{Progress, Answers, Stops, Faults, Reach
 use crate::answer::{Asked, answer_line};
 use crate::fault::ServeFault;
 use crate::line::{LineBuffer, split_line, without_return};
-use esx_writing::AnswerBuffer;
 use esx_console::Console;
 use esx_types::{Sink, SinkFailed, Source};
+use esx_writing::AnswerBuffer;
 use std::alloc::{AllocError, Global};
 
 /// How many bytes are read at once.

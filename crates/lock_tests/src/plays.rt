@@ -7,9 +7,9 @@ ghost use Rattle.lock_tests.specs.Passes.{IsIdle, Wrote};
 ghost use Rattle.lock_tests.specs.Tally.{line_of};
 
 use crate::tally::Tally;
+use esx_events::Line;
 use esx_lock::laws::whole_pass_has_seen_all;
 use esx_lock::{Busy, OwnLock, Pass};
-use esx_events::Line;
 use esx_types::{Config, Ids};
 use std::alloc::{AllocError, Global};
 use std::sync::Wait;

@@ -3,8 +3,8 @@
 ghost use Rattle.std.specs.Prelude.{◌≡◌, ◌++◌, ◌∷◌, [], OnOk, OnErr};
 ghost use Rattle.lock_tests.specs.Tally.{line_of};
 
-use esx_lock::Gauged;
 use esx_events::{Call, Line, Refusal, Reply, Said};
+use esx_lock::Gauged;
 use esx_types::{Config, Level};
 use std::alloc::{AllocError, Global};
 
