@@ -1,6 +1,7 @@
 //! Worked examples, each through the whole console. What they answer was worked out by hand.
 
 mod ends;
+mod mechanisms;
 mod opening;
 
 ghost use Rattle.std.specs.Prelude.{◌≡◌, ◌≤◌};
