@@ -1,9 +1,0 @@
-//! What is run of the desk.
-#![tactic(auto)]
-
-pub mod calls;
-pub mod crowd;
-pub mod plays;
-pub mod replays;
-#[cfg(test)]
-mod tests;
