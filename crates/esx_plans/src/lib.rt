@@ -5,6 +5,3 @@ pub mod laws;
 pub mod plan;
 
 pub use plan::Plan;
-
-#[cfg(test)]
-mod tests;
