@@ -6,3 +6,4 @@ pub mod Drawn
 pub mod Counted
 pub mod Rows
 pub mod refines
+pub mod OnePage

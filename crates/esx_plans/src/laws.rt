@@ -20,7 +20,7 @@ ghost use Rattle.esx_plans.specs.plan.Planned.{Refines};
 ghost use Rattle.esx_plans.specs.plan.Leaving.{stop_plan};
 ghost use Rattle.esx_plans.specs.plan.Rebalancing.{tax_plan, shares_plan};
 ghost use Rattle.esx_plans.specs.plan.Starting.{start_plan};
-ghost use Rattle.esx_plans.specs.plan.Sharing.{look_in, scan_plan, HasCounts};
+ghost use Rattle.esx_plans.specs.plan.Sharing.{look_in, scan_plan, HasCounts, PlansOnePage};
 ghost use Rattle.esx_plans.specs.plan.Paging.{swap_out_plan};
 
 /// What gates read of a machine's row is what they read of the machine.
@@ -61,4 +61,10 @@ pub fn scan_refines()
 /// The plan of a page that is paged out does to the tables of a sound site what the event does to the site.
 pub fn swap_out_refines()
     ensures { (c : Config) (s : Site) (level : Level) (n word : ℕ) → IsSound c s → Refines c s (swap_out_plan (tables_of c s) level n word) (swap_out c s level n word) }
+{}
+
+/// Neither the changes of a scan or of a page that is paged out nor those that lead back hold more than one page of bytes.
+pub fn records_hold_one_page()
+    ensures scan { (c : Config) (s : Site) (n page : ℕ) → IsSound c s → PlansOnePage c (tables_of c s) (scan_plan (tables_of c s) n page) }
+    ensures swap_out { (c : Config) (s : Site) (level : Level) (n word : ℕ) → IsSound c s → PlansOnePage c (tables_of c s) (swap_out_plan (tables_of c s) level n word) }
 {}

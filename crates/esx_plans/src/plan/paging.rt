@@ -29,7 +29,7 @@ fn is_too_early(level: Level, row: &Standing) -> bool
 
 /// The page that a word draws from those of a machine that are in frames.
 #[tactic(auto, using(crate::proofs::Drawn::draws_page, crate::proofs::Drawn::draws_nothing))]
-fn drawn_page(row: &VmTable, word: u64) -> Option<u32>
+pub fn drawn_page(row: &VmTable, word: u64) -> Option<u32>
     ensures { result ≡ drawn_page row.now word }
 {
     let resident = row.standing().resident;
