@@ -146,19 +146,19 @@ pair_held t n page f g key =
     let b = (join_held (traded t (ListingAt g (listings.Shared key))).0 n page f g 2).1 in
     (refl, omega (arith, a, b))
 
-hints_held : (t : Tables) (n page f key : ℕ) → held (back t (ListingAt f (listings.Hinted n page key) ∷ [])) ≡ 0
+one_hint_held : (t : Tables) (n page f key : ℕ) → held (back t (ListingAt f (listings.Hinted n page key) ∷ [])) ≡ 0
 unfolding traded
-hints_held t n page f key =
+one_hint_held t n page f key =
     let a = back_held t (ListingAt f (listings.Hinted n page key)) [] in
     let b = nothing_held (traded t (ListingAt f (listings.Hinted n page key))).0 in
     omega (arith, a, b)
 
 hint_held : (t : Tables) (n page f key : ℕ) (o : Option ℕ) → (held (hint_changes n page f key o) ≡ 0) × (held (back t (hint_changes n page f key o)) ≡ 0)
 unfolding traded
-hint_held t n page f key None = (refl, hints_held t n page f key)
+hint_held t n page f key None = (refl, one_hint_held t n page f key)
 hint_held t n page f key (Some g) =
     let a = back_held t (ListingAt g listings.Unlisted) (ListingAt f (listings.Hinted n page key) ∷ []) in
-    let b = hints_held (traded t (ListingAt g listings.Unlisted)).0 n page f key in
+    let b = one_hint_held (traded t (ListingAt g listings.Unlisted)).0 n page f key in
     (refl, omega (arith, a, b))
 
 move_held : (t : Tables) (n page f i : ℕ) → (held (move_changes n page f i) ≡ 0) × (held (back t (move_changes n page f i)) ≡ 0)

@@ -66,7 +66,7 @@ trade_frame fs f slot bytes inside row free =
     let last : Both = (fs, slot) in
     ap (λ b. cond b (made (frame_at fs f) slot) last) (lt-ltb f (length fs) inside) ∙ ap (λ r. made r slot) row ∙ ap (made (frames.Private bytes)) free
 
-trade_within : (fs : List FrameRow) (ss : List SlotRow) (f i : ℕ) (bytes : List ℕ) → f < length fs → i < length ss → frame_at fs f ≡ frames.Private bytes → slot_at ss i ≡ slots.Free
+pub trade_within : (fs : List FrameRow) (ss : List SlotRow) (f i : ℕ) (bytes : List ℕ) → f < length fs → i < length ss → frame_at fs f ≡ frames.Private bytes → slot_at ss i ≡ slots.Free
     → slots_traded f i fs ss ≡ (set fs f frames.Free, set ss i (slots.Held bytes))
 unfolding slots_traded
 trade_within fs ss f i bytes frame slot row free =
@@ -75,14 +75,14 @@ trade_within fs ss f i bytes frame slot row free =
     let last : Both = (fs, ss) in
     ap (λ b. cond b (made (slot_traded_at f fs (slot_at ss i))) last) (lt-ltb i (length ss) slot) ∙ ap made (trade_frame fs f (slot_at ss i) bytes frame row free)
 
-move_made : (t : Tables) (n page f i : ℕ) (bytes : List ℕ) (r : VmRow) → row_at t n ≡ Some r → f < length t.frames → i < length t.slots → frame_at t.frames f ≡ frames.Private bytes → slot_at t.slots i ≡ slots.Free
+pub move_made : (t : Tables) (n page f i : ℕ) (bytes : List ℕ) (r : VmRow) → row_at t n ≡ Some r → f < length t.frames → i < length t.slots → frame_at t.frames f ≡ frames.Private bytes → slot_at t.slots i ≡ slots.Free
     → (exchanged t (move_changes n page f i)).0 ≡ out_tables t n page f i bytes frames.Free (set t.listings f listings.Unlisted) r
 unfolding exchanged traded
 move_made t n page f i bytes r there frame slot row free =
     ap (λ (x : List FrameRow × List SlotRow). (exchanged (record t { frames = x.0; slots = x.1; listings = set t.listings f listings.Unlisted }) (OfVm n (PageAt page (maps.Out i)) ∷ [])).0) (trade_within t.frames t.slots f i bytes frame slot row free)
     ∙ parts_made (record t { frames = set t.frames f frames.Free; slots = set t.slots i (slots.Held bytes); listings = set t.listings f listings.Unlisted }) n r (PageAt page (maps.Out i) ∷ []) there
 
-copy_made : (t : Tables) (n page f i count less : ℕ) (bytes : List ℕ) (r : VmRow) → row_at t n ≡ Some r → frame_at t.frames f ≡ frames.Shared count bytes
+pub copy_made : (t : Tables) (n page f i count less : ℕ) (bytes : List ℕ) (r : VmRow) → row_at t n ≡ Some r → frame_at t.frames f ≡ frames.Shared count bytes
     → (exchanged t (copy_changes n page f i less bytes)).0 ≡ out_tables t n page f i bytes (frames.Shared less bytes) t.listings r
 unfolding exchanged traded
 copy_made t n page f i count less bytes r there row =
@@ -107,7 +107,7 @@ free_slot c s i found =
     (known.0, is_free (slot_at (tables_of c s).slots i) known.1)
 
 -- the tables after it
-out_shown : (c : Config) (s : Site) (n page : ℕ) (v : Vm) (bytes : List ℕ) (f : ℕ) (shared : Bool) (i : ℕ) (row : FrameRow) → GoesOut c s n page v bytes f shared i → frame_at (tables_of c s).frames f ≡ row
+pub out_shown : (c : Config) (s : Site) (n page : ℕ) (v : Vm) (bytes : List ℕ) (f : ℕ) (shared : Bool) (i : ℕ) (row : FrameRow) → GoesOut c s n page v bytes f shared i → frame_at (tables_of c s).frames f ≡ row
     → tables_of c (placed s n page (Out bytes i)) ≡ out_tables (tables_of c s) n page f i bytes (less row) (set (tables_of c s).listings f (listing_after (less row) (listing_at (tables_of c s).listings f))) (vm_table v)
 out_shown c s n page v bytes f shared i row g at =
     let t : Tables = tables_of c s in

@@ -206,8 +206,8 @@ marked_joins c s n page v bytes f m q g sound there below was sees =
       },
     )
 
-same_some : (r x : VmRow) → Some r ≡ Some x → r ≡ x
-same_some r x h = cc
+some_row : (r x : VmRow) → Some r ≡ Some x → r ≡ x
+some_row r x h = cc
 
 pair_shown : (c : Config) (s : Site) (n page : ℕ) (v : Vm) (bytes : List ℕ) (f m q g : ℕ) → IsSound c s → vm_at s n ≡ Some v → page < v.spec.max → place_at v page ≡ Here bytes f false → SeesPage s n page bytes m q g → g ≢ f
     → tables_of c (placed (placed s m q (Here bytes g true)) n page (Here bytes g true))
@@ -219,7 +219,7 @@ pair_shown c s n page v bytes f m q g sound there below was sees apart =
     let u = joins.0 in
     let marked = marked_shown c s n page m q bytes g sound sees in
     let same : vm_table u ≡ vm_table v =
-    same_some (vm_table u) (vm_table v) (sym (row_is c mid n u joins.1) ∙ ap (λ (x : Tables). row_at x n) marked ∙ row_is c s n v there) in
+    some_row (vm_table u) (vm_table v) (sym (row_is c mid n u joins.1) ∙ ap (λ (x : Tables). row_at x n) marked ∙ row_is c s n v there) in
     let twice : set (set (set t.frames g (frames.Shared 1 bytes)) f frames.Free) g (frames.Shared 2 bytes) ≡ set (set t.frames f frames.Free) g (frames.Shared 2 bytes) =
     ap (λ (fs : List FrameRow). set fs g (frames.Shared 2 bytes)) (set_comm t.frames g f (frames.Shared 1 bytes) frames.Free apart)
     ∙ set-set (set t.frames f frames.Free) g (frames.Shared 1 bytes) (frames.Shared 2 bytes) in
@@ -243,9 +243,9 @@ pairs_make c s n page v bytes f m q g sound there below was sees =
 
 -- A page becomes the hint under its key.
 
-no_twice : {X Y Z : Type 0} (f : X → Y) (g : Y → Z) (xs : List X) → map (λ x. g (f x)) xs ≡ map g (map f xs)
-no_twice f g [] = refl
-no_twice {Z = Z} f g (x ∷ xs) = ap (λ (zs : List Z). g (f x) ∷ zs) (no_twice f g xs)
+map_twice : {X Y Z : Type 0} (f : X → Y) (g : Y → Z) (xs : List X) → map (λ x. g (f x)) xs ≡ map g (map f xs)
+map_twice f g [] = refl
+map_twice {Z = Z} f g (x ∷ xs) = ap (λ (zs : List Z). g (f x) ∷ zs) (map_twice f g xs)
 
 unhinted : (key : ℕ) (l : Listing) → is_hinted_under key l ≡ false → listing_without key l ≡ l
 unhinted key listings.Unlisted h = refl
@@ -264,10 +264,10 @@ unlisted (Some g) ls = set ls g listings.Unlisted
 
 one_goes : (c : Config) (s : Site) (key : ℕ) (o : Option ℕ) → IsOnly (is_hinted_under key) (listing_row s) c.frames o → map (listing_without key) (listing_rows c.frames s) ≡ unlisted o (listing_rows c.frames s)
 one_goes c s key None only =
-    sym (no_twice (listing_row s) (listing_without key) (range_with_len 0 c.frames))
+    sym (map_twice (listing_row s) (listing_without key) (range_with_len 0 c.frames))
     ∙ rows_same (listing_row s) (λ f. listing_without key (listing_row s f)) 0 c.frames (λ f. unhinted key (listing_row s f) (only f))
 one_goes c s key (Some g) only =
-    sym (no_twice (listing_row s) (listing_without key) (range_with_len 0 c.frames))
+    sym (map_twice (listing_row s) (listing_without key) (range_with_len 0 c.frames))
     ∙ rows_move (listing_row s) (λ f. listing_without key (listing_row s f)) g c.frames listings.Unlisted listings.Unlisted (hint_goes key (listing_row s g) only.1)
     (λ f other. unhinted key (listing_row s f) (of f other (is_hinted_under key (listing_row s f)) refl)) only.0
   where

@@ -55,14 +55,14 @@ abbrev pub look_by_key : Tables → ℕ → ℕ → List ℕ → ℕ → Option 
 look_by_key t n page bytes key (Some g) = look_at_shared bytes (bytes_of (frame_at t.frames g)) g
 look_by_key t n page bytes key None = look_at_hint t n page bytes key (position_from (is_hinted_under key) 0 t.listings)
 
--- by the row of the page's frame: a page that is not private is looked for no more
+-- by the row of the page's frame: only a private page is looked for
 unfoldable pub look_in : Tables → ℕ → ℕ → FrameRow → Look
 look_in t n page frames.Free = Already
 look_in t n page frames.Overhead = Already
 look_in t n page (frames.Private bytes) = look_by_key t n page bytes (content_key bytes) (position_from (is_shared_under (content_key bytes)) 0 t.listings)
 look_in t n page (frames.Shared count bytes) = Already
 
--- the key of a private page; no other page is looked for, and none needs one
+-- the key of a private page; no other page needs one
 abbrev pub key_in : FrameRow → ℕ
 key_in frames.Free = 0
 key_in frames.Overhead = 0
@@ -107,7 +107,7 @@ look_said t Nothing = scanned.Hinted
 
 -- The scan.
 
--- a page that looks found in frame f
+-- the answer of a look at a page in frame f, and its changes
 abbrev pub looked : Tables → ℕ → ℕ → ℕ → ℕ → Look → Planned
 looked t n page f key l = Ok (answers.Looked (look_said t l), look_changes t n page f key l)
 
