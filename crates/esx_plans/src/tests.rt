@@ -1,3 +1,5 @@
+mod leaving;
+
 use crate::plan::rebalancing::plan_tax;
 use std::test::Fail;
 
