@@ -1,3 +1,4 @@
+mod balloon;
 mod leaving;
 
 use crate::plan::rebalancing::plan_tax;

@@ -5,7 +5,7 @@ use esx_types::{Config, MapRow, VmId, VmSpec, VmState};
 use std::alloc::Global;
 use std::test::Fail;
 
-const SITE: Config = Config {
+pub const SITE: Config = Config {
     frames: 20,
     page: 16,
     slots: 8,
@@ -17,12 +17,12 @@ const SITE: Config = Config {
     nodes: 16777216,
 };
 
-const SMALL: VmSpec = VmSpec {
+pub const SMALL: VmSpec = VmSpec {
     min: 2,
     max: 6,
     overhead: 1,
     shares: 1000,
-    balloon_max: 0,
+    balloon_max: 3,
 };
 
 /// Tables with one machine, which stops and has no frame.
