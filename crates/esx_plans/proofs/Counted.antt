@@ -1,7 +1,6 @@
 -- An access is counted in a machine's row as it is in the machine.
 use Rattle.std.proofs.Common.{◌≡◌, ℕ, ◌+◌, Bool, true, false, ◌&&◌, ◌||◌, not, ◌==◌, nat_lt, List, [], ◌∷◌, ◌++◌, length, get_or, set, map, count_by, refl, sym, ap, ◌∙◌, arith, cond, Option, Some, None, append_assoc, length-append}
 use Rattle.std.proofs.Math.Seq.{get_or-append_seam, set-append_seam}
-use Rattle.std.specs.List.{list_any}
 use Rattle.std.proofs.lemmas.List.{length-map}
 use Rattle.std.proofs.lemmas.List.Folds.{list_any-append}
 use Rattle.esx_lists.specs.Trades.{in_turn}
@@ -18,10 +17,9 @@ use Rattle.esx_model.specs.Show.{period_row}
 use Rattle.esx_model.specs.Tables.{vm_table}
 use Rattle.esx_model.specs.event.Sampling.{counted_in, counted}
 use Rattle.esx_model.proofs.Callers.{counts_same}
-use Rattle.esx_tables.specs.declared.change.VmPart.{VmPart}
 use Rattle.esx_tables.specs.declared.change.VmPart.TheVariants as parts
-use Rattle.esx_tables.specs.Machines.{part_traded, mark_turned, no_mark, touched_turned}
-use Rattle.esx_plans.specs.plan.Counted.{is_first, turned_from, is_touched_by, period_parts, counted_parts}
+use Rattle.esx_tables.specs.Machines.{part_traded, mark_turned, no_mark}
+use Rattle.esx_plans.specs.plan.Counted.{is_first, turned_from, is_touched_by, counted_parts}
 
 -- The marks.
 

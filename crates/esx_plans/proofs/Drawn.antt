@@ -1,5 +1,5 @@
 -- What a replacement reads of the tables is what it reads of the site: the drawn page, the free slot, what is free, and who has more than their least.
-use Rattle.std.proofs.Common.{zero, suc, ◌==◌, ◌≡◌, ℕ, ◌+◌, ◌%◌, ◌<◌, Bool, true, false, ◌||◌, not, List, [], ◌∷◌, length, get_or, set, map, count_by, slice_get, arith, refl, sym, ap, ◌∙◌, cond, Option, Some, None}
+use Rattle.std.proofs.Common.{zero, suc, ◌==◌, ◌≡◌, ℕ, ◌+◌, ◌%◌, ◌<◌, Bool, true, false, ◌||◌, not, List, [], ◌∷◌, length, get_or, set, map, slice_get, arith, refl, sym, ap, ◌∙◌, cond, Option, Some, None}
 use Rattle.std.specs.Option.{option_map}
 use Rattle.std.specs.List.{list_any, position_from, find, flat_map, range_with_len}
 use Rattle.std.proofs.lemmas.List.Sums.{sum_by-cons}
@@ -7,8 +7,6 @@ use Rattle.std.proofs.lemmas.List.Folds.{list_any-append}
 use Rattle.esx_types.specs.declared.config.Config.{Config}
 use Rattle.esx_types.specs.declared.table.MapRow.{MapRow}
 use Rattle.esx_types.specs.declared.table.SlotRow.{SlotRow}
-use Rattle.esx_types.specs.declared.table.SlotRow.TheVariants as slots
-use Rattle.esx_types.specs.Frames.{is_free}
 use Rattle.esx_types.specs.Slots.{is_empty, least_slot}
 use Rattle.esx_types.specs.Pages as rows
 use Rattle.esx_frames.specs.Counts.{counts_of}
@@ -17,9 +15,9 @@ use Rattle.esx_model.specs.declared.scene.Place.TheVariants.{Untouched, Here, Ou
 use Rattle.esx_model.specs.declared.scene.Vm.{Vm}
 use Rattle.esx_model.specs.declared.scene.Site.{Site}
 use Rattle.esx_model.specs.Places.{is_here, is_out_at}
-use Rattle.esx_model.specs.Site.{is_held, vm_holds, vm_places, all_places, here_from, resident, free_count}
+use Rattle.esx_model.specs.Site.{is_held, vm_holds, vm_places, all_places, here_from, free_count}
 use Rattle.esx_model.specs.Site.{least_slot as least_empty}
-use Rattle.esx_model.specs.Show.{frame_rows, slot_rows, slot_row, in_slot, slot_of, pages_out}
+use Rattle.esx_model.specs.Show.{slot_row, in_slot, slot_of}
 use Rattle.esx_model.specs.Tables.{raw_place, vm_table, tables_of}
 use Rattle.esx_model.specs.event.Paging.{has_more, is_above_min, victim}
 use Rattle.esx_model.proofs.Callers.{counts_same, free_rows}

@@ -1,5 +1,5 @@
 -- What the tables of a sound site hold of a page, and of a frame that nobody has taken.
-use Rattle.std.proofs.Common.{zero, suc, slice_get, ◌≡◌, ℕ, ◌<◌, Bool, true, false, nat_lt, List, [], ◌∷◌, ◌++◌, length, set, map, refl, sym, ap, ◌∙◌, subst, arith, cond, Option, Some, None, ◌==◌}
+use Rattle.std.proofs.Common.{zero, suc, slice_get, ◌≡◌, ℕ, ◌<◌, Bool, true, false, nat_lt, List, [], ◌∷◌, ◌++◌, length, set, refl, sym, ap, ◌∙◌, subst, arith, cond, Some, None, ◌==◌}
 use Rattle.std.specs.List.{filter, find}
 use Rattle.std.proofs.lemmas.Bool.{lt-ltb}
 use Rattle.std.proofs.lemmas.Bool.Decides.{nat_tests}
@@ -17,13 +17,13 @@ use Rattle.esx_types.specs.Frames.{frame_at}
 use Rattle.esx_types.specs.Slots.{slot_at}
 use Rattle.esx_types.specs.Listings.{listing_at}
 use Rattle.esx_model.specs.declared.scene.Place.{Place}
-use Rattle.esx_model.specs.declared.scene.Place.TheVariants.{Untouched, Here, Out, Lent}
+use Rattle.esx_model.specs.declared.scene.Place.TheVariants.{Here, Out}
 use Rattle.esx_model.specs.declared.scene.Vm.{Vm}
 use Rattle.esx_model.specs.declared.scene.Site.{Site}
 use Rattle.esx_model.specs.Places.{is_out_at}
 use Rattle.esx_model.specs.Site.{vm_at, place_at, pages_at, all_places, all_overhead, least_free, least_slot}
-use Rattle.esx_model.specs.Show.{row_of, in_slot, pages_in, pages_out, slot_of, frame_row, frame_rows, slot_row, slot_rows, is_listed}
-use Rattle.esx_model.specs.Tables.{tables_of, is_hint_in, listing_by, listing_row, listing_rows}
+use Rattle.esx_model.specs.Show.{row_of, in_slot, pages_in, pages_out, slot_of, frame_row, frame_rows, slot_row, slot_rows}
+use Rattle.esx_model.specs.Tables.{is_hint_in, listing_by, listing_row, listing_rows}
 use Rattle.esx_model.specs.sound.Frames.{pages_out_for}
 use Rattle.esx_model.specs.sound.Machines.{IsPlace}
 use Rattle.esx_model.specs.sound.Sound.{IsSound}

@@ -1,5 +1,5 @@
 -- The row of a machine after an access: its page came to a frame, or stayed in it.
-use Rattle.std.proofs.Common.{◌≡◌, ℕ, Bool, true, false, ◌||◌, List, [], ◌∷◌, ◌++◌, set, map, refl, sym, ap, ◌∙◌, Option, Some, None, ◌==◌}
+use Rattle.std.proofs.Common.{◌≡◌, ℕ, Bool, true, false, ◌||◌, List, ◌++◌, set, map, refl, sym, ap, ◌∙◌, ◌==◌}
 use Rattle.std.proofs.lemmas.List.{map-set, set-get_or}
 use Rattle.esx_types.specs.declared.table.MapRow.{MapRow}
 use Rattle.esx_types.specs.declared.table.MapRow.TheVariants as maps

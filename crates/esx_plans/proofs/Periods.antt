@@ -1,5 +1,5 @@
 -- Open periods in the tables of a sound site, and as many changes as an access makes there.
-use Rattle.std.proofs.Common.{◌≡◌, ℕ, ◌+◌, ◌≤◌, Bool, true, false, List, [], ◌∷◌, ◌++◌, length, get_or, drop, map, count_by, refl, sym, ap, ◌∙◌, subst, arith, cond, Option, Some, None}
+use Rattle.std.proofs.Common.{◌≡◌, ℕ, ◌+◌, Bool, true, false, List, [], ◌∷◌, length, map, count_by, refl, sym, ap, ◌∙◌, subst, arith, cond, Option, Some, None}
 use Rattle.std.specs.Option.{option_map}
 use Rattle.std.proofs.lemmas.List.{length-map}
 use Rattle.std.proofs.lemmas.List.Sums.{sum_by-cons}
@@ -17,7 +17,6 @@ use Rattle.esx_model.specs.Tables.{vm_table, tables_of}
 use Rattle.esx_model.specs.sound.Machines.{IsPeriod, IsPeriodOrNone}
 use Rattle.esx_model.specs.sound.Sound.{IsSound}
 use Rattle.esx_tables.specs.declared.change.VmPart.TheVariants.{Touched}
-use Rattle.esx_tables.specs.Readings.{row_at}
 use Rattle.esx_plans.specs.plan.Counted.{is_first, turned_from, IsOpen, IsOpenOf, ArePeriodsOpen}
 use Rattle.esx_plans.proofs.Refining.{row_there}
 

@@ -1,10 +1,9 @@
 -- Reads and writes.
-use Rattle.std.proofs.Common.{◌≡◌, ◌≢◌, ℕ, ◌+◌, ◌-◌, ◌<◌, ◌≤◌, Bool, true, false, ◌||◌, ◌&&◌, not, nat_lt, nat_le, List, [], ◌∷◌, ◌++◌, length, map, set, take, drop, refl, ap, sym, ◌∙◌, cond, Option, Some, None, Ok, subst, arith, ◌==◌}
+use Rattle.std.proofs.Common.{◌≡◌, ℕ, ◌+◌, ◌-◌, ◌<◌, ◌≤◌, Bool, true, false, ◌||◌, nat_lt, nat_le, List, [], ◌∷◌, ◌++◌, length, set, refl, ap, sym, ◌∙◌, cond, Option, Some, None, Ok, subst, arith, ◌==◌}
 use Rattle.std.proofs.lemmas.Bool.Decides.{nat_tests}
 use Rattle.std.proofs.lemmas.Grind.{common_steps}
-use Rattle.std.proofs.lemmas.List.{set-get_or, set-set, get_or-set_same, length-replicate}
+use Rattle.std.proofs.lemmas.List.{set-get_or, set-set, get_or-set_same}
 use Rattle.std.proofs.lemmas.List.FromFn.{length-map-range_with_len}
-use Rattle.esx_lists.specs.Trades.{in_turn, part_traded}
 use Rattle.esx_lists.proofs.Trades.{part_fits, fits_when}
 use Rattle.esx_frames.specs.declared.marks.Mark.TheVariants as marks
 use Rattle.esx_frames.specs.Marks.{slot_traded_at, slot_traded, bytes_traded, bytes_traded_at, mark_traded}
@@ -22,7 +21,6 @@ use Rattle.esx_types.specs.declared.vm.VmState.TheVariants.{Running}
 use Rattle.esx_types.specs.Frames.{frame_at, bytes_of, least_frame}
 use Rattle.esx_types.specs.Slots.{slot_at, held_bytes}
 use Rattle.esx_types.specs.Listings.{listing_at}
-use Rattle.esx_types.specs.Pages.{page_at}
 use Rattle.esx_events.specs.declared.event.Answer.{Answer}
 use Rattle.esx_events.specs.declared.event.Answer.TheVariants as answers
 use Rattle.esx_model.specs.declared.scene.Place.{Place}
@@ -32,34 +30,31 @@ use Rattle.esx_model.specs.declared.scene.Site.{Site}
 use Rattle.esx_model.specs.declared.look.Standing.{Standing}
 use Rattle.esx_model.specs.declared.book.VmRow.{VmRow}
 use Rattle.esx_model.specs.declared.tables.Tables.{Tables}
-use Rattle.esx_model.specs.Places.{is_private, is_shared, contents, zeros}
-use Rattle.esx_model.specs.Site.{vm_at, with_vm, place_at, place_in, place_of, pages_at, least_free}
+use Rattle.esx_model.specs.Places.{is_private, zeros}
+use Rattle.esx_model.specs.Site.{with_vm, place_at, place_in, place_of, pages_at, least_free}
 use Rattle.esx_model.specs.Show.{frame_row, frame_rows, slot_rows}
 use Rattle.esx_types.specs.declared.table.Hint.{Hint}
-use Rattle.esx_model.specs.Hints.{with_place, with_change, placed, without_hint, hints_at}
-use Rattle.esx_model.specs.Tables.{raw_place, vm_table, tables_of, listing_rows}
-use Rattle.esx_model.specs.Moved.{put_vm, put_frame, put_slot, less, listing_after, left, joined}
+use Rattle.esx_model.specs.Hints.{with_place, with_change, placed, hints_at}
+use Rattle.esx_model.specs.Tables.{raw_place, vm_table, tables_of}
+use Rattle.esx_model.specs.Moved.{put_vm, less, listing_after, left, joined}
 use Rattle.esx_model.specs.sound.Machines.{IsPlace}
-use Rattle.esx_model.specs.event.Outcome.{standing}
 use Rattle.esx_model.specs.event.Balloon.{popped}
 use Rattle.esx_model.specs.event.Sampling.{counted}
 use Rattle.esx_model.specs.event.Access.{access_gate, overwritten, after_access, settle, read_at, write_at, read, write}
-use Rattle.esx_model.specs.event.Access as model
 use Rattle.esx_model.specs.sound.Sound.{IsSound}
-use Rattle.esx_model.proofs.Callers.{Room, read_room, write_room, whole_page, access_shown, access_in_place_shown, row_only_shown, counted_kept, with_change_is, placed_is, no_hint, not_not, runs, least_unused, room_free}
+use Rattle.esx_model.proofs.Callers.{Room, write_room, whole_page, access_shown, access_in_place_shown, row_only_shown, counted_kept, with_change_is, placed_is, no_hint, not_not, runs, least_unused, room_free}
 use Rattle.esx_tables.specs.declared.change.Change.{Change}
 use Rattle.esx_tables.specs.declared.change.Change.TheVariants.{FrameAt, MarkAt, BytesAt, ListingAt, FrameWithSlot}
 use Rattle.esx_tables.specs.Changes.{slots_traded, traded, exchanged}
-use Rattle.esx_tables.specs.Machines.{part_traded as vm_part_traded}
 use Rattle.esx_tables.specs.Readings.{row_at}
-use Rattle.esx_plans.specs.plan.Planned.{Planned, Refines}
+use Rattle.esx_plans.specs.plan.Planned.{Refines}
 use Rattle.esx_plans.specs.plan.Counted.{counted_parts}
-use Rattle.esx_plans.specs.plan.Access.{come_parts, come_changes, stay_changes, come, told, read_zeros, read_slot, read_frame, read_from, read_plan, write_zeros, write_slot, write_own, write_copy, write_last, write_frame, write_from, write_plan}
+use Rattle.esx_plans.specs.plan.Access.{come_parts, come_changes, stay_changes, come, told, read_zeros, read_slot, read_from, read_plan, write_zeros, write_slot, write_own, write_copy, write_last, write_frame, write_from, write_plan}
 use Rattle.esx_plans.proofs.Refining.{row_is, page_row, needs_vm, passes_same, found_same, standing_shown, makes_shown}
 use Rattle.esx_plans.proofs.Made.{exchanged_then, parts_made}
 use Rattle.esx_plans.proofs.Found.{frame_found}
 use Rattle.esx_plans.proofs.Counted.{counted_shown}
-use Rattle.esx_plans.proofs.Held.{Finds, page_within, page_in, page_place, private_there, shared_there, held_there, frame_count, slot_count, free_there, free_unlisted}
+use Rattle.esx_plans.proofs.Held.{Finds, page_within, page_place, private_there, shared_there, held_there, frame_count, slot_count, free_there, free_unlisted}
 use Rattle.esx_plans.proofs.Moved.{not_lent, come_row, stay_row}
 
 -- Bytes of a frame.

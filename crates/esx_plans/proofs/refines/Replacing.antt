@@ -1,6 +1,5 @@
 -- The replacement.
-use Rattle.std.proofs.Common.{◌≡◌, ◌≢◌, ℕ, ◌+◌, ◌<◌, ◌≤◌, Bool, true, false, ◌||◌, not, nat_lt, nat_le, ◌==◌, ◌-◌, List, [], ◌∷◌, ◌++◌, length, map, set, refl, ap, sym, ◌∙◌, cond, Option, Some, None, Ok, subst, arith}
-use Rattle.std.specs.Option.{option_map}
+use Rattle.std.proofs.Common.{◌≡◌, ℕ, ◌<◌, ◌≤◌, Bool, true, false, ◌||◌, nat_lt, nat_le, ◌==◌, ◌-◌, List, [], ◌∷◌, ◌++◌, length, map, set, refl, ap, sym, ◌∙◌, cond, Option, Some, None, subst, arith}
 use Rattle.std.specs.List.{list_any}
 use Rattle.std.specs.Prelude.{count_by}
 use Rattle.std.proofs.lemmas.Bool.Decides.{nat_tests}
@@ -33,8 +32,8 @@ use Rattle.esx_model.specs.declared.scene.Site.{Site}
 use Rattle.esx_model.specs.declared.book.VmRow.{VmRow}
 use Rattle.esx_model.specs.declared.tables.Tables.{Tables}
 use Rattle.esx_model.specs.Places.{is_here, is_lent_in, contents, zeros}
-use Rattle.esx_model.specs.Site.{vm_at, with_vm, place_at, pages_at, least_slot, free_count}
-use Rattle.esx_model.specs.Show.{frame_row, slot_row, frame_rows, slot_rows, pages_in}
+use Rattle.esx_model.specs.Site.{with_vm, place_at, pages_at, least_slot, free_count}
+use Rattle.esx_model.specs.Show.{frame_rows, slot_rows, pages_in}
 use Rattle.esx_model.specs.Hints.{with_place, with_change, placed}
 use Rattle.esx_model.specs.Tables.{raw_place, vm_table, standing_of, tables_of, listing_rows}
 use Rattle.esx_model.specs.Moved.{put_vm, less, listing_after, left, joined}
@@ -46,12 +45,11 @@ use Rattle.esx_model.specs.sound.Machines.{IsPlace}
 use Rattle.esx_model.specs.sound.Sound.{IsSound}
 use Rattle.esx_model.proofs.Callers.{row_only, vm_there, row_only_shown, popped_becomes, full_site, free_rows, old_place, drawn_is_here, whole_page, slot_taken, slot_unused, Trades, traded_shown, left_put, joined_put, put_twice, pages_at_is, with_change_is, not_not, runs}
 use Rattle.esx_tables.specs.declared.change.Change.{Change}
-use Rattle.esx_tables.specs.declared.change.Change.TheVariants.{FrameAt, MarkAt, ListingAt, FrameWithSlot, OfVm}
+use Rattle.esx_tables.specs.declared.change.Change.TheVariants.{FrameAt, ListingAt, FrameWithSlot, OfVm}
 use Rattle.esx_tables.specs.declared.change.VmPart.{VmPart}
 use Rattle.esx_tables.specs.Changes.{slots_traded, traded, exchanged}
 use Rattle.esx_tables.specs.Machines.{part_traded}
 use Rattle.esx_plans.specs.plan.Planned.{Refines}
-use Rattle.esx_plans.specs.plan.Access.{popped_parts}
 use Rattle.esx_plans.specs.plan.Replacing.{drawn_page, has_spare, slot_for, own_changes, new_changes, replace_parts, replace_changes, trade_with, replace_from, replace_plan}
 use Rattle.esx_plans.proofs.Refining.{row_is, page_row, needs_vm, passes_same, found_same, standing_shown, makes_shown}
 use Rattle.esx_plans.proofs.Made.{exchanged_then, parts_made}

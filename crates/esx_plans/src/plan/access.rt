@@ -90,12 +90,7 @@ fn overwritten(alloc: Global, old: &[u8], at: usize, new: &[u8]) -> Result<Bytes
 }
 
 /// Zeros with some bytes written over.
-fn zeros_overwritten(
-    alloc: Global,
-    page: usize,
-    at: usize,
-    new: &[u8],
-) -> Result<Bytes, AllocError>
+fn zeros_overwritten(alloc: Global, page: usize, at: usize, new: &[u8]) -> Result<Bytes, AllocError>
     requires { at + length new.now ≤ page }
     ensures { IfOk result (λ bytes. bytes ≡ overwritten (replicate page 0) at new.now) }
 {
@@ -105,7 +100,7 @@ fn zeros_overwritten(
 }
 
 /// A page that is lent now pops the balloon.
-pub fn push_popped(
+pub(crate) fn push_popped(
     changes: &mut Vec<Change>,
     vm: VmId,
     row: &VmTable,
@@ -364,7 +359,7 @@ fn write_copy(
     requires fits { at + length new.now < 2 ^ 64 }
     ensures { IfOk result (λ plan. (plan.answer, plan.changes) ≡ write_copy vm row.now page at new.now shared count old.now frame) }
 {
-    let mut changes = room(alloc, row, page, 4)?;
+    let mut changes = room(alloc, row, page, 3)?;
     changes.push(Change::MarkAt {
         frame: shared,
         mark: Mark::Shared { count: count - 1 },

@@ -64,7 +64,7 @@ fn counted_len(row: &VmTable, page: u32) -> usize
 }
 
 /// Room for so many changes, and for those of an access that is counted.
-pub fn room(
+pub(crate) fn room(
     alloc: Global,
     row: &VmTable,
     page: u32,
@@ -78,7 +78,7 @@ pub fn room(
 }
 
 /// One more part of a machine's row.
-pub fn push_part(changes: &mut Vec<Change>, vm: VmId, part: VmPart) -> Result<(), AllocError>
+pub(crate) fn push_part(changes: &mut Vec<Change>, vm: VmId, part: VmPart) -> Result<(), AllocError>
     ensures { OnOk result (changes.new.items ≡ changes.old.items ++ OfVm vm part ∷ []) }
 {
     changes.push(Change::OfVm { vm, part })?;
@@ -127,7 +127,7 @@ fn push_open(
 }
 
 /// An access is counted where a period is open.
-pub fn push_counted(
+pub(crate) fn push_counted(
     changes: &mut Vec<Change>,
     vm: VmId,
     row: &VmTable,

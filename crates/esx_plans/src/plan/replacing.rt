@@ -95,11 +95,7 @@ fn is_shared(tables: &SiteTables, frame: u32) -> bool
 }
 
 /// A frame that was shared is the one page's that is left in it.
-fn push_own(
-    changes: &mut Vec<Change>,
-    tables: &SiteTables,
-    frame: u32,
-) -> Result<(), AllocError>
+fn push_own(changes: &mut Vec<Change>, tables: &SiteTables, frame: u32) -> Result<(), AllocError>
     ensures { OnOk result (changes.new.items ≡ changes.old.items ++ own_changes frame (frame_at tables.now.frames frame)) }
 {
     if is_shared(tables, frame) {

@@ -1,4 +1,4 @@
-use Rattle.std.proofs.Common.{◌≡◌, sym}
+use Rattle.std.proofs.Common.{sym}
 use Rattle.esx_plans.proofs.plan.access.plan_read.Goals as goal
 
 pub read_slot-requires : goal.read_slot-requires

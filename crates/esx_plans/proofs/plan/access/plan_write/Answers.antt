@@ -1,4 +1,4 @@
-use Rattle.std.proofs.Common.{◌≡◌, sym}
+use Rattle.std.proofs.Common.{sym}
 use Rattle.esx_plans.proofs.plan.access.plan_write.Goals as goal
 
 pub write_slot-requires : goal.write_slot-requires

@@ -1,4 +1,4 @@
-use Rattle.std.proofs.Common.{◌≡◌, ℕ, length, ap, sym, ◌∙◌, Option, Some}
+use Rattle.std.proofs.Common.{length, ap, sym, ◌∙◌, Option}
 use Rattle.esx_average.specs.Means.{Means}
 use Rattle.esx_model.specs.declared.book.PeriodRow.{PeriodRow}
 use Rattle.esx_plans.specs.plan.Counted.{open_parts}

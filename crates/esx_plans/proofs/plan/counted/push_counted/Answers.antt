@@ -1,4 +1,4 @@
-use Rattle.std.proofs.Common.{◌≡◌, sym, ◌∙◌}
+use Rattle.std.proofs.Common.{sym, ◌∙◌}
 use Rattle.esx_plans.proofs.plan.counted.push_counted.Goals as goal
 
 pub push_open-requires : goal.push_open-requires
