@@ -1,6 +1,7 @@
 -- Open periods in the tables of a sound site, and as many changes as an access makes there.
-use Rattle.std.proofs.Common.{◌≡◌, ℕ, ◌+◌, Bool, true, false, List, [], ◌∷◌, length, map, count_by, refl, sym, ap, ◌∙◌, subst, arith, cond, Option, Some, None}
+use Rattle.std.proofs.Common.{get_or, ◌&&◌, is_some, not, suc, zero, ◌≡◌, ℕ, ◌+◌, Bool, true, false, List, [], ◌∷◌, length, map, count_by, refl, sym, ap, ◌∙◌, subst, arith, cond, Option, Some, None}
 use Rattle.std.specs.Option.{option_map}
+use Rattle.std.specs.List.{list_all}
 use Rattle.std.proofs.lemmas.List.{length-map}
 use Rattle.std.proofs.lemmas.List.Sums.{sum_by-cons}
 use Rattle.esx_types.specs.declared.config.Config.{Config}
@@ -11,13 +12,14 @@ use Rattle.esx_model.specs.declared.scene.Site.{Site}
 use Rattle.esx_model.specs.declared.book.Mark.{Mark}
 use Rattle.esx_model.specs.declared.book.PeriodRow.{PeriodRow}
 use Rattle.esx_model.specs.declared.book.VmRow.{VmRow}
+use Rattle.esx_model.specs.declared.tables.Tables.{Tables}
 use Rattle.esx_model.specs.Site.{vm_at}
 use Rattle.esx_model.specs.Show.{period_row}
 use Rattle.esx_model.specs.Tables.{vm_table, tables_of}
 use Rattle.esx_model.specs.sound.Machines.{IsPeriod, IsPeriodOrNone}
 use Rattle.esx_model.specs.sound.Sound.{IsSound}
 use Rattle.esx_tables.specs.declared.change.VmPart.TheVariants.{Touched}
-use Rattle.esx_plans.specs.plan.Counted.{is_first, turned_from, IsOpen, IsOpenOf, ArePeriodsOpen}
+use Rattle.esx_plans.specs.plan.Counted.{is_first, turned_from, is_closed, IsOpen, IsOpenOf, ArePeriodsOpen}
 use Rattle.esx_plans.proofs.Refining.{row_there}
 
 open_shown : (max : ℕ) (q : Period) → IsPeriod max q → IsOpen (period_row q)
@@ -61,3 +63,21 @@ one_more i page m ms rest false first =
 pub turned_count : (i page : ℕ) (marks : List Mark) → length (turned_from i page marks) ≡ count_by (is_first page) marks
 turned_count i page [] = refl
 turned_count i page (m ∷ ms) = one_more i page m ms (turned_count (i + 1) page ms) (is_first page m) refl
+
+-- where no period is open, each that is open is as it is to be
+
+both : (a b : Bool) → (a && b) ≡ true → (a ≡ true) × (b ≡ true)
+both true true h = (refl, refl)
+both true false h = cc
+both false b h = cc
+
+closed_at : (vms : List (Option VmRow)) (n : ℕ) (v : VmRow) → list_all is_closed vms ≡ true → get_or vms n None ≡ Some v → is_closed (Some v) ≡ true
+closed_at [] n v h e = cc
+closed_at (o ∷ os) zero v h e = sym (ap is_closed e) ∙ (both (is_closed o) (list_all is_closed os) h).0
+closed_at (o ∷ os) (suc n) v h e = closed_at os n v (both (is_closed o) (list_all is_closed os) h).1 e
+
+pub closed_open : (t : Tables) → list_all is_closed t.vms ≡ true → ArePeriodsOpen t
+closed_open t h n v e p is =
+    let closed = closed_at t.vms n v h e in
+    let no : false ≡ true = sym (ap (λ (o : Option PeriodRow). not (is_some o)) is) ∙ closed in
+    cc

@@ -7,4 +7,6 @@ pub mod plan;
 pub use plan::Plan;
 
 #[cfg(test)]
+mod access_tests;
+#[cfg(test)]
 mod tests;

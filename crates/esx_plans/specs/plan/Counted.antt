@@ -1,5 +1,5 @@
 -- What an access changes of its machine's row where a sample period is open.
-use Rattle.std.specs.Prelude.{◌≡◌, ◌<◌, ◌≤◌, ℕ, ◌+◌, ◌==◌, ◌&&◌, ◌||◌, not, nat_lt, Bool, List, [], ◌∷◌, length, count_by, Option, Some, None, if◌then◌else◌}
+use Rattle.std.specs.Prelude.{◌≡◌, ◌<◌, ◌≤◌, ℕ, ◌+◌, ◌==◌, ◌&&◌, ◌||◌, not, nat_lt, is_some, Bool, true, List, [], ◌∷◌, length, count_by, Option, Some, None, if◌then◌else◌}
 use Rattle.esx_average.specs.Means.{Means, estimate, next_means}
 use Rattle.esx_model.specs.declared.book.Mark.{Mark}
 use Rattle.esx_model.specs.declared.book.PeriodRow.{PeriodRow}
@@ -52,3 +52,8 @@ IsOpenOf v = (p : PeriodRow) → v.period ≡ Some p → IsOpen p
 -- of each machine
 abbrev pub ArePeriodsOpen : Tables → Type 0
 ArePeriodsOpen t = (n : ℕ) (v : VmRow) → row_at t n ≡ Some v → IsOpenOf v
+
+-- no period of the machine is open
+abbrev pub is_closed : Option VmRow → Bool
+is_closed None = true
+is_closed (Some v) = not (is_some v.period)
