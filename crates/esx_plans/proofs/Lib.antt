@@ -15,3 +15,4 @@ pub mod DrawnOut
 pub mod Countable
 pub mod Rows
 pub mod refines
+pub mod OnePage

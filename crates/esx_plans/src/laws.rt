@@ -37,7 +37,7 @@ ghost use Rattle.esx_plans.specs.plan.Starting.{start_plan};
 ghost use Rattle.esx_plans.specs.plan.Counted.{ArePeriodsOpen};
 ghost use Rattle.esx_plans.specs.plan.Access.{read_plan, write_plan};
 ghost use Rattle.esx_plans.specs.plan.Replacing.{replace_plan};
-ghost use Rattle.esx_plans.specs.plan.Sharing.{look_in, scan_plan, HasCounts};
+ghost use Rattle.esx_plans.specs.plan.Sharing.{look_in, scan_plan, HasCounts, PlansOnePage};
 ghost use Rattle.esx_plans.specs.plan.Paging.{swap_out_plan};
 
 /// What gates read of a machine's row is what they read of the machine.
@@ -135,4 +135,10 @@ pub fn swap_out_refines()
 pub fn events_refine()
     ensures whole { (c : Config) (s : Site) → IsConfig c → IsSound c s → ArePlannable c (tables_of c s) }
     ensures plan { (c : Config) (s : Site) (level : Level) (event : Event) → IsSound c s → NamesVm event → Refines c s (plan_of c (tables_of c s) level event) (step c s level event) }
+{}
+
+/// Neither the changes of a scan or of a page that is paged out nor those that lead back hold more than one page of bytes.
+pub fn records_hold_one_page()
+    ensures scan { (c : Config) (s : Site) (n page : ℕ) → IsSound c s → PlansOnePage c (tables_of c s) (scan_plan (tables_of c s) n page) }
+    ensures swap_out { (c : Config) (s : Site) (level : Level) (n word : ℕ) → IsSound c s → PlansOnePage c (tables_of c s) (swap_out_plan (tables_of c s) level n word) }
 {}

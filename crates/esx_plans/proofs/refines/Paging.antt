@@ -101,7 +101,7 @@ is_free : (row : SlotRow) → is_empty row ≡ true → row ≡ slots.Free
 is_free slots.Free h = refl
 is_free (slots.Held bytes) h = cc
 
-free_slot : (c : Config) (s : Site) (i : ℕ) → least_slot (tables_of c s).slots ≡ Some i → (i < length (tables_of c s).slots) × (slot_at (tables_of c s).slots i ≡ slots.Free)
+pub free_slot : (c : Config) (s : Site) (i : ℕ) → least_slot (tables_of c s).slots ≡ Some i → (i < length (tables_of c s).slots) × (slot_at (tables_of c s).slots i ≡ slots.Free)
 free_slot c s i found =
     let known = first_found is_empty (tables_of c s).slots i slots.Free found in
     (known.0, is_free (slot_at (tables_of c s).slots i) known.1)

@@ -1,6 +1,7 @@
 -- The plan of a scan: what a look at a page finds in the tables, what it changes and what is said of it.
-use Rattle.std.specs.Prelude.{ℕ, ◌+◌, ◌<◌, ◌^◌, ◌&&◌, ◌==◌, List, [], ◌∷◌, Option, Some, None, bytes_eq, if◌then◌else◌, Ok, Err}
+use Rattle.std.specs.Prelude.{ℕ, ◌+◌, ◌<◌, ◌≤◌, ◌^◌, ◌&&◌, ◌==◌, List, [], ◌∷◌, Option, Some, None, bytes_eq, if◌then◌else◌, Ok, Err}
 use Rattle.std.specs.List.{position_from}
+use Rattle.esx_types.specs.declared.config.Config.{Config}
 use Rattle.esx_types.specs.declared.table.FrameRow.{FrameRow}
 use Rattle.esx_types.specs.declared.table.FrameRow.TheVariants as frames
 use Rattle.esx_types.specs.declared.table.MapRow.{MapRow}
@@ -25,7 +26,9 @@ use Rattle.esx_model.specs.event.Sharing.{scan_gate}
 use Rattle.esx_tables.specs.declared.change.Change.{Change}
 use Rattle.esx_tables.specs.declared.change.Change.TheVariants.{FrameAt, MarkAt, ListingAt, OfVm}
 use Rattle.esx_tables.specs.declared.change.VmPart.TheVariants.{PageAt}
+use Rattle.esx_tables.specs.Changes.{exchanged}
 use Rattle.esx_tables.specs.Readings.{row_at}
+use Rattle.esx_tables.specs.Sizes.{size_of}
 use Rattle.esx_plans.specs.plan.Planned.{Planned, at_row}
 
 -- What a look finds.
@@ -123,3 +126,11 @@ scan_plan t n page = at_row (row_at t n) (λ v. unless (scan_gate (standing_of v
 -- one page more can be counted in each shared frame
 abbrev pub HasCounts : Tables → Type 0
 HasCounts t = (g : ℕ) → count_with t g < 2 ^ 32
+
+-- neither changes nor those that lead back hold more than one page
+abbrev pub HoldOnePage : Config → Tables → List Change → Type 0
+HoldOnePage c t changes = ((size_of changes).bytes ≤ c.page) × ((size_of (exchanged t changes).1).bytes ≤ c.page)
+
+abbrev pub PlansOnePage : Config → Tables → Planned → Type 0
+PlansOnePage c t (Ok p) = HoldOnePage c t p.1
+PlansOnePage c t (Err e) = Unit {0}
