@@ -102,12 +102,12 @@ impl Thresholds {
 #[cfg(test)]
 mod tests {
     use super::*;
-    use esx_types::Refusal;
+    use esx_types::BadSpec;
     use std::process::Abort;
     use std::test::Fail;
 
     /// The thresholds of a site with so many frames, at 6, 4, 2 and 1 percent.
-    fn thresholds(frames: u32) -> Result<Thresholds, Refusal> {
+    fn thresholds(frames: u32) -> Result<Thresholds, BadSpec> {
         let config = Config {
             frames,
             page: 16,
