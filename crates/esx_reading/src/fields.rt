@@ -5,7 +5,6 @@ ghost use Rattle.esx_types.specs.declared.config.TheConstants.{VM_NUMBERS};
 ghost use Rattle.esx_reading.specs.Fields.{fields};
 
 use esx_types::{VM_NUMBERS, VmId};
-use itoa::Buffer;
 use std::marker::Model;
 
 /// The number whose decimal digits the text is, without sign and without leading zeros.
@@ -13,10 +12,12 @@ pub fn number_of(text: &str) -> Option<u64>
     ensures some { IfSome result (λ n. (n < 2 ^ 64) × (text.now ≡ decimal n)) }
     ensures none { IfNone result ((n : ℕ) → n < 2 ^ 64 → text.now ≡ decimal n → ⊥) }
 {
-    let number: u64 = text.parse().ok()?;
-    let mut buffer = Buffer::new();
-    let canonical = buffer.format(number) == text;
-    if canonical { Some(number) } else { None }
+    let bytes = text.as_bytes();
+    let first = *bytes.first()?;
+    if first <= b'0' && bytes.len() != 1 {
+        return None;
+    }
+    text.parse().ok()
 }
 
 /// The fields of a line that are left, seen as their list.

@@ -1,22 +1,31 @@
-use Rattle.std.proofs.Common.{◌≡◌, sym, ◌∙◌, ap, decimal}
-use Rattle.std.proofs.lemmas.Fmt.{parse-decimal}
-use Rattle.std.proofs.lemmas.Bool.Decides.{Decides-eqb, not_from_Decides}
-use Rattle.std.proofs.lemmas.Slice.Eq.{slice_eq-Decides}
+use Rattle.std.proofs.Common.{◌≡◌, ◌<◌, ◌≤◌, ◌^◌, ⊎_elim, ℕ, ◌∙◌, sym, ap, subst, arith, decimal, length, get_or}
+use Rattle.std.specs.Prelude.{IfSome, IfNone, Option}
+use Rattle.std.proofs.lemmas.Fmt.{decimal_nonempty}
+use Rattle.esx_reading.proofs.NumberLemmas.{zero_alone, read_number, some_from_ok, none_from_err}
 use Rattle.esx_reading.proofs.fields.number_of.Goals as goal
 
-pub returns-in_err-number-clause-none : goal.returns-in_err-number-clause-none
-returns-in_err-number-clause-none c =
+pub returns-in_err-first-clause-none : goal.returns-in_err-first-clause-none
+returns-in_err-first-clause-none c =
     rw c.from_residual.ensures (λ n small e.
-    let r = parse-decimal 64 n c.args.text.now c.parse.result small small e c.parse.ensures.value.0 in
-    let v = rw r at c.ok.ensures.value in
-    let w = c.in_err-number.was in cc)
+    omega (arith, decimal_nonempty n small, ap length e, ap length c.as_bytes-bytes.ensures.value, c.in_err-first.ensures.item.3))
 
-pub returns-else-canonical-clause-none : goal.returns-else-canonical-clause-none
-returns-else-canonical-clause-none c = λ n small e.
-    let r = parse-decimal 64 n c.args.text.now c.parse.result small small e c.parse.ensures.value.0 in
-    let v = rw r at c.ok.ensures.value in
-    let w = c.in_ok-number.was in
-    let same : n ≡ c.in_ok-number.number = cc in
-    let eq : c.format.result.now ≡ c.args.text.now = c.format.ensures.text ∙ ap decimal (sym same) ∙ sym e in
-    let d = slice_eq-Decides Decides-eqb c.format.result.now c.args.text.now c.eq-canonical.result c.eq-canonical.ensures in
-    not_from_Decides _ d c.if-canonical.false eq
+pub returns-then-bytes-ne1-clause-none : goal.returns-then-bytes-ne1-clause-none
+returns-then-bytes-ne1-clause-none c = λ n small e.
+    let v = c.as_bytes-bytes.ensures.value in
+    let first : c.in_ok-first.field-0.now ≡ get_or c.args.text.now 0 0 = c.in_ok-first.ensures.item.3.1 0 ∙ ap (λ t. get_or t 0 0) v in
+    c.if-bytes-ne1.true (ap length v ∙ zero_alone n c.args.text.now small e (omega (arith, first, c.if-first-le48.true)))
+
+pub returns-clause-some : goal.returns-clause-some
+returns-clause-some c =
+    let v = c.as_bytes-bytes.ensures.value in
+    let first : c.in_ok-first.field-0.now ≡ get_or c.args.text.now 0 0 = c.in_ok-first.ensures.item.3.1 0 ∙ ap (λ t. get_or t 0 0) v in
+    let one : get_or c.args.text.now 0 0 ≤ 48 → length c.args.text.now ≡ 1 = λ low.
+    ⊎_elim (λ w. sym (ap length v) ∙ w.1) (λ w. absurd (omega (arith, first, w, low))) c.else-first-le48.either in
+    let Q : ℕ → Type 0 = λ n. (n < 2 ^ 64) × (c.args.text.now ≡ decimal n) in
+    let P : Option ℕ → Type 0 = λ o. IfSome o Q in
+    subst P (sym c.ok.ensures.value) (some_from_ok Q c.parse.result (read_number c.args.text.now c.parse.result c.parse.ensures.value.0 one))
+
+pub returns-clause-none : goal.returns-clause-none
+returns-clause-none c =
+    let P : Option ℕ → Type 0 = λ o. IfNone o ((n : ℕ) → n < 2 ^ 64 → c.args.text.now ≡ decimal n → ⊥) in
+    subst P (sym c.ok.ensures.value) (none_from_err c.args.text.now c.parse.result c.parse.ensures.value.0)
