@@ -1,0 +1,2 @@
+pub use Rattle.esx_tables.specs.Sizes
+pub mod Small
