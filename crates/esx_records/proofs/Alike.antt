@@ -1,5 +1,6 @@
 -- A trade leaves a change of the same kind.
-use Rattle.std.proofs.Common.{◌≡◌, ℕ, Option, Some, None, refl, ap, get_or}
+use Rattle.std.proofs.Common.{◌≡◌, ℕ, List, [], ◌∷◌, length, length-append, Option, Some, None, refl, ap, get_or, arith}
+use Rattle.std.proofs.lemmas.List.Concat.{flat_map-cons}
 use Rattle.esx_model.specs.declared.book.VmRow.{VmRow}
 use Rattle.esx_model.specs.declared.tables.Tables.{Tables}
 use Rattle.esx_tables.specs.declared.change.Change.{Change}
@@ -9,7 +10,8 @@ use Rattle.esx_tables.specs.declared.change.VmPart.TheVariants.{PageAt, Facts, T
 use Rattle.esx_tables.specs.Changes.{traded}
 use Rattle.esx_tables.specs.Machines.{vm_traded}
 use Rattle.esx_tables.specs.Sizes.{is_row, is_row_part, is_target, is_target_part}
-use Rattle.esx_records.specs.Small.{is_machine}
+use Rattle.esx_records.specs.Small.{place_in, places_in}
+use Rattle.esx_records.proofs.Totals.{total}
 
 row_part : (o : Option VmRow) (part : VmPart) → is_row_part (vm_traded o part).1 ≡ is_row_part part
 row_part None part = refl
@@ -57,14 +59,26 @@ target_kept t (OfVm n part) = target_part (get_or t.vms n None) part
 target_kept t (VmAt n row) = refl
 target_kept t (TaxIs tau) = refl
 
-pub machine_kept : (t : Tables) (change : Change) → is_machine (traded t change).1 ≡ is_machine change
+-- how many places of machines a change holds
+abbrev pub places_held : Change → ℕ
+places_held change = length (place_in change)
+
+pub places_total : (changes : List Change) → length (places_in changes) ≡ total places_held changes
+places_total [] = refl
+places_total (change ∷ changes) =
+    let split = ap length (flat_map-cons place_in change changes) in
+    let sum = length-append (place_in change) (places_in changes) in
+    let rest = places_total changes in
+    omega (arith, split, sum, rest)
+
+pub places_kept : (t : Tables) (change : Change) → places_held (traded t change).1 ≡ places_held change
 unfolding traded
-machine_kept t (FrameAt f row) = refl
-machine_kept t (MarkAt f mark) = refl
-machine_kept t (BytesAt f offset bytes) = refl
-machine_kept t (ListingAt f listing) = refl
-machine_kept t (SlotAt i row) = refl
-machine_kept t (FrameWithSlot f i) = refl
-machine_kept t (OfVm n part) = refl
-machine_kept t (VmAt n row) = refl
-machine_kept t (TaxIs tau) = refl
+places_kept t (FrameAt f row) = refl
+places_kept t (MarkAt f mark) = refl
+places_kept t (BytesAt f offset bytes) = refl
+places_kept t (ListingAt f listing) = refl
+places_kept t (SlotAt i row) = refl
+places_kept t (FrameWithSlot f i) = refl
+places_kept t (OfVm n part) = refl
+places_kept t (VmAt n row) = refl
+places_kept t (TaxIs tau) = refl

@@ -5,3 +5,7 @@ pub mod Marks
 pub mod Modest
 pub mod Stocks
 pub mod plans
+pub mod Forms
+pub mod Told
+pub mod Written
+pub mod Moved

@@ -13,9 +13,9 @@ use Rattle.esx_tables.specs.declared.change.VmPart.{VmPart}
 use Rattle.esx_tables.specs.Changes.{exchanged}
 use Rattle.esx_tables.specs.Sizes.{bytes_held, marks_held, part_marks, is_row, is_row_part, is_target, is_target_part}
 use Rattle.esx_plans.specs.plan.Planned.{Planned, at_row}
-use Rattle.esx_records.specs.Small.{is_machine, IsSmall}
+use Rattle.esx_records.specs.Small.{place_in, places_in, IsSmall}
 use Rattle.esx_records.proofs.Totals.{total, total_is, one_if, back, kept_back}
-use Rattle.esx_records.proofs.Alike.{row_kept, target_kept, machine_kept}
+use Rattle.esx_records.proofs.Alike.{places_held, places_total, row_kept, target_kept, places_kept}
 use Rattle.esx_records.proofs.Pages.{HavePages, bytes_most, whole_rows, pages_back}
 use Rattle.esx_records.proofs.Marks.{HaveFewMarks, part_most, marks_most, marks_back}
 
@@ -27,16 +27,16 @@ pub record IsModest (c : Config) (most : ℕ) (changes : List Change) : Type 0 w
   pub marks : total marks_held changes ≤ 100
   pub turned : total marks_most changes ≤ 100
   pub targets : total (one_if is_target) changes ≤ 32
-  pub machines : total (one_if is_machine) changes ≤ most
+  pub machines : total places_held changes ≤ most
 
 is_small : (c : Config) (most : ℕ) (changes : List Change) → total bytes_held changes ≤ c.page → total (one_if is_row) changes ≤ 10 → total marks_held changes ≤ 100
-    → total (one_if is_target) changes ≤ 32 → total (one_if is_machine) changes ≤ most → IsSmall c most changes
+    → total (one_if is_target) changes ≤ 32 → total places_held changes ≤ most → IsSmall c most changes
 is_small c most changes bytes rows marks targets machines =
     let b = total_is bytes_held changes in
     let r = total_is (one_if is_row) changes in
     let m = total_is marks_held changes in
     let t = total_is (one_if is_target) changes in
-    let v = total_is (one_if is_machine) changes in
+    let v = places_total changes in
     record { bytes = omega (arith, b, bytes); rows = omega (arith, r, rows); marks = omega (arith, m, marks); targets = omega (arith, t, targets); machines = omega (arith, v, machines) }
 
 pub small : (c : Config) (t : Tables) (most : ℕ) (changes : List Change) → HavePages c t → HaveFewMarks t → IsModest c most changes
@@ -51,7 +51,7 @@ small c t most changes pages few m =
     let hundred = m.turned in
     let targets = kept_back (one_if is_target) (λ u change. ap (λ b. cond b 1 0) (target_kept u change)) t changes in
     let each = m.targets in
-    let machines = kept_back (one_if is_machine) (λ u change. ap (λ b. cond b 1 0) (machine_kept u change)) t changes in
+    let machines = kept_back places_held places_kept t changes in
     let moved = m.machines in
     (is_small c most changes m.bytes m.rows m.marks m.targets m.machines,
      is_small c most (back t changes) (omega (arith, bytes, held)) (omega (arith, rows, ten)) (omega (arith, marks, hundred)) (omega (arith, targets, each)) (omega (arith, machines, moved)))
@@ -65,7 +65,7 @@ pub record IsLight (c : Config) (rows : ℕ) (changes : List Change) : Type 0 wh
   pub marks : total marks_held changes ≤ 100
   pub turned : total marks_most changes ≤ 100
   pub targets : total (one_if is_target) changes ≡ 0
-  pub machines : total (one_if is_machine) changes ≡ 0
+  pub machines : total places_held changes ≡ 0
 
 pub light : (c : Config) (most rows : ℕ) (changes : List Change) → IsLight c rows changes → rows ≤ 10 → IsModest c most changes
 light c most rows changes l few =
@@ -107,22 +107,32 @@ framed c rows f row changes l few small =
 
 -- Plans.
 
-abbrev pub PlansModest : Config → ℕ → Planned → Type 0
-PlansModest c most (Ok p) = IsModest c most p.1
-PlansModest c most (Err e) = Unit {0}
+-- where it is not refused, something holds of its changes
+abbrev pub PlansOf : (List Change → Type 0) → Planned → Type 0
+PlansOf P (Ok p) = P p.1
+PlansOf P (Err e) = Unit {0}
 
-pub at_row_modest : (c : Config) (most : ℕ) (o : Option VmRow) (go : VmRow → Planned) → ((v : VmRow) → o ≡ Some v → PlansModest c most (go v)) → PlansModest c most (at_row o go)
-at_row_modest c most None go h = tt
-at_row_modest c most (Some v) go h = h v refl
+pub at_row_of : (P : List Change → Type 0) (o : Option VmRow) (go : VmRow → Planned) → ((v : VmRow) → o ≡ Some v → PlansOf P (go v)) → PlansOf P (at_row o go)
+at_row_of P None go h = tt
+at_row_of P (Some v) go h = h v refl
 
-pub gate_modest : (c : Config) (most : ℕ) (gate : Gate) (p : Planned) → (Passes gate → PlansModest c most p) → PlansModest c most (unless gate p)
-gate_modest c most [] p h = h tt
-gate_modest c most (t ∷ ts) p h = of (λ e. gate_modest c most ts p (λ rest. h (e, rest))) t.0 refl
+pub gate_of : (P : List Change → Type 0) (gate : Gate) (p : Planned) → (Passes gate → PlansOf P p) → PlansOf P (unless gate p)
+gate_of P [] p h = h tt
+gate_of P (t ∷ ts) p h = of (λ e. gate_of P ts p (λ rest. h (e, rest))) t.0 refl
   where
-    of : (t.0 ≡ false → PlansModest c most (unless ts p)) → (b : Bool) → t.0 ≡ b → PlansModest c most (or_else (cond b (Some t.1) (first ts)) p)
+    of : (t.0 ≡ false → PlansOf P (unless ts p)) → (b : Bool) → t.0 ≡ b → PlansOf P (or_else (cond b (Some t.1) (first ts)) p)
     of go true e = tt
     of go false e = go e
 
--- whatever it says
+abbrev pub PlansModest : Config → ℕ → Planned → Type 0
+PlansModest c most p = PlansOf (IsModest c most) p
+
+pub at_row_modest : (c : Config) (most : ℕ) (o : Option VmRow) (go : VmRow → Planned) → ((v : VmRow) → o ≡ Some v → PlansModest c most (go v)) → PlansModest c most (at_row o go)
+at_row_modest c most = at_row_of (IsModest c most)
+
+pub gate_modest : (c : Config) (most : ℕ) (gate : Gate) (p : Planned) → (Passes gate → PlansModest c most p) → PlansModest c most (unless gate p)
+gate_modest c most = gate_of (IsModest c most)
+
+-- whatever the gate says
 pub any_gate : (c : Config) (most : ℕ) (gate : Gate) (p : Planned) → PlansModest c most p → PlansModest c most (unless gate p)
 any_gate c most gate p h = gate_modest c most gate p (λ _. h)

@@ -11,7 +11,7 @@ use Rattle.esx_tables.specs.declared.change.VmPart.{VmPart}
 use Rattle.esx_tables.specs.declared.change.VmPart.TheVariants.{Period, Done, Touched, Averages}
 use Rattle.esx_tables.specs.Sizes.{bytes_held, marks_held, is_row, is_target}
 use Rattle.esx_plans.specs.plan.Counted.{is_first, turned_from, closed_means, period_parts, open_parts, counted_parts, IsOpen, IsOpenOf}
-use Rattle.esx_records.specs.Small.{is_machine}
+use Rattle.esx_records.proofs.Alike.{places_held}
 use Rattle.esx_records.proofs.Totals.{total, one_if}
 use Rattle.esx_records.proofs.Pages.{bytes_most, whole_rows}
 use Rattle.esx_records.proofs.Marks.{marks_most}
@@ -26,7 +26,7 @@ record Turns (c : Config) (marks : ℕ) (changes : List Change) : Type 0 where
   held : total marks_held changes ≤ marks
   turned : total marks_most changes ≤ marks
   targets : total (one_if is_target) changes ≡ 0
-  machines : total (one_if is_machine) changes ≡ 0
+  machines : total places_held changes ≡ 0
 
 turns : (c : Config) (n i page : ℕ) (marks : List Mark) → Turns c (length marks) (map (OfVm n) (turned_from i page marks))
 turns c n i page [] = record { bytes = refl; pages = refl; whole = refl; rows = refl; held = omega arith; turned = omega arith; targets = refl; machines = refl }

@@ -14,7 +14,7 @@ use Rattle.esx_tables.specs.Readings.{row_at}
 use Rattle.esx_tables.specs.Sizes.{bytes_held, marks_held, is_row, is_target}
 use Rattle.esx_plans.specs.plan.Ratios.{numbered, ratio_row, ratio_rows, least_of}
 use Rattle.esx_plans.specs.plan.Rebalancing.{to_max, to_target, to_targets, wanted, share_out_plan, rebalance_plan, tax_plan, shares_plan}
-use Rattle.esx_records.specs.Small.{is_machine}
+use Rattle.esx_records.proofs.Alike.{places_held}
 use Rattle.esx_records.proofs.Totals.{total, one_if}
 use Rattle.esx_records.proofs.Pages.{bytes_most}
 use Rattle.esx_records.proofs.Marks.{marks_most}
@@ -29,7 +29,7 @@ record Targets (c : Config) (targets : ℕ) (changes : List Change) : Type 0 whe
   marks : total marks_held changes ≡ 0
   turned : total marks_most changes ≡ 0
   targets_most : total (one_if is_target) changes ≤ targets
-  machines : total (one_if is_machine) changes ≡ 0
+  machines : total places_held changes ≡ 0
 
 no_targets : (c : Config) (n : ℕ) → Targets c n []
 no_targets c n = record { bytes = refl; pages = refl; rows = refl; marks = refl; turned = refl; targets_most = omega arith; machines = refl }
