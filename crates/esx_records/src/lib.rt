@@ -1,4 +1,8 @@
-//! How much the record of an event holds. A function here does nothing: its contract is the law.
+//! How much the record of an event holds. The crate has no code: its laws are contracts of functions that do
+//! nothing.
 #![tactic(auto)]
 
 pub mod laws;
+
+#[cfg(test)]
+mod tests;

@@ -1,0 +1,101 @@
+ghost use Rattle.std.specs.Prelude.{◌≡◌, ◌+◌, ◌^◌, ◌<◌, Some, OnOk};
+ghost use Rattle.esx_model.specs.declared.book.VmRow.{VmRow};
+ghost use Rattle.esx_model.specs.declared.scene.Scene.{Scene};
+ghost use Rattle.esx_plans.specs.plan.Balloon.{CanEpochsRise};
+ghost use Rattle.esx_machine.specs.Machine.{Kept, Shows, Trades};
+
+use esx_events::{Boxed, Event};
+use esx_machine::{Machine, Record};
+use esx_model::VmRow;
+use esx_types::{Bytes, Config, VmId, VmSpec};
+use std::process::Abort;
+use std::test::Fail;
+
+const SITE: Config = Config {
+    frames: 20,
+    page: 16,
+    slots: 8,
+    tau: 75,
+    high: 6,
+    soft: 4,
+    hard: 2,
+    low: 1,
+    nodes: 16777216,
+};
+
+const SPEC: VmSpec = VmSpec {
+    min: 2,
+    max: 6,
+    overhead: 1,
+    shares: 1000,
+    balloon_max: 0,
+};
+
+fn expect_low(rt: &impl Abort, vm: &Option<VmRow>)
+    ensures { (v : VmRow) → vm.now ≡ Some v → v.epoch + 1 < 2 ^ 32 }
+{
+    if let Some(vm) = vm {
+        assert!(rt; vm.epoch < u32::MAX);
+    }
+}
+
+/// Each machine's epoch can rise.
+fn expect_rise(rt: &impl Abort, machine: &Machine) -> Result<(), Fail>
+    ensures { OnOk result (CanEpochsRise machine.now.tables) }
+{
+    let book = machine.book()?;
+    for vm in book.vms.as_slice() {
+        expect_low(rt, vm);
+    }
+    Ok(())
+}
+
+/// The record of one event.
+fn record(rt: &impl Abort, machine: &mut Machine, event: &Event) -> Result<Record, Fail>
+    requires shown { (scene : Scene) × Shows machine.old scene }
+    ensures back { OnOk result (λ r. Trades r machine.new machine.old) }
+    ensures shown { OnOk result (λ r. (scene : Scene) × Shows machine.new scene) }
+{
+    expect_rise(rt, machine)?;
+    let (_, record) = machine.apply(event)?;
+    Ok(record)
+}
+
+/// How many bytes a record holds, as it is given, after one flip and after two.
+fn bytes_held(machine: &mut Machine, record: &mut Record) -> [u64; 3]
+    requires fits { (there : Kept) × Trades record.old machine.old there }
+    ensures { machine.new ≡ machine.old }
+{
+    let given = record.size().bytes;
+    machine.flip(record);
+    let flipped = record.size().bytes;
+    machine.flip(record);
+    [given, flipped, record.size().bytes]
+}
+
+#[test]
+fn records_hold_the_bytes_that_moved(rt: HostRuntime) -> Result<(), Fail> {
+    let vm = VmId::new(0).ok_or("vm")?;
+    let mut machine = Machine::open(rt.alloc(), SITE)?;
+    let admitted = record(&rt, &mut machine, &Event::Admit { vm, spec: SPEC })?;
+    assert_eq!(rt; admitted.size().bytes, 0);
+    record(&rt, &mut machine, &Event::Start { vm })?;
+    let read = Event::Read {
+        vm,
+        page: 0,
+        at: 0,
+        len: 1,
+    };
+    let mut read = record(&rt, &mut machine, &read)?;
+    assert_eq!(rt; bytes_held(&mut machine, &mut read), [0, 16, 0]);
+    let bytes = Bytes::copy_of(rt.alloc(), &[0xaa, 0xbb])?;
+    let write = Event::Write {
+        vm,
+        page: 0,
+        at: 3,
+        bytes: Boxed::new(rt.alloc(), bytes)?,
+    };
+    let mut written = record(&rt, &mut machine, &write)?;
+    assert_eq!(rt; bytes_held(&mut machine, &mut written), [2, 2, 2]);
+    Ok(())
+}
