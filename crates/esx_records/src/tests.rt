@@ -1,4 +1,4 @@
-ghost use Rattle.std.specs.Prelude.{◌≡◌, ◌+◌, ◌^◌, ◌<◌, Some, OnOk};
+ghost use Rattle.std.specs.Prelude.{◌≡◌, ◌+◌, ◌^◌, ◌<◌, Some, OnOk, IfOk};
 ghost use Rattle.esx_model.specs.declared.book.VmRow.{VmRow};
 ghost use Rattle.esx_model.specs.declared.scene.Scene.{Scene};
 ghost use Rattle.esx_plans.specs.plan.Balloon.{CanEpochsRise};
@@ -51,42 +51,42 @@ fn expect_rise(rt: &impl Abort, machine: &Machine) -> Result<(), Fail>
 }
 
 /// The record of one event.
-fn record(rt: &impl Abort, machine: &mut Machine, event: &Event) -> Result<Record, Fail>
+fn record_of(rt: &impl Abort, machine: &mut Machine, event: &Event) -> Result<Record, Fail>
     requires shown { (scene : Scene) × Shows machine.old scene }
-    ensures back { OnOk result (λ r. Trades r machine.new machine.old) }
-    ensures shown { OnOk result (λ r. (scene : Scene) × Shows machine.new scene) }
+    ensures back { IfOk result (λ r. Trades r machine.new machine.old) }
+    ensures shown { IfOk result (λ r. (scene : Scene) × Shows machine.new scene) }
 {
     expect_rise(rt, machine)?;
-    let (_, record) = machine.apply(event)?;
-    Ok(record)
+    let (_, back) = machine.apply(event)?;
+    Ok(back)
 }
 
 /// How many bytes a record holds, as it is given, after one flip and after two.
-fn bytes_held(machine: &mut Machine, record: &mut Record) -> [u64; 3]
-    requires fits { (there : Kept) × Trades record.old machine.old there }
+fn bytes_held(machine: &mut Machine, back: &mut Record) -> [u64; 3]
+    requires fits { (there : Kept) × Trades back.old machine.old there }
     ensures { machine.new ≡ machine.old }
 {
-    let given = record.size().bytes;
-    machine.flip(record);
-    let flipped = record.size().bytes;
-    machine.flip(record);
-    [given, flipped, record.size().bytes]
+    let given = back.size().bytes;
+    machine.flip(back);
+    let flipped = back.size().bytes;
+    machine.flip(back);
+    [given, flipped, back.size().bytes]
 }
 
 #[test]
 fn records_hold_the_bytes_that_moved(rt: HostRuntime) -> Result<(), Fail> {
     let vm = VmId::new(0).ok_or("vm")?;
     let mut machine = Machine::open(rt.alloc(), SITE)?;
-    let admitted = record(&rt, &mut machine, &Event::Admit { vm, spec: SPEC })?;
+    let admitted = record_of(&rt, &mut machine, &Event::Admit { vm, spec: SPEC })?;
     assert_eq!(rt; admitted.size().bytes, 0);
-    record(&rt, &mut machine, &Event::Start { vm })?;
+    record_of(&rt, &mut machine, &Event::Start { vm })?;
     let read = Event::Read {
         vm,
         page: 0,
         at: 0,
         len: 1,
     };
-    let mut read = record(&rt, &mut machine, &read)?;
+    let mut read = record_of(&rt, &mut machine, &read)?;
     assert_eq!(rt; bytes_held(&mut machine, &mut read), [0, 16, 0]);
     let bytes = Bytes::copy_of(rt.alloc(), &[0xaa, 0xbb])?;
     let write = Event::Write {
@@ -95,7 +95,7 @@ fn records_hold_the_bytes_that_moved(rt: HostRuntime) -> Result<(), Fail> {
         at: 3,
         bytes: Boxed::new(rt.alloc(), bytes)?,
     };
-    let mut written = record(&rt, &mut machine, &write)?;
+    let mut written = record_of(&rt, &mut machine, &write)?;
     assert_eq!(rt; bytes_held(&mut machine, &mut written), [2, 2, 2]);
     Ok(())
 }
