@@ -8,6 +8,7 @@ use esx_events::{Boxed, Event};
 use esx_machine::{Machine, Record};
 use esx_model::VmRow;
 use esx_types::{Bytes, Config, VmId, VmSpec};
+use std::alloc::{AllocError, Global};
 use std::process::Abort;
 use std::test::Fail;
 
@@ -73,29 +74,60 @@ fn bytes_held(machine: &mut Machine, back: &mut Record) -> [u64; 3]
     [given, flipped, back.size().bytes]
 }
 
-#[test]
-fn records_hold_the_bytes_that_moved(rt: HostRuntime) -> Result<(), Fail> {
-    let vm = VmId::new(0).ok_or("vm")?;
-    let mut machine = Machine::open(rt.alloc(), SITE)?;
-    let admitted = record_of(&rt, &mut machine, &Event::Admit { vm, spec: SPEC })?;
-    assert_eq!(rt; admitted.size().bytes, 0);
-    record_of(&rt, &mut machine, &Event::Start { vm })?;
+/// The record of an event holds so many bytes, as it is given, after one flip and after two.
+fn expect_bytes(
+    rt: &impl Abort,
+    machine: &mut Machine,
+    event: &Event,
+    want: [u64; 3],
+) -> Result<(), Fail>
+    requires shown { (scene : Scene) × Shows machine.old scene }
+    ensures { OnOk result ((scene : Scene) × Shows machine.new scene) }
+{
+    let mut back = record_of(rt, machine, event)?;
+    let held = bytes_held(machine, &mut back);
+    assert_eq!(rt; held, want);
+    Ok(())
+}
+
+/// Two bytes for the first page.
+fn bytes_written(alloc: Global, vm: VmId) -> Result<Event, AllocError> {
+    let bytes = Bytes::copy_of(alloc, &[0xaa, 0xbb])?;
+    Ok(Event::Write {
+        vm,
+        page: 0,
+        at: 3,
+        bytes: Boxed::new(alloc, bytes)?,
+    })
+}
+
+fn expect_start(rt: &impl Abort, machine: &mut Machine, vm: VmId) -> Result<(), Fail>
+    requires shown { (scene : Scene) × Shows machine.old scene }
+    ensures { OnOk result ((scene : Scene) × Shows machine.new scene) }
+{
+    let admit = Event::Admit { vm, spec: SPEC };
+    expect_bytes(rt, machine, &admit, [0, 0, 0])?;
+    expect_bytes(rt, machine, &Event::Start { vm }, [0, 0, 0])
+}
+
+fn expect_access(rt: &impl Abort, machine: &mut Machine, vm: VmId, write: &Event) -> Result<(), Fail>
+    requires shown { (scene : Scene) × Shows machine.old scene }
+{
     let read = Event::Read {
         vm,
         page: 0,
         at: 0,
         len: 1,
     };
-    let mut read = record_of(&rt, &mut machine, &read)?;
-    assert_eq!(rt; bytes_held(&mut machine, &mut read), [0, 16, 0]);
-    let bytes = Bytes::copy_of(rt.alloc(), &[0xaa, 0xbb])?;
-    let write = Event::Write {
-        vm,
-        page: 0,
-        at: 3,
-        bytes: Boxed::new(rt.alloc(), bytes)?,
-    };
-    let mut written = record_of(&rt, &mut machine, &write)?;
-    assert_eq!(rt; bytes_held(&mut machine, &mut written), [2, 2, 2]);
-    Ok(())
+    expect_bytes(rt, machine, &read, [0, 16, 0])?;
+    expect_bytes(rt, machine, write, [2, 2, 2])
+}
+
+#[test]
+fn records_hold_the_bytes_that_moved(rt: HostRuntime) -> Result<(), Fail> {
+    let vm = VmId::new(0).ok_or("vm")?;
+    let write = bytes_written(rt.alloc(), vm)?;
+    let mut machine = Machine::open(rt.alloc(), SITE)?;
+    expect_start(&rt, &mut machine, vm)?;
+    expect_access(&rt, &mut machine, vm, &write)
 }
