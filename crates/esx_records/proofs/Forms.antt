@@ -1,6 +1,5 @@
 -- A record has two forms: as its event gave it, and as a flip leaves it.
-use Rattle.std.proofs.Common.{◌≡◌, ℕ, zero, suc, List, refl, sym, ap, ◌∙◌, subst}
-use Rattle.esx_types.specs.declared.config.Config.{Config}
+use Rattle.std.proofs.Common.{◌≡◌, ℕ, zero, suc, List, sym, ap, ◌∙◌, subst}
 use Rattle.esx_types.specs.declared.level.Level.{Level}
 use Rattle.esx_events.specs.declared.event.Event.{Event}
 use Rattle.esx_model.specs.declared.tables.Tables.{Tables}

@@ -1,5 +1,5 @@
 -- Changes that are small in both forms, whatever the tables.
-use Rattle.std.proofs.Common.{◌≡◌, ℕ, ◌+◌, ◌≤◌, Bool, true, false, List, [], ◌∷◌, length, sum_by, refl, ap, arith, cond, Option, Some, None, Ok, Err}
+use Rattle.std.proofs.Common.{◌≡◌, ℕ, ◌+◌, ◌≤◌, Bool, true, false, List, [], ◌∷◌, length, refl, ap, arith, cond, Option, Some, None, Ok, Err}
 use Rattle.esx_lists.specs.Counts.{one}
 use Rattle.esx_types.specs.declared.config.Config.{Config}
 use Rattle.esx_types.specs.declared.table.FrameRow.{FrameRow}
@@ -13,7 +13,7 @@ use Rattle.esx_tables.specs.declared.change.VmPart.{VmPart}
 use Rattle.esx_tables.specs.Changes.{exchanged}
 use Rattle.esx_tables.specs.Sizes.{bytes_held, marks_held, part_marks, is_row, is_row_part, is_target, is_target_part}
 use Rattle.esx_plans.specs.plan.Planned.{Planned, at_row}
-use Rattle.esx_records.specs.Small.{place_in, places_in, IsSmall}
+use Rattle.esx_records.specs.Small.{IsSmall}
 use Rattle.esx_records.proofs.Totals.{total, total_is, one_if, back, kept_back}
 use Rattle.esx_records.proofs.Alike.{places_held, places_total, row_kept, target_kept, places_kept}
 use Rattle.esx_records.proofs.Pages.{HavePages, bytes_most, whole_rows, pages_back}
@@ -52,9 +52,10 @@ small c t most changes pages few m =
     let targets = kept_back (one_if is_target) (λ u change. ap (λ b. cond b 1 0) (target_kept u change)) t changes in
     let each = m.targets in
     let machines = kept_back places_held places_kept t changes in
-    let moved = m.machines in
-    (is_small c most changes m.bytes m.rows m.marks m.targets m.machines,
-     is_small c most (back t changes) (omega (arith, bytes, held)) (omega (arith, rows, ten)) (omega (arith, marks, hundred)) (omega (arith, targets, each)) (omega (arith, machines, moved)))
+    let moved = m.machines in (
+      is_small c most changes m.bytes m.rows m.marks m.targets m.machines,
+      is_small c most (back t changes) (omega (arith, bytes, held)) (omega (arith, rows, ten)) (omega (arith, marks, hundred)) (omega (arith, targets, each)) (omega (arith, machines, moved)),
+    )
 
 -- Changes that hold no bytes of pages, no target and no machine, and so many rows.
 pub record IsLight (c : Config) (rows : ℕ) (changes : List Change) : Type 0 where

@@ -1,5 +1,5 @@
 -- A machine that is admitted, and one that goes.
-use Rattle.std.proofs.Common.{◌≡◌, zero, suc, ℕ, ◌<◌, ◌≤◌, nat_lt, Bool, true, false, List, [], ◌∷◌, length, get_or, set, refl, sym, ap, ◌∙◌, subst, cond, arith, ◌-◌, slice_index, Option, Some, None, is_some}
+use Rattle.std.proofs.Common.{◌≡◌, zero, suc, ℕ, ◌<◌, ◌≤◌, Bool, false, List, [], ◌∷◌, length, get_or, set, refl, sym, ap, ◌∙◌, subst, cond, arith, ◌-◌, slice_index, Option, Some, None, is_some}
 use Rattle.std.proofs.lemmas.Bool.{le-ltb}
 use Rattle.std.proofs.lemmas.List.{get_or-set_same}
 use Rattle.esx_types.specs.declared.config.Config.{Config}

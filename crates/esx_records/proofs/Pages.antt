@@ -1,10 +1,10 @@
 -- The bytes of changes: no trade gives more than a page, and one of bytes in a page gives as many as it takes.
-use Rattle.std.proofs.Common.{◌≡◌, zero, suc, ℕ, ◌+◌, ◌-◌, ◌≤◌, nat_lt, Bool, true, false, List, [], ◌∷◌, length, take, drop, get_or, set, refl, sym, ap, arith, cond}
+use Rattle.std.proofs.Common.{◌≡◌, zero, suc, ℕ, ◌-◌, ◌≤◌, nat_lt, Bool, true, false, List, [], ◌∷◌, length, take, drop, get_or, set, refl, arith, cond}
 use Rattle.std.specs.List.{AllByRecursion}
 use Rattle.std.proofs.lemmas.Grind.{common_steps}
 use Rattle.std.proofs.lemmas.List.{length-replicate}
 use Rattle.std.proofs.lemmas.Bool.Decides.{nat_tests}
-use Rattle.esx_lists.specs.Trades.{part_traded, place_traded, overwritten}
+use Rattle.esx_lists.specs.Trades.{part_traded, place_traded}
 use Rattle.esx_lists.proofs.Trades.{fits, part_fits, part_misfits, length-part_traded}
 use Rattle.esx_types.specs.declared.config.Config.{Config}
 use Rattle.esx_types.specs.declared.table.FrameRow.{FrameRow}
@@ -89,8 +89,10 @@ as_many old at new = of (fits old at new) refl
   where
     room : fits old at new ≡ true → length new ≤ length old - at
     room h = grind (arith, nat_tests)
+
     same : length new ≤ length old - at → length (take (length new) (drop at old)) ≡ length new
     same len = grind (arith, common_steps)
+
     of : (b : Bool) → fits old at new ≡ b → length (part_traded old at new).1 ≡ length new
     of true h = (let len = room h in rw (part_fits old at new h) (same len))
     of false h = rw (part_misfits old at new h) refl
@@ -121,8 +123,8 @@ moved_at c f rows slot all few false = (all, few)
 
 moved : (c : Config) (f i : ℕ) (t : Tables) → HavePages c t → (b : Bool)
     → let one : List FrameRow × SlotRow = slot_traded_at f t.frames (slot_at t.slots i) in
-      let r : List FrameRow × List SlotRow = cond b (one.0, set t.slots i one.1) (t.frames, t.slots) in
-      AllByRecursion (IsPageAtMost c) r.0 × AllByRecursion (IsSlotAtMost c) r.1
+    let r : List FrameRow × List SlotRow = cond b (one.0, set t.slots i one.1) (t.frames, t.slots) in
+    AllByRecursion (IsPageAtMost c) r.0 × AllByRecursion (IsSlotAtMost c) r.1
 moved c f i t pages true =
     let one = moved_at c f t.frames (slot_at t.slots i) pages.frames (all_get (IsSlotAtMost c) t.slots i slots.Free pages.slots (none_small c)) (nat_lt f (length t.frames)) in
     (one.0, all_set (IsSlotAtMost c) t.slots i (slot_traded_at f t.frames (slot_at t.slots i)).1 pages.slots one.1)

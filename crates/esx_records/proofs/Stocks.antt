@@ -1,12 +1,10 @@
 -- What the tables of a sound site hold at most.
-use Rattle.std.proofs.Common.{◌≡◌, zero, suc, ℕ, ◌≤◌, Bool, true, false, List, [], ◌∷◌, length, map, get_or, refl, sym, subst, arith, cond, Option, Some, None}
+use Rattle.std.proofs.Common.{◌≡◌, zero, suc, ℕ, ◌≤◌, Bool, true, false, List, [], ◌∷◌, length, map, get_or, refl, arith, cond, Option, Some, None}
 use Rattle.std.specs.List.{flat_map, range_with_len, AllByRecursion}
 use Rattle.esx_types.specs.declared.config.Config.{Config}
 use Rattle.esx_types.specs.declared.config.TheConstants.{VM_NUMBERS}
 use Rattle.esx_types.specs.declared.table.FrameRow.{FrameRow}
 use Rattle.esx_types.specs.declared.table.FrameRow.TheVariants as frames
-use Rattle.esx_types.specs.Frames.{bytes_of}
-use Rattle.esx_types.specs.Slots.{held_bytes}
 use Rattle.esx_model.specs.declared.scene.Place.{Place}
 use Rattle.esx_model.specs.declared.scene.Place.TheVariants.{Untouched, Here, Out, Lent}
 use Rattle.esx_model.specs.declared.scene.Vm.{Vm}

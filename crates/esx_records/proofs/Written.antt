@@ -1,5 +1,5 @@
 -- A write into a frame that stays its page's.
-use Rattle.std.proofs.Common.{◌≡◌, ℕ, ◌+◌, nat_lt, Bool, true, false, List, [], ◌∷◌, length, sum_by, refl, sym, ap, ◌∙◌, subst, cond, arith, Option, Some, None, Ok}
+use Rattle.std.proofs.Common.{◌≡◌, ℕ, nat_lt, Bool, false, List, length, sym, ◌∙◌, subst, cond, arith, Option, Some, Ok}
 use Rattle.esx_types.specs.declared.config.Config.{Config}
 use Rattle.esx_types.specs.declared.level.Level.{Level}
 use Rattle.esx_types.specs.declared.table.FrameRow.{FrameRow}
@@ -8,24 +8,23 @@ use Rattle.esx_types.specs.declared.table.MapRow.{MapRow}
 use Rattle.esx_types.specs.declared.table.MapRow.TheVariants as maps
 use Rattle.esx_types.specs.Frames.{frame_at, ref_count, least_frame}
 use Rattle.esx_types.specs.Pages.{page_at}
-use Rattle.esx_events.specs.declared.event.Event.{Event}
 use Rattle.esx_events.specs.declared.event.Event.TheVariants.{Write}
 use Rattle.esx_model.specs.declared.book.VmRow.{VmRow}
 use Rattle.esx_model.specs.declared.tables.Tables.{Tables}
 use Rattle.esx_model.specs.Tables.{standing_of}
 use Rattle.esx_model.specs.event.Access.{access_gate}
 use Rattle.esx_tables.specs.declared.change.Change.{Change}
-use Rattle.esx_tables.specs.Changes.{traded, exchanged}
+use Rattle.esx_tables.specs.Changes.{exchanged}
 use Rattle.esx_tables.specs.Readings.{row_at}
 use Rattle.esx_tables.specs.Sizes.{bytes_held, size_of}
 use Rattle.esx_plans.specs.plan.Planned.{Planned}
 use Rattle.esx_plans.specs.plan.Counted.{IsOpenOf}
-use Rattle.esx_plans.specs.plan.Access.{stay_changes, come, write_own, write_copy, write_last, write_frame, write_from, write_plan}
-use Rattle.esx_machine.specs.Machine.{Kept, IsKept, Back, Exchanges, turned}
+use Rattle.esx_plans.specs.plan.Access.{come, write_own, write_copy, write_last, write_frame, write_from, write_plan}
+use Rattle.esx_machine.specs.Machine.{Kept, IsKept, Back, Exchanges}
 use Rattle.esx_records.specs.Forms.{after_flips, IsAlone}
 use Rattle.esx_records.proofs.Totals.{total, total_is, back}
 use Rattle.esx_records.proofs.Pages.{whole_rows, bytes_stay}
-use Rattle.esx_records.proofs.Modest.{IsLight, PlansOf, at_row_of, gate_of}
+use Rattle.esx_records.proofs.Modest.{PlansOf, at_row_of, gate_of}
 use Rattle.esx_records.proofs.Stocks.{AreStocked}
 use Rattle.esx_records.proofs.Forms.{turned_changes, in_each_form, kept_stocked}
 use Rattle.esx_records.proofs.plans.Counted.{counted_light}

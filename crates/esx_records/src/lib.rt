@@ -3,6 +3,5 @@
 #![tactic(auto)]
 
 pub mod laws;
-
 #[cfg(test)]
 mod tests;

@@ -110,7 +110,12 @@ fn expect_start(rt: &impl Abort, machine: &mut Machine, vm: VmId) -> Result<(), 
     expect_bytes(rt, machine, &Event::Start { vm }, [0, 0, 0])
 }
 
-fn expect_access(rt: &impl Abort, machine: &mut Machine, vm: VmId, write: &Event) -> Result<(), Fail>
+fn expect_access(
+    rt: &impl Abort,
+    machine: &mut Machine,
+    vm: VmId,
+    write: &Event,
+) -> Result<(), Fail>
     requires shown { (scene : Scene) × Shows machine.old scene }
 {
     let read = Event::Read {

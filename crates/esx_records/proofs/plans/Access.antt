@@ -1,9 +1,7 @@
 -- Reads and writes.
-use Rattle.std.proofs.Common.{◌≡◌, ℕ, ◌+◌, ◌-◌, ◌≤◌, nat_lt, nat_le, ◌==◌, ◌||◌, Bool, true, false, List, [], ◌∷◌, ◌++◌, length, take, drop, map, get_or, refl, sym, ap, subst, arith, cond, Option, Some, None, Ok}
-use Rattle.std.specs.List.{AllByRecursion}
+use Rattle.std.proofs.Common.{◌≡◌, ℕ, ◌+◌, ◌≤◌, nat_lt, nat_le, ◌==◌, ◌||◌, Bool, true, false, List, ◌∷◌, length, refl, arith, cond, Option, Some, None, Ok}
 use Rattle.std.proofs.lemmas.Bool.Decides.{nat_tests}
 use Rattle.std.proofs.lemmas.Grind.{common_steps}
-use Rattle.std.proofs.lemmas.List.{length-replicate}
 use Rattle.esx_types.specs.declared.config.Config.{Config}
 use Rattle.esx_types.specs.declared.level.Level.{Level}
 use Rattle.esx_types.specs.declared.table.FrameRow.{FrameRow}
@@ -25,9 +23,8 @@ use Rattle.esx_tables.specs.declared.change.VmPart.{VmPart}
 use Rattle.esx_tables.specs.declared.change.VmPart.TheVariants.{PageAt, Facts}
 use Rattle.esx_tables.specs.Machines.{facts_of}
 use Rattle.esx_tables.specs.Readings.{row_at}
-use Rattle.esx_plans.specs.plan.Planned.{Planned}
 use Rattle.esx_plans.specs.plan.Counted.{IsOpenOf}
-use Rattle.esx_plans.specs.plan.Access.{come_changes, stay_changes, come, read_zeros, read_slot, read_frame, read_from, read_plan, write_zeros, write_slot, write_own, write_copy, write_last, write_frame, write_from, write_plan}
+use Rattle.esx_plans.specs.plan.Access.{come_changes, stay_changes, come, read_zeros, read_slot, read_from, read_plan, write_zeros, write_slot, write_own, write_copy, write_last, write_frame, write_from, write_plan}
 use Rattle.esx_records.proofs.Pages.{HavePages, frame_small, zeros_small}
 use Rattle.esx_records.proofs.Modest.{IsModest, IsLight, light, with_part, more_rows, framed, PlansModest, at_row_modest, any_gate, gate_modest}
 use Rattle.esx_records.proofs.Stocks.{AreStocked}

@@ -1,5 +1,5 @@
 -- An admission.
-use Rattle.std.proofs.Common.{ℕ, Option, Some, arith, is_some}
+use Rattle.std.proofs.Common.{ℕ, arith, is_some}
 use Rattle.esx_types.specs.declared.config.Config.{Config}
 use Rattle.esx_types.specs.declared.vm.VmSpec.{VmSpec}
 use Rattle.esx_model.specs.declared.tables.Tables.{Tables}

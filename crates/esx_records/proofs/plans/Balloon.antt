@@ -1,5 +1,5 @@
 -- What a balloon driver asks, a loan and its end.
-use Rattle.std.proofs.Common.{ℕ, ◌+◌, Bool, true, false, [], ◌∷◌, Some, Ok, cond, arith}
+use Rattle.std.proofs.Common.{ℕ, ◌+◌, Bool, true, false, [], Ok, cond, arith}
 use Rattle.esx_types.specs.declared.config.Config.{Config}
 use Rattle.esx_types.specs.declared.table.MapRow.TheVariants.{Untouched, Lent}
 use Rattle.esx_types.specs.Pages.{page_at}

@@ -1,21 +1,18 @@
 -- The changes of each event are small in both forms.
-use Rattle.std.proofs.Common.{◌≡◌, ℕ, List, refl, subst, arith, Ok, Err}
+use Rattle.std.proofs.Common.{◌≡◌, List, subst, Ok}
 use Rattle.esx_types.specs.declared.config.Config.{Config}
 use Rattle.esx_types.specs.declared.level.Level.{Level}
 use Rattle.esx_events.specs.declared.event.Answer.{Answer}
 use Rattle.esx_events.specs.declared.event.Event.{Event}
 use Rattle.esx_events.specs.declared.event.Event.TheVariants.{Admit, Start, Read, Write, Ask, Lend, TakeBack, Sample, Rebalance, Scan, SwapOut, Replace, SetShares, SetTax, Stop, DropPage, Gone}
-use Rattle.esx_model.specs.declared.scene.Site.{Site}
 use Rattle.esx_model.specs.declared.tables.Tables.{Tables}
-use Rattle.esx_model.specs.Tables.{tables_of}
-use Rattle.esx_model.specs.sound.Sound.{IsSound}
 use Rattle.esx_tables.specs.declared.change.Change.{Change}
 use Rattle.esx_tables.specs.Changes.{exchanged}
 use Rattle.esx_plans.specs.plan.Planned.{Planned}
 use Rattle.esx_plans.specs.plan.Event.{plan_of}
 use Rattle.esx_records.specs.Small.{machines_moved, IsSmall}
-use Rattle.esx_records.proofs.Modest.{IsModest, PlansModest, small}
-use Rattle.esx_records.proofs.Stocks.{AreStocked, stocked}
+use Rattle.esx_records.proofs.Modest.{PlansModest, small}
+use Rattle.esx_records.proofs.Stocks.{AreStocked}
 use Rattle.esx_records.proofs.plans.Admission.{admit_small}
 use Rattle.esx_records.proofs.plans.Starting.{start_small}
 use Rattle.esx_records.proofs.plans.Access.{read_small, write_small}

@@ -8,7 +8,6 @@ use Rattle.esx_types.specs.declared.table.MapRow.{MapRow}
 use Rattle.esx_types.specs.declared.table.MapRow.TheVariants as maps
 use Rattle.esx_types.specs.Frames.{frame_at, ref_count}
 use Rattle.esx_frames.specs.declared.marks.Mark.TheVariants as marks
-use Rattle.esx_tables.specs.declared.change.Change.{Change}
 use Rattle.esx_tables.specs.declared.change.Change.TheVariants.{FrameAt, MarkAt, ListingAt, OfVm}
 use Rattle.esx_tables.specs.declared.change.VmPart.TheVariants.{PageAt}
 use Rattle.esx_plans.specs.plan.Leaves.{page_leaves}

@@ -12,7 +12,7 @@ use Rattle.esx_model.specs.event.Leaving.{stop_gate, drop_gate, gone_gate}
 use Rattle.esx_tables.specs.declared.change.Change.TheVariants.{FrameAt, OfVm}
 use Rattle.esx_tables.specs.declared.change.VmPart.TheVariants.{OverheadTop}
 use Rattle.esx_tables.specs.Readings.{row_at}
-use Rattle.esx_plans.specs.plan.Leaving.{stop_plan, drop_plan, gone_changes, give_back_changes, gone_plan}
+use Rattle.esx_plans.specs.plan.Leaving.{stop_plan, drop_plan, gone_changes, gone_plan}
 use Rattle.esx_records.proofs.Modest.{IsModest, PlansModest, at_row_modest, any_gate}
 use Rattle.esx_records.proofs.plans.Leaves.{leaves_modest}
 

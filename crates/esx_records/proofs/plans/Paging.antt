@@ -6,7 +6,7 @@ use Rattle.esx_types.specs.declared.table.FrameRow.{FrameRow}
 use Rattle.esx_types.specs.declared.table.FrameRow.TheVariants as frames
 use Rattle.esx_types.specs.declared.table.MapRow.{MapRow}
 use Rattle.esx_types.specs.declared.table.MapRow.TheVariants as maps
-use Rattle.esx_types.specs.Frames.{frame_at, bytes_of}
+use Rattle.esx_types.specs.Frames.{frame_at}
 use Rattle.esx_types.specs.Slots.{least_slot}
 use Rattle.esx_types.specs.Pages.{page_at}
 use Rattle.esx_model.specs.declared.look.Look.{Look}

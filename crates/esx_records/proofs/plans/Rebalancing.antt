@@ -1,6 +1,5 @@
 -- New targets, the tax and shares.
-use Rattle.std.proofs.Common.{◌≡◌, ℕ, ◌+◌, ◌≤◌, List, [], ◌∷◌, length, map, refl, arith, Option, Some, None}
-use Rattle.std.specs.List.{zip}
+use Rattle.std.proofs.Common.{◌≡◌, ℕ, ◌+◌, ◌≤◌, List, [], ◌∷◌, length, refl, arith, Option, Some, None}
 use Rattle.esx_types.specs.declared.config.Config.{Config}
 use Rattle.esx_types.specs.declared.level.Level.{Level}
 use Rattle.esx_types.specs.declared.level.Level.TheVariants.{High, Soft, Hard, Low}
@@ -13,7 +12,7 @@ use Rattle.esx_tables.specs.declared.change.Change.{Change}
 use Rattle.esx_tables.specs.Readings.{row_at}
 use Rattle.esx_tables.specs.Sizes.{bytes_held, marks_held, is_row, is_target}
 use Rattle.esx_plans.specs.plan.Ratios.{numbered, ratio_row, ratio_rows, least_of}
-use Rattle.esx_plans.specs.plan.Rebalancing.{to_max, to_target, to_targets, wanted, share_out_plan, rebalance_plan, tax_plan, shares_plan}
+use Rattle.esx_plans.specs.plan.Rebalancing.{to_max, to_targets, wanted, share_out_plan, rebalance_plan, tax_plan, shares_plan}
 use Rattle.esx_records.proofs.Alike.{places_held}
 use Rattle.esx_records.proofs.Totals.{total, one_if}
 use Rattle.esx_records.proofs.Pages.{bytes_most}

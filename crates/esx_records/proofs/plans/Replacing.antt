@@ -1,8 +1,7 @@
 -- A page that comes in place of another.
-use Rattle.std.proofs.Common.{◌≡◌, ℕ, ◌≤◌, Bool, true, false, List, [], ◌∷◌, ◌++◌, length, map, Option, Some, None, arith, cond}
+use Rattle.std.proofs.Common.{ℕ, Bool, true, false, [], ◌∷◌, ◌++◌, map, Option, Some, None, arith, cond}
 use Rattle.std.specs.List.{list_any}
 use Rattle.esx_types.specs.declared.config.Config.{Config}
-use Rattle.esx_types.specs.declared.table.FrameRow.{FrameRow}
 use Rattle.esx_types.specs.declared.table.Listing.TheVariants as listings
 use Rattle.esx_types.specs.declared.table.MapRow.{MapRow}
 use Rattle.esx_types.specs.declared.table.MapRow.TheVariants as maps
@@ -14,7 +13,6 @@ use Rattle.esx_model.specs.declared.book.VmRow.{VmRow}
 use Rattle.esx_model.specs.declared.tables.Tables.{Tables}
 use Rattle.esx_model.specs.Tables.{standing_of}
 use Rattle.esx_model.specs.event.Paging.{replace_gate}
-use Rattle.esx_tables.specs.declared.change.Change.{Change}
 use Rattle.esx_tables.specs.declared.change.Change.TheVariants.{MarkAt, ListingAt, FrameWithSlot, OfVm}
 use Rattle.esx_tables.specs.Readings.{row_at}
 use Rattle.esx_plans.specs.plan.Replacing.{drawn_page, has_spare, slot_for, new_changes, replace_parts, replace_changes, trade_with, replace_from, replace_plan}

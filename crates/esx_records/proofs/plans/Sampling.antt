@@ -1,15 +1,14 @@
 -- A sample period that opens.
-use Rattle.std.proofs.Common.{◌≡◌, ℕ, ◌≤◌, ◌&&◌, nat_le, Bool, true, false, not, List, length, map, refl, arith, Some, is_some}
+use Rattle.std.proofs.Common.{◌≡◌, ℕ, ◌≤◌, ◌&&◌, nat_le, Bool, true, false, not, List, length, map, refl, arith, is_some}
 use Rattle.std.proofs.lemmas.Bool.Decides.{nat_tests}
 use Rattle.std.proofs.lemmas.List.{length-map}
 use Rattle.esx_types.specs.declared.config.Config.{Config}
 use Rattle.esx_model.specs.declared.book.Mark.{Mark}
-use Rattle.esx_model.specs.declared.book.VmRow.{VmRow}
 use Rattle.esx_model.specs.declared.tables.Tables.{Tables}
 use Rattle.esx_model.specs.Tables.{standing_of}
 use Rattle.esx_model.specs.event.Sampling.{are_good_words, sample_gate}
 use Rattle.esx_tables.specs.Readings.{row_at}
-use Rattle.esx_plans.specs.plan.Sampling.{drawn, opened_row, sample_plan}
+use Rattle.esx_plans.specs.plan.Sampling.{drawn, sample_plan}
 use Rattle.esx_records.proofs.Modest.{PlansModest, at_row_modest, gate_modest}
 
 middle : (a b d e : Bool) → not (a && b && d && e) ≡ false → b ≡ true

@@ -1,5 +1,5 @@
 -- A scan.
-use Rattle.std.proofs.Common.{ℕ, List, Option, Some, None, arith}
+use Rattle.std.proofs.Common.{ℕ, Option, Some, None, arith}
 use Rattle.std.specs.List.{position_from}
 use Rattle.esx_types.specs.declared.config.Config.{Config}
 use Rattle.esx_types.specs.declared.table.MapRow.{MapRow}
