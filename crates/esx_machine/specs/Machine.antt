@@ -4,6 +4,7 @@ use Rattle.esx_types.specs.Ranges.{IsConfig}
 use Rattle.esx_types.specs.declared.config.Config.{Config}
 use Rattle.esx_types.specs.declared.level.Level.{Level}
 use Rattle.esx_events.specs.declared.event.Answer.{Answer}
+use Rattle.esx_events.specs.declared.event.Event.{Event}
 use Rattle.esx_events.specs.declared.event.Refusal.{Refusal}
 use Rattle.esx_events.specs.declared.event.Refusal.TheVariants.{OutOfMemory}
 use Rattle.esx_model.specs.declared.scene.Site.{Site}
@@ -14,6 +15,7 @@ use Rattle.esx_model.specs.Tables.{tables_of, book_from}
 use Rattle.esx_model.specs.sound.Sound.{IsSound}
 use Rattle.esx_tables.specs.declared.change.Change.{Change}
 use Rattle.esx_tables.specs.Changes.{exchanged}
+use Rattle.esx_plans.specs.plan.Event.{plan_of}
 
 -- a site's numbers, the level and the tables
 pub record Kept : Type 0 where
@@ -55,6 +57,14 @@ pub record Trades (r : Back) (here there : Kept) : Type 0 where
 -- a record after its flip
 abbrev pub turned : Back → Kept → Back
 turned r here = (flipped here r).1
+
+-- The changes of an event's plan were traded with the tables; what they left there is the record, with the level that was.
+pub record Exchanges (old new : Kept) (event : Event) (r : Back) : Type 0 where
+  pub plan : Answer × List Change
+  pub planned : plan_of old.config old.tables old.level event ≡ Ok plan
+  pub tables : new.tables ≡ (exchanged old.tables plan.1).0
+  pub level : r.level ≡ old.level
+  pub changes : r.changes ≡ (exchanged old.tables plan.1).1
 
 -- An event was accepted, where d is what it does to the scene that was shown.
 pub record Accepts (old new : Kept) (answer : Answer) (r : Back) (d : Result (Answer × Scene) Refusal) : Type 0 where

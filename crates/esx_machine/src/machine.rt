@@ -69,7 +69,7 @@ impl Machine {
     ghost use Rattle.esx_model.specs.Advice.{advice};
     ghost use Rattle.esx_model.specs.Replay.{next, opening};
     ghost use Rattle.esx_plans.specs.plan.Balloon.{CanEpochsRise};
-    ghost use Rattle.esx_machine.specs.Machine.{Kept, Shows, Trades, turned, Applies, book_in};
+    ghost use Rattle.esx_machine.specs.Machine.{Kept, Shows, Trades, turned, Applies, Exchanges, book_in};
 
     /// A site with no virtual machines. `BadSpec` where one of its numbers is out of its range.
     pub fn open(alloc: Global, config: Config) -> Result<Machine, Refusal>
@@ -90,13 +90,15 @@ impl Machine {
         })
     }
 
-    /// One event: its answer, and the record that leads back. A refusal is the first that applies, and
-    /// changes nothing; neither does want of memory.
+    /// One event: its answer, and the record that leads back, which holds what the changes of the event's
+    /// plan left and nothing else. A refusal is the first that applies, and changes nothing; neither does
+    /// want of memory.
     ///
     /// condition: each machine's epoch can rise
     pub fn apply(&mut self, event: &Event) -> Result<(Answer, Record), Refusal>
         requires rise { CanEpochsRise self.old.tables }
-        ensures { (scene : Scene) → Shows self.old scene → Applies result self.old self.new (next self.old.config scene event.now) }
+        ensures event { (scene : Scene) → Shows self.old scene → Applies result self.old self.new (next self.old.config scene event.now) }
+        ensures exchanges { IfOk result (λ r. Exchanges self.old self.new event.now r.1) }
     {
         let plan = match plan_event(&self.tables, self.alloc, &self.config, self.level, event) {
             Ok(plan) => plan,

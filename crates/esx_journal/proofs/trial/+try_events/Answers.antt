@@ -29,7 +29,7 @@ apply-requires t c =
 pub try_events-after-requires : goal.try_events-after-requires
 try_events-after-requires t c =
     let s = c.requires.shows in
-    let x = c.in-Ok.ensures s.0 s.1 in
+    let x = c.in-Ok.ensures.event s.0 s.1 in
     let within = c.requires.within in
     let f = c.if-at-events.false in
     let next : (2 ^ 24 + c.args.at) + 1 ≡ 2 ^ 24 + (c.args.at + 1) = omega arith in
@@ -40,7 +40,7 @@ try_events-after-requires t c =
 pub returns-in-Ok-clause-same : goal.returns-in-Ok-clause-same
 returns-in-Ok-clause-same t c =
     let s = c.requires.shows in
-    let x = c.in-Ok.ensures s.0 s.1 in
+    let x = c.in-Ok.ensures.event s.0 s.1 in
     let P : machines.Kept → Type 0 = λ k. Trades c.in-Ok.back k c.args.machine.now in
     c.revert.ensures c.args.machine.now (subst P (sym c.try_events-after.ensures.same) x.back)
 
@@ -49,7 +49,7 @@ returns-in-Ok-clause-tells t c = λ scene shows.
     let k : machines.Kept = c.args.machine.now in
     let e = c.index-events-at.result in
     let es : List Event = c.args.events.now in
-    let x = c.in-Ok.ensures scene shows in
+    let x = c.in-Ok.ensures.event scene shows in
     let within = c.requires.within in
     let less : c.args.at < length es = (let f = c.if-at-events.false in omega arith) in
     let next : suc c.args.at ≡ c.args.at + 1 = omega arith in
@@ -68,7 +68,7 @@ returns-in_default t c =
     let k : machines.Kept = c.args.machine.now in
     let e = c.index-events-at.result in
     let es : List Event = c.args.events.now in
-    let same = (c.in-Err.ensures s.0 s.1).same in
+    let same = (c.in-Err.ensures.event s.0 s.1).same in
     let no : c.in-Err.refusal ≢ OutOfMemory = c.in_default.not-OutOfMemory in
     let within = c.requires.within in
     let less : c.args.at < length es = (let f = c.if-at-events.false in omega arith) in
@@ -83,5 +83,5 @@ returns-in_default t c =
           let sum = sum_is k scene c.sum-in_default.result shows (c.sum-in_default.ensures.value ∙ ap (λ (m : machines.Kept). sum_of (book_in m)) same) in
           let P : List Event → Type 0 = λ l. Told k.config scene l c.args.replies.now.items c.push-in_default.new.self.items c.sum-in_default.result in
           let R : Replies → Type 0 = λ q. Told k.config scene (e ∷ drop (c.args.at + 1) es) c.args.replies.now.items q c.sum-in_default.result in
-          subst P (sym rest) (subst R (sym pushed) (told_refused k.config scene e (drop (c.args.at + 1) es) c.in-Err.refusal c.args.replies.now.items c.sum-in_default.result ((c.in-Err.ensures scene shows).why no) sum)));
+          subst P (sym rest) (subst R (sym pushed) (told_refused k.config scene e (drop (c.args.at + 1) es) c.in-Err.refusal c.args.replies.now.items c.sum-in_default.result ((c.in-Err.ensures.event scene shows).why no) sum)));
     }

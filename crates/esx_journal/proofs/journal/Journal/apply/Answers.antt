@@ -38,7 +38,7 @@ invariant_of-self c =
     let l = k.holds.limit in
     let s = k.holds.size in
     let old : Kept = record { machine = c.self.inside.machine; rows = c.self.inside.rows.items; cursor = c.self.inside.cursor; depth = c.self.inside.depth; nodes = c.self.inside.nodes; marks = c.self.inside.marks } in
-    let x = refused old c.apply.new.self k.history c.args.event.now c.in_err-answer.field-0.0 no_row k.holds (omega arith) c.in_err-answer.ensures in
+    let x = refused old c.apply.new.self k.history c.args.event.now c.in_err-answer.field-0.0 no_row k.holds (omega arith) c.in_err-answer.ensures.event in
     let P : machines.Kept → Type 0 = λ q. IsKept (record old { machine = q }) in
     subst P (sym x.0) k
 
@@ -51,7 +51,7 @@ returns-in_err-answer c =
     let all : (m : History) → Holds c.args.self.now m → Refused c.args.self.now new r (do_event c.args.event.now m) = subst P c.self.view_is (λ m h.
     let l = h.limit in
     let s = h.size in
-    let x = refused old c.apply.new.self m c.args.event.now r no_row h (omega arith) c.in_err-answer.ensures in
+    let x = refused old c.apply.new.self m c.args.event.now r no_row h (omega arith) c.in_err-answer.ensures.event in
     record { same = ap (λ q. record old { machine = q }) x.0; why = x.1; late = x.2 }) in
     let Q : Result (Answer × Answer) Refusal → Type 0 = λ q. (m : History) → Holds c.args.self.now m → Does q c.args.self.now new (do_event c.args.event.now m) in
     subst Q (sym (err_is c.from_residual.result r c.from_residual.ensures.1)) all
@@ -82,7 +82,7 @@ invariant_of-self-in-Ok c =
     let s = k.holds.size in
     let old : Kept = record { machine = c.self.inside.machine; rows = c.self.inside.rows.items; cursor = c.self.inside.cursor; depth = c.self.inside.depth; nodes = c.self.inside.nodes; marks = c.self.inside.marks } in
     let new : Kept = record { machine = c.apply.new.self; rows = c.add_child.new.rows.items; cursor = c.len-made.result; depth = c.self.inside.depth + 1; nodes = c.self.inside.nodes; marks = c.self.inside.marks } in
-    let x = applied old new k.history c.args.event.now c.in_ok-answer.answer c.in_ok-answer.back no_row k.holds (omega arith) c.in_ok-answer.ensures
+    let x = applied old new k.history c.args.event.now c.in_ok-answer.answer c.in_ok-answer.back no_row k.holds (omega arith) c.in_ok-answer.ensures.event
     (c.add_child.ensures no_row ∙ ap (λ rows. grown rows c.self.inside.cursor c.in_ok-answer.back no_row) c.in-Ok.ensures.items) (omega arith) refl refl refl in
     record { history = done c.args.event.now k.history; aim = Down (length k.history.nodes + 1) ∷ k.aim; holds = x.0; fits = omega arith; limit = k.limit }
 
@@ -96,7 +96,7 @@ returns-in-Ok c =
     subst P c.self.view_is (λ m h.
     let l = h.limit in
     let s = h.size in
-    let x = applied old new m c.args.event.now c.in_ok-answer.answer c.in_ok-answer.back no_row h (omega arith) c.in_ok-answer.ensures
+    let x = applied old new m c.args.event.now c.in_ok-answer.answer c.in_ok-answer.back no_row h (omega arith) c.in_ok-answer.ensures.event
     (c.add_child.ensures no_row ∙ ap (λ rows. grown rows c.self.inside.cursor c.in_ok-answer.back no_row) c.in-Ok.ensures.items) (omega arith) refl refl refl in
     record {
       after = done c.args.event.now m;
@@ -109,13 +109,13 @@ pub revert-requires : goal.revert-requires
 revert-requires c =
     let k = c.self.invariant in
     let old : Kept = record { machine = c.self.inside.machine; rows = c.self.inside.rows.items; cursor = c.self.inside.cursor; depth = c.self.inside.depth; nodes = c.self.inside.nodes; marks = c.self.inside.marks } in
-    (c.self.inside.machine, trades_back old c.apply.new.self k.history c.args.event.now c.in_ok-answer.answer c.in_ok-answer.back no_row k.holds c.in_ok-answer.ensures)
+    (c.self.inside.machine, trades_back old c.apply.new.self k.history c.args.event.now c.in_ok-answer.answer c.in_ok-answer.back no_row k.holds c.in_ok-answer.ensures.event)
 
 pub invariant_of-self-in-Err : goal.invariant_of-self-in-Err
 invariant_of-self-in-Err c =
     let k = c.self.invariant in
     let old : Kept = record { machine = c.self.inside.machine; rows = c.self.inside.rows.items; cursor = c.self.inside.cursor; depth = c.self.inside.depth; nodes = c.self.inside.nodes; marks = c.self.inside.marks } in
-    let home = c.revert.ensures c.self.inside.machine (trades_back old c.apply.new.self k.history c.args.event.now c.in_ok-answer.answer c.in_ok-answer.back no_row k.holds c.in_ok-answer.ensures) in
+    let home = c.revert.ensures c.self.inside.machine (trades_back old c.apply.new.self k.history c.args.event.now c.in_ok-answer.answer c.in_ok-answer.back no_row k.holds c.in_ok-answer.ensures.event) in
     let Q : machines.Kept → Type 0 = λ q. IsKept (record old { machine = q; rows = c.take_room.new.rows.items }) in
     let R : List Row → Type 0 = λ q. IsKept (record old { rows = q }) in
     subst Q (sym home) (subst R (sym c.in-Err.ensures.items) k)
@@ -124,7 +124,7 @@ pub returns-in-Err : goal.returns-in-Err
 returns-in-Err c =
     let k = c.self.invariant in
     let old : Kept = record { machine = c.self.inside.machine; rows = c.self.inside.rows.items; cursor = c.self.inside.cursor; depth = c.self.inside.depth; nodes = c.self.inside.nodes; marks = c.self.inside.marks } in
-    let home = c.revert.ensures c.self.inside.machine (trades_back old c.apply.new.self k.history c.args.event.now c.in_ok-answer.answer c.in_ok-answer.back no_row k.holds c.in_ok-answer.ensures) in
+    let home = c.revert.ensures c.self.inside.machine (trades_back old c.apply.new.self k.history c.args.event.now c.in_ok-answer.answer c.in_ok-answer.back no_row k.holds c.in_ok-answer.ensures.event) in
     let all : record old { machine = c.revert.new.machine; rows = c.take_room.new.rows.items } ≡ old =
     ap (λ q. record old { machine = q; rows = c.take_room.new.rows.items }) home ∙ ap (λ q. record old { rows = q }) c.in-Err.ensures.items in
     let P : Kept → Type 0 = λ j. (m : History) → Holds j m → IsOk (do_event c.args.event.now m) in
@@ -132,5 +132,5 @@ returns-in-Err c =
     let l = h.limit in
     let s = h.size in
     let Q : Result (Answer × History) Refusal → Type 0 = IsOk in
-    subst Q (sym (accepted_is old c.apply.new.self m c.args.event.now c.in_ok-answer.answer c.in_ok-answer.back no_row h (omega arith) c.in_ok-answer.ensures)) refl) in
+    subst Q (sym (accepted_is old c.apply.new.self m c.args.event.now c.in_ok-answer.answer c.in_ok-answer.back no_row h (omega arith) c.in_ok-answer.ensures.event)) refl) in
     λ m h. record { same = all ∙ c.self.view_is; why = λ o. absurd (o refl); late = λ o. accepted m h }

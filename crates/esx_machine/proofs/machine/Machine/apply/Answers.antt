@@ -1,4 +1,4 @@
-use Rattle.std.proofs.Common.{◌≡◌, ℕ, sym, ap, subst, ◌∙◌}
+use Rattle.std.proofs.Common.{◌≡◌, ℕ, refl, sym, ap, subst, ◌∙◌}
 use Rattle.std.specs.List.{count_by}
 use Rattle.esx_types.specs.declared.config.Config.{Config}
 use Rattle.esx_types.specs.Frames.{is_free}
@@ -7,7 +7,7 @@ use Rattle.esx_formulas.specs.Level.{next_level}
 use Rattle.esx_model.specs.declared.scene.Scene.{Scene}
 use Rattle.esx_model.specs.Replay.{next}
 use Rattle.esx_plans.specs.plan.Balloon.{CanEpochsRise}
-use Rattle.esx_machine.specs.Machine.{Kept, Shows, Accepts, Refuses}
+use Rattle.esx_machine.specs.Machine.{Kept, Shows, Accepts, Refuses, Exchanges}
 use Rattle.esx_machine.proofs.Applies.{kept_plannable, after, back, accepted, kept_after, refused}
 use Rattle.esx_machine.proofs.machine.Machine.apply.Goals as goal
 
@@ -17,8 +17,8 @@ plan_event-requires c =
     let P : Kept → Type 0 = λ k. CanEpochsRise k.tables in
     record { whole = kept_plannable k c.self.invariant; rise = subst P (sym c.self.view_is) c.requires.rise }
 
-pub returns-in-Err : goal.returns-in-Err
-returns-in-Err c =
+pub returns-in-Err-clause-event : goal.returns-in-Err-clause-event
+returns-in-Err-clause-event c =
     let k : Kept = record { config = c.self.inside.config; level = c.self.inside.level; tables = c.self.inside.tables } in
     let P : Kept → Type 0 = λ k. (scene : Scene) → Shows k scene → Refuses k k c.in-Err.refusal (next k.config scene c.args.event.now) in
     subst P c.self.view_is (refused k c.args.event.now c.in-Err.refusal c.in-Err.ensures.named c.in-Err.ensures.plans)
@@ -34,8 +34,8 @@ invariant_of-self c =
     kept_after k c.args.event.now c.in-Ok.plan.answer c.in-Ok.plan.changes t c.exchange.new.back level c.self.invariant
     (record { named = c.in-Ok.ensures.named; plan = c.in-Ok.ensures.plans; tables = c.exchange.ensures.tables; changes = c.exchange.ensures.back; follows = follows })
 
-pub returns : goal.returns
-returns c =
+pub returns-clause-event : goal.returns-clause-event
+returns-clause-event c =
     let k : Kept = record { config = c.self.inside.config; level = c.self.inside.level; tables = c.self.inside.tables } in
     let t = c.exchange.new.self in
     let level = c.next-self-inside.result in
@@ -45,3 +45,17 @@ returns c =
     let P : Kept → Type 0 = λ old. (scene : Scene) → Shows old scene → Accepts old (after k t level) c.in-Ok.plan.answer (back k c.exchange.new.back) (next old.config scene c.args.event.now) in
     subst P c.self.view_is (accepted k c.args.event.now c.in-Ok.plan.answer c.in-Ok.plan.changes t c.exchange.new.back level c.self.invariant
     (record { named = c.in-Ok.ensures.named; plan = c.in-Ok.ensures.plans; tables = c.exchange.ensures.tables; changes = c.exchange.ensures.back; follows = follows }))
+
+pub returns-clause-exchanges : goal.returns-clause-exchanges
+returns-clause-exchanges c =
+    let k : Kept = record { config = c.self.inside.config; level = c.self.inside.level; tables = c.self.inside.tables } in
+    let t = c.exchange.new.self in
+    let level = c.next-self-inside.result in
+    let P : Kept → Type 0 = λ old. Exchanges old (after k t level) c.args.event.now (back k c.exchange.new.back) in
+    subst P c.self.view_is (record {
+      plan = (c.in-Ok.plan.answer, c.in-Ok.plan.changes);
+      planned = c.in-Ok.ensures.plans;
+      tables = c.exchange.ensures.tables;
+      level = refl;
+      changes = c.exchange.ensures.back;
+    })

@@ -1,0 +1,11 @@
+pub mod Totals
+pub mod Alike
+pub mod Pages
+pub mod Marks
+pub mod Modest
+pub mod Stocks
+pub mod plans
+pub mod Forms
+pub mod Told
+pub mod Written
+pub mod Moved

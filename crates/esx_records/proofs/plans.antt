@@ -1,0 +1,13 @@
+pub mod Counted
+pub mod Access
+pub mod Admission
+pub mod Starting
+pub mod Leaves
+pub mod Balloon
+pub mod Leaving
+pub mod Sampling
+pub mod Rebalancing
+pub mod Sharing
+pub mod Paging
+pub mod Replacing
+pub mod Event

@@ -1,0 +1,138 @@
+ghost use Rattle.std.specs.Prelude.{◌≡◌, ◌+◌, ◌^◌, ◌<◌, Some, OnOk, IfOk};
+ghost use Rattle.esx_model.specs.declared.book.VmRow.{VmRow};
+ghost use Rattle.esx_model.specs.declared.scene.Scene.{Scene};
+ghost use Rattle.esx_plans.specs.plan.Balloon.{CanEpochsRise};
+ghost use Rattle.esx_machine.specs.Machine.{Kept, Shows, Trades};
+
+use esx_events::{Boxed, Event};
+use esx_machine::{Machine, Record};
+use esx_model::VmRow;
+use esx_types::{Bytes, Config, VmId, VmSpec};
+use std::alloc::{AllocError, Global};
+use std::process::Abort;
+use std::test::Fail;
+
+const SITE: Config = Config {
+    frames: 20,
+    page: 16,
+    slots: 8,
+    tau: 75,
+    high: 6,
+    soft: 4,
+    hard: 2,
+    low: 1,
+    nodes: 16777216,
+};
+
+const SPEC: VmSpec = VmSpec {
+    min: 2,
+    max: 6,
+    overhead: 1,
+    shares: 1000,
+    balloon_max: 0,
+};
+
+fn expect_low(rt: &impl Abort, vm: &Option<VmRow>)
+    ensures { (v : VmRow) → vm.now ≡ Some v → v.epoch + 1 < 2 ^ 32 }
+{
+    if let Some(vm) = vm {
+        assert!(rt; vm.epoch < u32::MAX);
+    }
+}
+
+/// Each machine's epoch can rise.
+fn expect_rise(rt: &impl Abort, machine: &Machine) -> Result<(), Fail>
+    ensures { OnOk result (CanEpochsRise machine.now.tables) }
+{
+    let book = machine.book()?;
+    for vm in book.vms.as_slice() {
+        expect_low(rt, vm);
+    }
+    Ok(())
+}
+
+/// The record of one event.
+fn record_of(rt: &impl Abort, machine: &mut Machine, event: &Event) -> Result<Record, Fail>
+    requires shown { (scene : Scene) × Shows machine.old scene }
+    ensures back { IfOk result (λ r. Trades r machine.new machine.old) }
+    ensures shown { IfOk result (λ r. (scene : Scene) × Shows machine.new scene) }
+{
+    expect_rise(rt, machine)?;
+    let (_, back) = machine.apply(event)?;
+    Ok(back)
+}
+
+/// How many bytes a record holds, as it is given, after one flip and after two.
+fn bytes_held(machine: &mut Machine, back: &mut Record) -> [u64; 3]
+    requires fits { (there : Kept) × Trades back.old machine.old there }
+    ensures { machine.new ≡ machine.old }
+{
+    let given = back.size().bytes;
+    machine.flip(back);
+    let flipped = back.size().bytes;
+    machine.flip(back);
+    [given, flipped, back.size().bytes]
+}
+
+/// The record of an event holds so many bytes, as it is given, after one flip and after two.
+fn expect_bytes(
+    rt: &impl Abort,
+    machine: &mut Machine,
+    event: &Event,
+    want: [u64; 3],
+) -> Result<(), Fail>
+    requires shown { (scene : Scene) × Shows machine.old scene }
+    ensures { OnOk result ((scene : Scene) × Shows machine.new scene) }
+{
+    let mut back = record_of(rt, machine, event)?;
+    let held = bytes_held(machine, &mut back);
+    assert_eq!(rt; held, want);
+    Ok(())
+}
+
+/// Two bytes for the first page.
+fn bytes_written(alloc: Global, vm: VmId) -> Result<Event, AllocError> {
+    let bytes = Bytes::copy_of(alloc, &[0xaa, 0xbb])?;
+    Ok(Event::Write {
+        vm,
+        page: 0,
+        at: 3,
+        bytes: Boxed::new(alloc, bytes)?,
+    })
+}
+
+fn expect_start(rt: &impl Abort, machine: &mut Machine, vm: VmId) -> Result<(), Fail>
+    requires shown { (scene : Scene) × Shows machine.old scene }
+    ensures { OnOk result ((scene : Scene) × Shows machine.new scene) }
+{
+    let admit = Event::Admit { vm, spec: SPEC };
+    expect_bytes(rt, machine, &admit, [0, 0, 0])?;
+    expect_bytes(rt, machine, &Event::Start { vm }, [0, 0, 0])
+}
+
+fn expect_access(
+    rt: &impl Abort,
+    machine: &mut Machine,
+    vm: VmId,
+    write: &Event,
+) -> Result<(), Fail>
+    requires shown { (scene : Scene) × Shows machine.old scene }
+{
+    let read = Event::Read {
+        vm,
+        page: 0,
+        at: 0,
+        len: 1,
+    };
+    expect_bytes(rt, machine, &read, [0, 16, 0])?;
+    expect_bytes(rt, machine, write, [2, 2, 2])
+}
+
+#[test]
+fn records_hold_the_bytes_that_moved(rt: HostRuntime) -> Result<(), Fail> {
+    let vm = VmId::new(0).ok_or("vm")?;
+    let write = bytes_written(rt.alloc(), vm)?;
+    let mut machine = Machine::open(rt.alloc(), SITE)?;
+    expect_start(&rt, &mut machine, vm)?;
+    expect_access(&rt, &mut machine, vm, &write)
+}
