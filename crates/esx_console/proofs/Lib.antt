@@ -3,3 +3,4 @@ mod Outcomes
 mod Logs
 mod Reaching
 mod Lines
+mod Refusing

@@ -2,14 +2,16 @@
 
 ghost use Rattle.std.specs.Prelude.{◌≡◌, ◌≢◌, ◌<◌, ◌≤◌, ◌+◌, ℕ, List, All, Ok};
 ghost use Rattle.esx_types.specs.declared.config.Config.{Config};
+ghost use Rattle.esx_events.specs.declared.event.Refusal.{Refusal};
 ghost use Rattle.esx_events.specs.declared.event.Refusal.TheVariants.{NothingToUndo, NothingToRedo};
+ghost use Rattle.esx_events.specs.declared.call.Call.{Call};
 ghost use Rattle.esx_events.specs.declared.call.Call.TheVariants.{Undo, Redo};
 ghost use Rattle.esx_events.specs.declared.call.Said.TheVariants.{Refused};
 ghost use Rattle.esx_model.specs.Replay.{replay_of};
 ghost use Rattle.esx_model.specs.History.{here, book_at};
 ghost use Rattle.esx_model.specs.Console.{Session, IsLegal, history, lined, stand_of};
 ghost use Rattle.esx_journal.specs.Turns.{IsSamePlace, Lengthens};
-ghost use Rattle.esx_console.specs.Calls.{Asked, opened_session, lined_all, history_of, depth_of, said_next, TurnsOrAsks, UndidLine};
+ghost use Rattle.esx_console.specs.Calls.{Asked, opened_session, lined_all, history_of, depth_of, said_next, TurnsOrAsks, OnlyAsks, UndidLine};
 
 use crate::console::Console;
 use esx_journal::laws::{
@@ -93,3 +95,10 @@ pub fn calls_then_back()
     turns_add_up();
     turns_lead_back();
 }
+
+/// A call that is refused changes nothing but the log; nor does a question or a try of events.
+pub fn refused_changes_nothing()
+    ensures refused { (s : Session) (caller : ℕ) (call : Call) (refusal : Refusal) → said_next s call ≡ Refused refusal
+        → history (lined s caller call) ≡ history s }
+    ensures asked { (s : Session) (caller : ℕ) (call : Call) → OnlyAsks call → history (lined s caller call) ≡ history s }
+{}
