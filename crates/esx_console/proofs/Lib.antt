@@ -4,3 +4,4 @@ mod Logs
 mod Reaching
 mod Lines
 mod Refusing
+mod Branches
