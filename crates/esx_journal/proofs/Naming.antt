@@ -1,5 +1,5 @@
 -- Names and their nodes, in the histories that calls lead to.
-use Rattle.std.proofs.Common.{◌≡◌, ℕ, Bool, true, false, cond, List, [], ◌∷◌, ◌++◌, length, find, is_some, refl, sym, ap, ◌∙◌, subst, Option, Some, None, option_map, nat_lt, Result, Ok, Err}
+use Rattle.std.proofs.Common.{◌≡◌, ℕ, Bool, true, false, cond, List, [], ◌∷◌, ◌++◌, find, refl, sym, ap, ◌∙◌, subst, Option, Some, None, option_map, nat_lt, Ok, Err}
 use Rattle.std.specs.List.{All, AllByRecursion}
 use Rattle.std.specs.Option.{option_or}
 use Rattle.std.proofs.lemmas.List.Folds.{find-append}
@@ -13,7 +13,7 @@ use Rattle.esx_model.specs.History.{History, cursor, done, do_event, undone, und
 use Rattle.esx_model.specs.Branching.{named, goto, visit, mark}
 use Rattle.esx_journal.specs.Marks.{node_named}
 use Rattle.esx_journal.specs.Reached.{IsReached, Opened, Did, Undid, Redid, Went, Visited, Named, Pruned}
-use Rattle.esx_journal.proofs.Names.{with_name, visit_some, visit_none}
+use Rattle.esx_journal.proofs.Names.{visit_some, visit_none}
 use Rattle.esx_journal.proofs.Back.{undone_is}
 use Rattle.esx_journal.proofs.Down.{redo_is}
 use Rattle.esx_journal.proofs.Reaching.{did_is, gone_is, named_is, reached_steady}
