@@ -3,3 +3,5 @@ mod Outcomes
 mod Logs
 mod Reaching
 mod Lines
+mod Refusing
+mod Branches

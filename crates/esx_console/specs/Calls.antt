@@ -52,6 +52,24 @@ TurnsOrAsks (calls.Advise n page) = Unit {0}
 TurnsOrAsks calls.Stand = Unit {0}
 TurnsOrAsks calls.Marks = Unit {0}
 
+-- a question or a try of events
+abbrev pub OnlyAsks : Call → Type 0
+OnlyAsks (calls.Do e) = ⊥
+OnlyAsks (calls.Undo k) = ⊥
+OnlyAsks (calls.Redo k) = ⊥
+OnlyAsks (calls.Goto n) = ⊥
+OnlyAsks (calls.Visit name) = ⊥
+OnlyAsks (calls.Mark name) = ⊥
+OnlyAsks (calls.Prune n) = ⊥
+OnlyAsks (calls.WhatIf events) = Unit {0}
+OnlyAsks calls.Sum = Unit {0}
+OnlyAsks calls.Table = Unit {0}
+OnlyAsks (calls.OfVm n) = Unit {0}
+OnlyAsks (calls.OfPage n page) = Unit {0}
+OnlyAsks (calls.Advise n page) = Unit {0}
+OnlyAsks calls.Stand = Unit {0}
+OnlyAsks calls.Marks = Unit {0}
+
 -- a line that undid k events: the reply tells where the cursor is, and the tables are those of the path without them
 pub record UndidLine (s after : Session) (k : ℕ) : Type 0 where
   pub told : said_next s (calls.Undo k) ≡ stand_of (history after)

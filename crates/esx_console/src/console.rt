@@ -3,9 +3,9 @@
 ghost use Rattle.std.specs.Prelude.{◌≡◌, ◌≢◌, ◌+◌, ◌<◌, ◌≤◌, ◌^◌, if◌then◌else◌, [], length, Ok, IfOk, IfErr, OnErr};
 ghost use Rattle.esx_types.specs.Ranges.{IsConfig};
 ghost use Rattle.esx_model.specs.Replay.{replay_of};
-ghost use Rattle.esx_model.specs.History.{here, book_at};
+ghost use Rattle.esx_model.specs.History.{here, scene_at, book_at};
 ghost use Rattle.esx_model.specs.Console.{history, next_reply, lined, IsLegal};
-ghost use Rattle.esx_machine.specs.Machine.{book_in};
+ghost use Rattle.esx_machine.specs.Machine.{Shows, book_in};
 ghost use Rattle.esx_console.specs.Console.{session_gauge};
 
 use crate::hearing::hear;
@@ -102,6 +102,7 @@ impl Console {
     pub fn machine(&self) -> &Machine
         ensures config { result.now.config ≡ self.now.site }
         ensures tables { book_in result.now ≡ book_at (history self.now) }
+        ensures shows { Shows result.now (scene_at (history self.now)) }
         ensures replay { replay_of self.now.site (here (history self.now)) ≡ Ok (book_in result.now) }
     {
         self.journal.machine()

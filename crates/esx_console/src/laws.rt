@@ -1,20 +1,28 @@
 //! Laws of whole lists of calls. A function here does nothing: its contract is the law.
 
-ghost use Rattle.std.specs.Prelude.{◌≡◌, ◌≢◌, ◌<◌, ◌≤◌, ◌+◌, ℕ, List, All, Ok};
+ghost use Rattle.std.specs.Prelude.{◌≡◌, ◌≢◌, ◌<◌, ◌≤◌, ◌+◌, ◌++◌, ◌∷◌, [], ℕ, List, All, Ok, true, false};
 ghost use Rattle.esx_types.specs.declared.config.Config.{Config};
-ghost use Rattle.esx_events.specs.declared.event.Refusal.TheVariants.{NothingToUndo, NothingToRedo};
-ghost use Rattle.esx_events.specs.declared.call.Call.TheVariants.{Undo, Redo};
-ghost use Rattle.esx_events.specs.declared.call.Said.TheVariants.{Refused};
+ghost use Rattle.esx_events.specs.declared.event.Event.{Event};
+ghost use Rattle.esx_events.specs.declared.event.Answer.{Answer};
+ghost use Rattle.esx_events.specs.declared.event.Refusal.{Refusal};
+ghost use Rattle.esx_events.specs.declared.event.Refusal.TheVariants.{NothingToUndo, NothingToRedo, NoSuchNode};
+ghost use Rattle.esx_events.specs.declared.call.Call.{Call};
+ghost use Rattle.esx_events.specs.declared.call.NameRow.{NameRow};
+ghost use Rattle.esx_events.specs.declared.call.Call.TheVariants.{Do, Undo, Redo, Goto, Visit, Mark, Prune};
+ghost use Rattle.esx_events.specs.declared.call.Said.TheVariants.{Done, Marked, Pruned, Refused};
 ghost use Rattle.esx_model.specs.Replay.{replay_of};
-ghost use Rattle.esx_model.specs.History.{here, book_at};
-ghost use Rattle.esx_model.specs.Console.{Session, IsLegal, history, lined, stand_of};
+ghost use Rattle.esx_model.specs.History.{cursor, here, book_at};
+ghost use Rattle.esx_model.specs.Branching.{stands};
+ghost use Rattle.esx_model.specs.Console.{Session, IsLegal, history, next_reply, lined, stand_of};
 ghost use Rattle.esx_journal.specs.Turns.{IsSamePlace, Lengthens};
-ghost use Rattle.esx_console.specs.Calls.{Asked, opened_session, lined_all, history_of, depth_of, said_next, TurnsOrAsks, UndidLine};
+ghost use Rattle.esx_journal.specs.Visits.{Visits, TakesOff};
+ghost use Rattle.esx_console.specs.Calls.{Asked, opened_session, lined_all, history_of, depth_of, said_next, TurnsOrAsks, OnlyAsks, UndidLine};
 
 use crate::console::Console;
 use esx_journal::laws::{
-    reached_path_runs, redo_lengthens, there_and_back, turns_add_up, turns_lead_back, turns_meet,
-    undo_shortens,
+    event_lengthens, goto_leads_there, names_stay_taken, prune_takes_off, reached_path_runs,
+    redo_lengthens, there_and_back, turns_add_up, turns_lead_back, turns_meet, undo_shortens,
+    visit_is_a_goto,
 };
 
 /// After every list of calls, by any callers, the tables are those of replaying from the opening the
@@ -92,4 +100,54 @@ pub fn calls_then_back()
 {
     turns_add_up();
     turns_lead_back();
+}
+
+/// A call that is refused changes nothing but the log; nor does a question or a try of events.
+pub fn refused_changes_nothing()
+    ensures refused { (s : Session) (caller : ℕ) (call : Call) (refusal : Refusal) → said_next s call ≡ Refused refusal
+        → history (lined s caller call) ≡ history s }
+    ensures asked { (s : Session) (caller : ℕ) (call : Call) → OnlyAsks call → history (lined s caller call) ≡ history s }
+{}
+
+/// An event that is accepted stands last on the cursor's path.
+pub fn event_line_lengthens()
+    ensures { (s : Session) (caller : ℕ) (event : Event) (answer : Answer) → said_next s (Do event) ≡ Done answer
+        → here (history (lined s caller (Do event))) ≡ here (history s) ++ event ∷ [] }
+{
+    event_lengthens();
+}
+
+/// A goto leads to its node by the fewest moves and tells where the cursor is, where the node stands; elsewhere it is refused.
+pub fn goto_line_leads_there()
+    ensures accepted { (s : Session) (caller node : ℕ) → stands (history s) node ≡ true → Visits (history s) (history (lined s caller (Goto node))) node }
+    ensures told { (s : Session) (caller node : ℕ) → stands (history s) node ≡ true → said_next s (Goto node) ≡ stand_of (history (lined s caller (Goto node))) }
+    ensures missing { (s : Session) (node : ℕ) → stands (history s) node ≡ false → said_next s (Goto node) ≡ Refused NoSuchNode }
+{
+    goto_leads_there();
+}
+
+/// A visit of a name that is listed is a goto to its node, with the same reply.
+pub fn visit_line_is_a_goto()
+    ensures told { (s : Session) → All (λ (row : NameRow). next_reply s (Visit row.name) ≡ next_reply s (Goto row.node)) (history s).marks }
+    ensures place { (s : Session) (caller other : ℕ)
+        → All (λ (row : NameRow). history (lined s caller (Visit row.name)) ≡ history (lined s other (Goto row.node))) (history s).marks }
+{
+    visit_is_a_goto();
+}
+
+/// A mark that is accepted names the cursor's node, tells so, and changes nothing else.
+pub fn mark_line_names()
+    ensures told { (s : Session) (name told : List ℕ) (node : ℕ) → said_next s (Mark name) ≡ Marked told node → (told ≡ name) × (node ≡ cursor (history s)) }
+    ensures added { (s : Session) (caller node : ℕ) (name told : List ℕ) → said_next s (Mark name) ≡ Marked told node
+        → history (lined s caller (Mark name)) ≡ record (history s) { marks = (history s).marks ++ record { name = name; node = cursor (history s) } ∷ [] } }
+{
+    names_stay_taken();
+}
+
+/// A prune that is accepted drops a node and all below it, tells how many there were, and changes nothing else.
+pub fn prune_line_takes_off()
+    ensures { (s : Session) (caller node count : ℕ) → said_next s (Prune node) ≡ Pruned count
+        → TakesOff (history s) (history (lined s caller (Prune node))) node count }
+{
+    prune_takes_off();
 }

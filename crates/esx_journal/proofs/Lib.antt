@@ -15,3 +15,5 @@ pub mod Down
 pub mod Turning
 pub mod Reaching
 pub mod Visiting
+pub mod Naming
+pub mod Foretelling

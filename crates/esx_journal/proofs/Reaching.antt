@@ -124,19 +124,23 @@ steady_done c m e a u s n =
     of y (inl k) = (let P : List Event → Type 0 = Runs c in subst P (sym (path_new (record { parent = cursor m; event = e; alive = true }) m.nodes y k)) grown)
     of y (inr k) = (let P : List Event → Type 0 = Runs c in subst P (sym (path_old (record { parent = cursor m; event = e; alive = true }) m.nodes y k)) (s.paths y k))
 
-steady_did : (c : Config) (m after : History) (e : Event) (a : Answer) → IsSteady c m → do_event e m ≡ Ok (a, after) → IsSteady c after
+-- what an accepted event is
+pub did_is : (m after : History) (e : Event) (a : Answer) → do_event e m ≡ Ok (a, after) → (u : Scene) × (next m.config (scene_at m) e ≡ Ok (a, u)) × (done e m ≡ after)
 unfolding do_event
-steady_did c m after e a s h = of (nat_le m.config.nodes (length m.nodes)) h
+did_is m after e a h = of (nat_le m.config.nodes (length m.nodes)) h
   where
-    next_is : (r : Result (Answer × Scene) Refusal) → next m.config (scene_at m) e ≡ r → answered e m r ≡ Ok (a, after) → IsSteady c after
+    next_is : (r : Result (Answer × Scene) Refusal) → next m.config (scene_at m) e ≡ r → answered e m r ≡ Ok (a, after) → (u : Scene) × (next m.config (scene_at m) e ≡ Ok (a, u)) × (done e m ≡ after)
     next_is (Err x) n q = cc
     next_is (Ok x) n q = (let pair : (x.0, done e m) ≡ (a, after) = cc in
-        let same : done e m ≡ after = ap (λ (p : Answer × History). p.1) pair in
-        let P : History → Type 0 = IsSteady c in subst P same (steady_done c m e x.0 x.1 s n))
+        let same : x.0 ≡ a = ap (λ (p : Answer × History). p.0) pair in
+        (x.1, n ∙ ap (λ y. Ok (y, x.1)) same, ap (λ (p : Answer × History). p.1) pair))
 
-    of : (b : Bool) → cond b (Err Full) (answered e m (next m.config (scene_at m) e)) ≡ Ok (a, after) → IsSteady c after
+    of : (b : Bool) → cond b (Err Full) (answered e m (next m.config (scene_at m) e)) ≡ Ok (a, after) → (u : Scene) × (next m.config (scene_at m) e ≡ Ok (a, u)) × (done e m ≡ after)
     of true q = cc
     of false q = next_is (next m.config (scene_at m) e) refl q
+
+steady_did : (c : Config) (m after : History) (e : Event) (a : Answer) → IsSteady c m → do_event e m ≡ Ok (a, after) → IsSteady c after
+steady_did c m after e a s h = (let d = did_is m after e a h in let P : History → Type 0 = IsSteady c in subst P d.2 (steady_done c m e a d.0 s d.1))
 
 steady_undid : (c : Config) (m after : History) (k : ℕ) → IsSteady c m → undo k m ≡ Some after → IsSteady c after
 unfolding undo

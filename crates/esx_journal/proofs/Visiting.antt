@@ -54,15 +54,18 @@ self_named : (name : List ℕ) → bytes_eq name name ≡ true
 self_named name = (bytes_eq-Decides name name).1 refl
 
 -- the name that was given last is found, where it was free
-pub found_last : (name : List ℕ) (h : History) → is_some (node_named name h.marks) ≡ false → node_named name (with_name name h).marks ≡ Some (cursor h)
-found_last name h free =
+pub found_new : (name : List ℕ) (h : History) → is_some (node_named name h.marks) ≡ false → find (named name) (with_name name h).marks ≡ Some (record { name = name; node = cursor h })
+found_new name h free =
     let row : NameRow = record { name = name; node = cursor h } in
-    ap (option_map (λ (x : NameRow). x.node)) (find-append (named name) h.marks (row ∷ []) ∙ ap (λ o. option_or o (cond (bytes_eq name name) (Some row) None)) (none (find (named name) h.marks) free)
-    ∙ ap (λ b. cond b (Some row) None) (self_named name))
+    find-append (named name) h.marks (row ∷ []) ∙ ap (λ o. option_or o (cond (bytes_eq name name) (Some row) None)) (none (find (named name) h.marks) free)
+    ∙ ap (λ b. cond b (Some row) None) (self_named name)
   where
     none : (o : Option NameRow) → is_some (option_map (λ (x : NameRow). x.node) o) ≡ false → o ≡ None
     none None e = refl
     none (Some x) e = cc
+
+pub found_last : (name : List ℕ) (h : History) → is_some (node_named name h.marks) ≡ false → node_named name (with_name name h).marks ≡ Some (cursor h)
+found_last name h free = ap (option_map (λ (x : NameRow). x.node)) (found_new name h free)
 
 pub visit_after : (h after : History) (name : List ℕ) → mark name h ≡ Ok after → visit name after ≡ goto (cursor h) after
 visit_after h after name e =

@@ -1,14 +1,19 @@
 //! Laws of the histories that events, moves, names and prunes lead to. A function here does nothing: its
 //! contract is the law.
 
-ghost use Rattle.std.specs.Prelude.{◌≡◌, ◌<◌, ◌≤◌, ◌+◌, ◌++◌, ◌∷◌, [], ℕ, List, length, sum_by, Some, None, Ok, Err, IfOk, IsOk, true, false};
+ghost use Rattle.std.specs.Prelude.{◌≡◌, ◌≢◌, ◌<◌, ◌≤◌, ◌+◌, ◌++◌, ◌∷◌, [], ℕ, List, length, sum_by, All, Some, None, Ok, Err, IfOk, IsOk, true, false};
 ghost use Rattle.esx_types.specs.declared.config.Config.{Config};
+ghost use Rattle.esx_events.specs.declared.event.Answer.{Answer};
 ghost use Rattle.esx_events.specs.declared.event.Event.{Event};
+ghost use Rattle.esx_events.specs.declared.event.Refusal.{Refusal};
+ghost use Rattle.esx_events.specs.declared.call.NameRow.{NameRow};
 ghost use Rattle.esx_model.specs.Replay.{run, replay_of};
 ghost use Rattle.esx_model.specs.Tree.{alive, on_way};
-ghost use Rattle.esx_model.specs.History.{History, cursor, here, done, undo, redo, scene_at};
-ghost use Rattle.esx_events.specs.declared.event.Refusal.TheVariants.{NoSuchNode, NameTaken, NoSuchName};
-ghost use Rattle.esx_model.specs.Branching.{stands, goto, visit, mark, prune};
+ghost use Rattle.esx_model.specs.History.{History, cursor, here, done, do_event, undo, redo, scene_at, book_at};
+ghost use Rattle.esx_events.specs.declared.event.Refusal.TheVariants.{Full, NoSuchNode, NameTaken, NoSuchName, OnPath};
+ghost use Rattle.esx_model.specs.Branching.{stands, is_on_path, goto, visit, mark, prune};
+ghost use Rattle.esx_model.specs.Readings.{sum_of};
+ghost use Rattle.esx_model.specs.WhatIf.{what_if};
 ghost use Rattle.esx_machine.specs.Machine.{book_in};
 ghost use Rattle.esx_journal.specs.Journal.{Holds};
 ghost use Rattle.esx_journal.specs.Reached.{IsReached};
@@ -98,19 +103,38 @@ pub fn goto_leads_there()
     ensures refused { (h : History) (node : ℕ) → stands h node ≡ false → goto node h ≡ Err NoSuchNode }
 {}
 
-/// A visit is a goto to the node that was named first; where no node was named so, it is refused.
+/// A visit is a goto to the node that was named first; where no node was named so, it is refused. Each name that is listed leads to
+/// its node.
 pub fn visit_is_a_goto()
     ensures named { (h after : History) (name : List ℕ) → mark name h ≡ Ok after → visit name after ≡ goto (cursor h) after }
     ensures unnamed { (h : History) (name : List ℕ) → visit name h ≡ Err NoSuchName → IsOk (mark name h) }
+    ensures listed { (c : Config) (h : History) → IsReached c h → All (λ (row : NameRow). visit row.name h ≡ goto row.node h) h.marks }
 {}
 
-/// A name that was given is refused from then on, also where its node was pruned.
+/// A name is given to the cursor's node, and nothing else changes. It is refused from then on, also where its node was pruned.
 pub fn names_stay_taken()
+    ensures added { (h after : History) (name : List ℕ) → mark name h ≡ Ok after
+        → after ≡ record h { marks = h.marks ++ record { name = name; node = cursor h } ∷ [] } }
     ensures given { (h after : History) (name : List ℕ) → mark name h ≡ Ok after → mark name after ≡ Err NameTaken }
     ensures pruned { (h after : History) (node count : ℕ) → prune node h ≡ Ok (count, after) → after.marks ≡ h.marks }
 {}
 
-/// A prune drops a node and all below it, and nothing else: paths, tables, names and numbers stay.
+/// A prune drops a node and all below it, and nothing else: paths, tables, names and numbers stay. It is refused where the node does
+/// not stand, and where it is on the cursor's path.
 pub fn prune_takes_off()
-    ensures { (h after : History) (node count : ℕ) → prune node h ≡ Ok (count, after) → TakesOff h after node count }
+    ensures missing { (h : History) (node : ℕ) → stands h node ≡ false → prune node h ≡ Err NoSuchNode }
+    ensures above { (h : History) (node : ℕ) → stands h node ≡ true → is_on_path h node ≡ true → prune node h ≡ Err OnPath }
+    ensures accepted { (h : History) (node : ℕ) → stands h node ≡ true → is_on_path h node ≡ false → IsOk (prune node h) }
+    ensures rest { (h after : History) (node count : ℕ) → prune node h ≡ Ok (count, after) → TakesOff h after node count }
+{}
+
+/// What a try of events tells is what making them would tell: their answers, one after another, up to the first refusal, and the
+/// sums before and after them. Where all nodes are made they are tried all the same.
+pub fn try_foretells()
+    ensures none { (h : History) → what_if [] h ≡ record { given = 0; before = sum_of (book_at h); replies = []; after = sum_of (book_at h) } }
+    ensures accepted { (c : Config) (h after : History) (event : Event) (events : List Event) (answer : Answer) → IsReached c h
+        → do_event event h ≡ Ok (answer, after)
+        → what_if (event ∷ events) h ≡ record (what_if events after) { given = length (event ∷ events); before = sum_of (book_at h); replies = Ok answer ∷ (what_if events after).replies } }
+    ensures refused { (h : History) (event : Event) (events : List Event) (e : Refusal) → do_event event h ≡ Err e → e ≢ Full
+        → what_if (event ∷ events) h ≡ record (what_if [] h) { given = length (event ∷ events); replies = Err e ∷ [] } }
 {}

@@ -1,6 +1,8 @@
-use Rattle.std.proofs.Common.{◌∙◌, ap}
+use Rattle.std.proofs.Common.{◌∙◌, ap, subst}
+use Rattle.esx_model.specs.History.{scene_at}
 use Rattle.esx_model.specs.Console.{Session, history}
 use Rattle.esx_machine.specs.Machine as machines
+use Rattle.esx_machine.specs.Machine.{Shows}
 use Rattle.esx_console.proofs.Keeps.{history_site}
 use Rattle.esx_console.proofs.console.Console.machine.Goals as goal
 
@@ -8,3 +10,9 @@ pub returns-clause-config : goal.returns-clause-config
 returns-clause-config c =
     let s : Session = record { site = c.self.inside.site; log = c.self.inside.log.items } in
     ap (λ (k : machines.Kept). k.config) (c.machine.ensures.tables (history s) c.self.invariant.journal_holds) ∙ history_site s ∙ ap (λ (t : Session). t.site) c.self.view_is
+
+pub returns-clause-shows : goal.returns-clause-shows
+returns-clause-shows c =
+    let s : Session = record { site = c.self.inside.site; log = c.self.inside.log.items } in
+    let P : Session → Type 0 = λ t. Shows c.machine.result.now (scene_at (history t)) in
+    subst P c.self.view_is (c.machine.ensures.shows (history s) c.self.invariant.journal_holds)
