@@ -1,0 +1,4 @@
+pub mod LineLemmas
+pub mod CallLemmas
+pub mod SiteLemmas
+pub mod QuoteLemmas
