@@ -2,3 +2,6 @@ pub mod LineLemmas
 pub mod CallLemmas
 pub mod SiteLemmas
 pub mod QuoteLemmas
+pub mod FeedLemmas
+pub mod FrontLemmas
+pub mod SessionLemmas
