@@ -5,3 +5,4 @@ pub mod QuoteLemmas
 pub mod FeedLemmas
 pub mod FrontLemmas
 pub mod SessionLemmas
+pub mod PlaceLemmas
