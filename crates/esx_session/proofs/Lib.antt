@@ -6,3 +6,5 @@ pub mod FeedLemmas
 pub mod FrontLemmas
 pub mod SessionLemmas
 pub mod PlaceLemmas
+pub mod ReplyLemmas
+pub mod EntryLemmas

@@ -5,7 +5,7 @@ ghost use Rattle.std.specs.List.{AllByRecursion};
 ghost use Rattle.esx_types.specs.Ranges.{IsConfig};
 ghost use Rattle.esx_reading.specs.Fields.{joined};
 ghost use Rattle.esx_session.specs.Sessions.{site_words, ended, IsEntry, Reads, IsRefused};
-ghost use Rattle.esx_session.specs.Reading.{head_line, HasNoFeed, TakesReply, LacksReply, TakesEntry, LacksEntry, TellsCalls, LacksCalls, LacksOpening};
+ghost use Rattle.esx_session.specs.Reading.{head_line, placed, TakesReply, LacksReply, TakesEntry, LacksEntry, TellsCalls, LacksCalls, LacksOpening};
 
 use crate::line::{call_of, is_end};
 use crate::place::Place;
@@ -45,6 +45,16 @@ fn read_reply(alloc: Global, place: &mut Place) -> Result<Bytes, TextFault>
     Ok(Bytes::from_vec(reply))
 }
 
+/// The same fault at a line of the text.
+fn at_line(fault: TextFault, number: u64) -> TextFault
+    ensures { result ≡ placed fault number }
+{
+    match fault {
+        TextFault::BadLine(_) => TextFault::BadLine(number),
+        other => other,
+    }
+}
+
 /// A call, of which the first line was passed, and its reply.
 fn read_entry(alloc: Global, line: &str, place: &mut Place) -> Result<Entry, TextFault>
     ensures ok { IfOk result (TakesEntry line.now place.old place.new) }
@@ -52,8 +62,7 @@ fn read_entry(alloc: Global, line: &str, place: &mut Place) -> Result<Entry, Tex
 {
     let (caller, call) = match call_of(alloc, line) {
         Ok(found) => found,
-        Err(TextFault::OutOfMemory) => return Err(TextFault::OutOfMemory),
-        Err(_) => return Err(TextFault::BadLine(place.passed())),
+        Err(fault) => return Err(at_line(fault, place.passed())),
     };
     let reply = read_reply(alloc, place)?;
     Ok(Entry {

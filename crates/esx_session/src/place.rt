@@ -1,6 +1,6 @@
 //! Where a reader is in the lines of a text.
 
-ghost use Rattle.std.specs.Prelude.{◌≡◌, ◌∷◌, ◌+◌, [], ℕ, List, MatchOption, IfSome, IfNone};
+ghost use Rattle.std.specs.Prelude.{◌≡◌, ◌∷◌, ◌+◌, ◌≤◌, ◌^◌, [], ℕ, List, MatchOption, IfSome, IfNone};
 ghost use Rattle.std.specs.Str.Lines.{lines};
 ghost use Rattle.esx_session.specs.Reading.{HasNoFeed, Quotes, LeavesReply};
 
@@ -39,7 +39,8 @@ impl<'a> Place<'a> {
 
     /// How many lines were passed.
     pub fn passed(&self) -> u64
-        ensures { result ≡ self.now.passed }
+        ensures value { result ≡ self.now.passed }
+        ensures bound { result ≤ 2 ^ 63 }
     {
         self.passed
     }
