@@ -8,3 +8,5 @@ pub mod SessionLemmas
 pub mod PlaceLemmas
 pub mod ReplyLemmas
 pub mod EntryLemmas
+pub mod CallsLemmas
+pub mod StopLemmas

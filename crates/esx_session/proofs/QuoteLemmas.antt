@@ -37,7 +37,7 @@ first_line (b ∷ a) text ends ascii = elim (tests_feed b) [
 ]
 
 -- a reply that is not empty begins with a line
-begins_quote : (b : ℕ) (a text : List ℕ) → Closes true (b ∷ a) → AreAscii (b ∷ a) → NoQuote (quoted (b ∷ a) ++ text) → ⊥
+pub begins_quote : (b : ℕ) (a text : List ℕ) → Closes true (b ∷ a) → AreAscii (b ∷ a) → NoQuote (quoted (b ∷ a) ++ text) → ⊥
 begins_quote b a text ends ascii none =
     let first = first_line (b ∷ a) text ends ascii in
     none first.0 first.1 first.3 first.4 (ap (λ t. 61 ∷ 32 ∷ t) first.2)

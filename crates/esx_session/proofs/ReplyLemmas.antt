@@ -58,7 +58,7 @@ quoted_line (b ∷ text) h = ap (λ t. 61 ∷ 32 ∷ b ∷ quoted_from t (text +
 pub ended_more : (taken : List (List ℕ)) (line : List ℕ) → ended (taken ++ line ∷ []) ≡ ended taken ++ (line ++ 10 ∷ [])
 ended_more taken line = flat_map-append (λ (l : List ℕ). l ++ 10 ∷ []) taken (line ∷ []) ∙ ap (λ t. ended taken ++ t) (append-nil (line ++ 10 ∷ []))
 
-one_feed : IsAscii (10 ∷ [])
+pub one_feed : IsAscii (10 ∷ [])
 one_feed = IsAscii-from_all (10 ∷ []) (All-from_recursion (λ b. b < 128) (10 ∷ []) (lit< tt, tt))
 
 no_feed_behind : (text : List ℕ) → HasNoFeed (61 ∷ 32 ∷ text) → HasNoFeed text

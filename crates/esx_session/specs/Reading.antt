@@ -134,7 +134,7 @@ head_line = codes "esx session 1"
 -- the lines begin with the first of a session, or not
 abbrev pub LacksHead : List (List ℕ) → Type 0
 LacksHead [] = Unit {0}
-LacksHead (line ∷ lines) = line ≡ head_line → ⊥
+LacksHead (line ∷ lines) = HasNoFeed line × (line ≡ head_line → ⊥)
 
 abbrev pub LacksSite : List (List ℕ) → Type 0
 LacksSite [] = Unit {0}

@@ -1,11 +1,11 @@
 //! Sessions as they are read.
 
-ghost use Rattle.std.specs.Prelude.{◌≡◌, ◌∷◌, ◌+◌, ◌++◌, [], ℕ, List, IfOk, IfErr, OnOk};
+ghost use Rattle.std.specs.Prelude.{◌≡◌, ◌∷◌, ◌+◌, ◌++◌, [], ℕ, List, IfOk, IfErr, OnOk, MatchBool};
 ghost use Rattle.std.specs.List.{AllByRecursion};
 ghost use Rattle.esx_types.specs.Ranges.{IsConfig};
 ghost use Rattle.esx_reading.specs.Fields.{joined};
 ghost use Rattle.esx_session.specs.Sessions.{site_words, ended, IsEntry, Reads, IsRefused};
-ghost use Rattle.esx_session.specs.Reading.{head_line, placed, TakesReply, LacksReply, TakesEntry, LacksEntry, TellsCalls, LacksCalls, LacksOpening};
+ghost use Rattle.esx_session.specs.Reading.{head_line, placed, TakesReply, LacksReply, TakesEntry, LacksEntry, TellsCalls, LacksCalls, LacksHead, LacksOpening};
 
 use crate::line::{call_of, is_end};
 use crate::place::Place;
@@ -93,13 +93,23 @@ fn read_calls(alloc: Global, place: &mut Place) -> Result<Rows<Entry>, TextFault
     Err(TextFault::BadLine(place.passed() + 1))
 }
 
+/// Passes the first line. Whether it is that of a session.
+fn pass_head(place: &mut Place) -> bool
+    ensures { MatchBool result ((place.old.left ≡ head_line ∷ place.new.left) × (place.new.passed ≡ place.old.passed + 1)) (LacksHead place.old.left) }
+{
+    match place.next() {
+        Some(line) => line == HEAD,
+        None => false,
+    }
+}
+
 /// The site, from the first two lines.
 fn read_opening(place: &mut Place) -> Result<Config, TextFault>
     ensures ok { IfOk result (λ site. IsConfig site × (place.old.left ≡ head_line ∷ joined (site_words site) ∷ place.new.left)) }
     ensures passed { IfOk result (λ site. place.new.passed ≡ place.old.passed + 2) }
     ensures only { IfErr result (λ e. LacksOpening e place.old.left) }
 {
-    if place.next() != Some(HEAD) {
+    if !pass_head(place) {
         return Err(TextFault::BadLine(1));
     }
     let Some(line) = place.next() else {
