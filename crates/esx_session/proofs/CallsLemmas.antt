@@ -17,7 +17,7 @@ use Rattle.esx_session.specs.Sessions.{ended, quoted, call_text, entry_text, end
 use Rattle.esx_session.specs.Reading.{Place, HasNoFeed, Quotes, QuotesNone, LeavesReply, SpellsCall, SpellsNoCall, TakesEntry, LacksEntry, LacksCalls, calls_text, TellsCalls, BeginsCalls, IsStuck, StopsCalls}
 use Rattle.esx_session.proofs.QuoteLemmas.{Closes, AreAscii, NoQuote, begins_quote}
 use Rattle.esx_session.proofs.CallLemmas.{small_caller}
-use Rattle.esx_session.proofs.FeedLemmas.{no_feed_call, no_feed_both, no_feed_decimal, known_feed, first_digit}
+use Rattle.esx_session.proofs.FeedLemmas.{AllStay, call_stays, both_stay, decimal_stays, known_stay, no_feed, first_digit}
 use Rattle.esx_session.proofs.ReplyLemmas.{ended_more, one_feed}
 use Rattle.esx_session.proofs.EntryLemmas.{call_line_text}
 use Rattle.esx_session.proofs.FrontLemmas.{same_line, closes_ended, are_ascii, call_line, spells_entry, call_line_feed, call_text_is, first_of_call, no_end_call, no_quote_end, no_quote_none, Settled, settled, body, same_front}
@@ -49,7 +49,7 @@ settled_more (x ∷ entries) e left h = h
 body_more : (entries : List Entry) (e : Entry) → body (entries ++ e ∷ []) ≡ body entries ++ entry_text e
 body_more entries e = flat_map-append entry_text entries (e ∷ []) ∙ ap (λ t. body entries ++ t) (append-nil (entry_text e))
 
-ended_both : (xs ys : List (List ℕ)) → ended (xs ++ ys) ≡ ended xs ++ ended ys
+pub ended_both : (xs ys : List (List ℕ)) → ended (xs ++ ys) ≡ ended xs ++ ended ys
 ended_both xs ys = flat_map-append (λ (l : List ℕ). l ++ 10 ∷ []) xs ys
 
 pub one_more : (old now next new : Place) (entries : List Entry) (line : List ℕ) (e : Entry) → AreRead old now entries → now.left ≡ line ∷ next.left
@@ -71,6 +71,9 @@ ended_at taken line later =
 
 abbrev pub end_line : ℕ → List ℕ
 end_line count = codes "end " ++ decimal count
+
+pub end_stays : (count : ℕ) → AllStay (end_line count)
+end_stays count = both_stay (codes "end ") (decimal count) (known_stay (codes "end ") refl) (decimal_stays count)
 
 -- the line behind some calls begins no reply
 no_quote_line : (line : List ℕ) (text : List ℕ) → HasNoFeed line → QuotesNone line → NoQuote (line ++ 10 ∷ text)
@@ -128,19 +131,19 @@ goes_on taken line entries later es text tells = sym tells.same ∙ ended_at tak
 
 -- a line that is no call and not the end
 no_other : (entries others es : List Entry) (line text : List ℕ) → es ≡ entries ++ others → AllByRecursion IsEntry others → HasNoFeed line
-    → (line ≡ end_line (length entries) → ⊥) → SpellsNoCall line → HasNoFeed (end_line (length entries)) → body others ++ end_text (length es) ≡ line ++ 10 ∷ text → ⊥
-no_other entries [] es line text whole p feed end none small e =
+    → (line ≡ end_line (length entries) → ⊥) → SpellsNoCall line → body others ++ end_text (length es) ≡ line ++ 10 ∷ text → ⊥
+no_other entries [] es line text whole p feed end none e =
     let same : es ≡ entries = whole ∙ append-nil entries in
     let there : end_line (length entries) ++ 10 ∷ [] ≡ line ++ 10 ∷ text = ap (λ (t : List Entry). end_text (length t)) (sym same) ∙ e in
-    end (sym (same_line (end_line (length entries)) line [] text small feed there).0)
-no_other entries (y ∷ others) es line text whole p feed end none small e =
+    end (sym (same_line (end_line (length entries)) line [] text (no_feed (end_line (length entries)) (end_stays (length entries))) feed there).0)
+no_other entries (y ∷ others) es line text whole p feed end none e =
     let there = sym (call_text_is y (body others ++ end_text (length es))) ∙ sym (append_assoc (entry_text y) (body others) (end_text (length es))) ∙ e in
     let same = same_line (call_line y) line _ text (call_line_feed y p.0) feed there in
     none y.caller y.call (rw same.0 at (spells_entry y p.0))
 
 pub bad_line : (old now new : Place) (entries : List Entry) (line : List ℕ) → AreRead old now entries → now.left ≡ line ∷ new.left → new.passed ≡ now.passed + 1 → HasNoFeed line
-    → (line ≡ end_line (length entries) → ⊥) → SpellsNoCall line → HasNoFeed (end_line (length entries)) → (m : ℕ) × (new.passed ≡ old.passed + m + 1) × StopsCalls m old.left
-bad_line old now new entries line is left passed feed end none small = (length is.taken, omega (arith, is.passed, passed), record {
+    → (line ≡ end_line (length entries) → ⊥) → SpellsNoCall line → (m : ℕ) × (new.passed ≡ old.passed + m + 1) × StopsCalls m old.left
+bad_line old now new entries line is left passed feed end none = (length is.taken, omega (arith, is.passed, passed), record {
   front = is.taken;
   others = line ∷ new.left;
   whole = is.left ∙ ap (λ t. is.taken ++ t) left;
@@ -150,7 +153,7 @@ bad_line old now new entries line is left passed feed end none small = (length i
       let here = goes_on is.taken line entries goes.0 goes.1 is.text goes.2 in
       let front = same_front entries goes.1 (length goes.1) (line ++ 10 ∷ ended goes.0) is.range goes.2.range
           (settled_line entries line new.left (ended goes.0) (rw left at is.next)) here in
-      no_other entries front.0 goes.1 line (ended goes.0) front.1 front.2 feed end none small front.3;
+      no_other entries front.0 goes.1 line (ended goes.0) front.1 front.2 feed end none front.3;
 })
 
 -- a call whose reply is still to come
@@ -195,7 +198,7 @@ lacks_reply : (others : List Entry) (line : List ℕ) (caller : ℕ) (call : Cal
 lacks_reply [] line caller call count text p is none e = call_is_no_end line caller call count text is e
 lacks_reply (y ∷ others) line caller call count text p is none e =
     let there = sym (call_text_is y (body others ++ end_text count)) ∙ sym (append_assoc (entry_text y) (body others) (end_text count)) ∙ e in
-    let same = same_line (call_line y) line (quoted y.reply ++ (body others ++ end_text count)) text (call_line_feed y p.0) (no_feed_call line caller call is) there in
+    let same = same_line (call_line y) line (quoted y.reply ++ (body others ++ end_text count)) text (call_line_feed y p.0) (no_feed line (call_stays line caller call is)) there in
     no_reply_behind y.reply (body others ++ end_text count) text (closes_ended y.reply p.0.reply) (are_ascii y.reply p.0.ascii) (some_reply y.reply p.0.reply) none same.1
 
 -- the session has its call, and no reply
@@ -264,18 +267,15 @@ late_line old now next new entries line other is left passed end late later = (l
 pub not_end : (line : List ℕ) (t : Bool) (count number : ℕ) → count ≡ number → IsTrue t ↔ (line ≡ end_line count) → t ≡ false → line ≡ end_line number → ⊥
 not_end line t count number same is other e = let yes : t ≡ true = is.1 (e ∙ ap end_line (sym same)) in cc
 
-pub small_end : (count number : ℕ) → count ≡ number → count < 2 ^ 64 → HasNoFeed (end_line number)
-small_end count number same small = no_feed_both (codes "end ") (decimal number) (known_feed (codes "end ") refl) (no_feed_decimal number (omega (arith, same, small)))
-
 pub lacks_entry : (fault : TextFault) (old now next : Place) (entries : List Entry) (line : List ℕ) → AreRead old now entries → now.left ≡ line ∷ next.left → next.passed ≡ now.passed + 1
-    → HasNoFeed line → (line ≡ end_line (length entries) → ⊥) → HasNoFeed (end_line (length entries)) → LacksEntry fault line next → LacksCalls fault old
-lacks_entry NotToml old now next entries line is left passed feed end small h = absurd h
-lacks_entry (BadKey path) old now next entries line is left passed feed end small h = absurd h
-lacks_entry (BadLine n) old now next entries line is left passed feed end small (inl h) = rw h.0 (bad_line old now next entries line is left passed feed end h.1 small)
-lacks_entry (BadLine n) old now next entries line is left passed feed end small (inr h) =
+    → HasNoFeed line → (line ≡ end_line (length entries) → ⊥) → LacksEntry fault line next → LacksCalls fault old
+lacks_entry NotToml old now next entries line is left passed feed end h = absurd h
+lacks_entry (BadKey path) old now next entries line is left passed feed end h = absurd h
+lacks_entry (BadLine n) old now next entries line is left passed feed end (inl h) = rw h.0 (bad_line old now next entries line is left passed feed end h.1)
+lacks_entry (BadLine n) old now next entries line is left passed feed end (inr h) =
     rw h.0 (bad_reply old now next entries line h.1.0 h.1.1 is left passed h.1.2 h.2)
-lacks_entry NotText old now next entries line is left passed feed end small h = absurd h
-lacks_entry (Differs k) old now next entries line is left passed feed end small h = absurd h
-lacks_entry Read old now next entries line is left passed feed end small h = absurd h
-lacks_entry Write old now next entries line is left passed feed end small h = absurd h
-lacks_entry OutOfMemory old now next entries line is left passed feed end small h = tt
+lacks_entry NotText old now next entries line is left passed feed end h = absurd h
+lacks_entry (Differs k) old now next entries line is left passed feed end h = absurd h
+lacks_entry Read old now next entries line is left passed feed end h = absurd h
+lacks_entry Write old now next entries line is left passed feed end h = absurd h
+lacks_entry OutOfMemory old now next entries line is left passed feed end h = tt

@@ -1,14 +1,14 @@
--- No line feed stands in the line of a call.
-use Rattle.std.proofs.Common.{◌≡◌, ◌<◌, ◌≤◌, ◌+◌, suc, zero, ◌^◌, ◌/◌, ◌%◌, inl, inr, ℕ, List, Bool, [], ◌∷◌, ◌++◌, length, get_or, arith, refl, sym, ap, ◌∙◌, true, false, decimal, nat_le}
+-- Neither a line feed nor a carriage return stands in the lines of a session.
+use Rattle.std.proofs.Common.{◌≡◌, ◌<◌, ◌≤◌, ◌+◌, suc, zero, ◌^◌, ◌/◌, ◌%◌, ℕ, List, Bool, [], ◌∷◌, ◌++◌, length, get_or, arith, refl, sym, ap, ◌∙◌, true, false, decimal, nat_le, nat_lt, cond}
 use Rattle.std.specs.Prelude.{not, ◌&&◌, map}
 use Rattle.std.specs.List.{AllByRecursion, list_all}
+use Rattle.std.specs.Fmt.{digits, digits_onto, digit_glyph}
 use Rattle.std.proofs.Math.Dec.{eqb}
-use Rattle.std.proofs.lemmas.Bool.{cases_lt, and_parts}
+use Rattle.std.proofs.lemmas.Bool.{and_parts}
 use Rattle.std.proofs.lemmas.List.{get_or_past}
-use Rattle.std.proofs.lemmas.List.Elements.{All-from_get_or, recursion_from_All}
-use Rattle.std.proofs.lemmas.Str.Parse.{not_in_digits, numerals_by_value, tells_digits}
-use Rattle.std.proofs.lemmas.Fmt.{digits_decimal, decimal_by_steps}
+use Rattle.std.proofs.lemmas.Fmt.{decimal_by_steps}
 use Rattle.hex.specs.Hex.{encode_lower, encode_with, lower_digits}
+use Rattle.esx_reading.proofs.FieldLemmas.{no_match}
 use Rattle.esx_events.specs.Names.{IsName, is_name_byte, starts_lower}
 use Rattle.esx_events.specs.declared.event.Event.{Event}
 use Rattle.esx_events.specs.declared.call.Call.{Call}
@@ -31,61 +31,102 @@ use Rattle.esx_words.specs.Commands.Form.{Plain, Tried}
 use Rattle.esx_session.specs.Reading.{HasNoFeed, SpellsCall}
 use Rattle.esx_session.proofs.CallLemmas.{small_caller}
 
-pub no_feed_both : (x y : List ℕ) → HasNoFeed x → HasNoFeed y → HasNoFeed (x ++ y)
-no_feed_both [] y p q = q
-no_feed_both (b ∷ x) y p q = (p.0, no_feed_both x y p.1 q)
+-- a byte within a line
+abbrev pub stays : ℕ → Bool
+stays b = not (eqb b 10) && not (eqb b 13)
 
-no_feed_digits : (n : ℕ) → n < 2 ^ 64 → HasNoFeed (decimal n)
-no_feed_digits n small = recursion_from_All (λ b. b ≡ 10 → ⊥) (decimal n) (All-from_get_or (λ b. b ≡ 10 → ⊥) (decimal n) 0
-    (λ i lt. not_in_digits (numerals_by_value _ tells_digits) (decimal n) 10 (digits_decimal (numerals_by_value _ tells_digits) n small) (λ r. omega (arith, r)) i lt))
+abbrev pub AllStay : List ℕ → Type 0
+AllStay = AllByRecursion (λ b. stays b ≡ true)
 
-pub no_feed_decimal : (n : ℕ) → n < 2 ^ 64 → HasNoFeed (decimal n)
-no_feed_decimal n small = no_feed_digits n small
+pub stays_above : (b : ℕ) → 14 ≤ b → stays b ≡ true
+stays_above b h = rw (no_match b 10 (λ e. omega (arith, h, e)), no_match b 13 (λ e. omega (arith, h, e))) refl
+
+pub both_stay : (x y : List ℕ) → AllStay x → AllStay y → AllStay (x ++ y)
+both_stay [] y p q = q
+both_stay (b ∷ x) y p q = (p.0, both_stay x y p.1 q)
+
+no_feed_byte : (b : ℕ) → stays b ≡ true → b ≡ 10 → ⊥
+no_feed_byte b h e = let no : false ≡ true = sym (ap stays e) ∙ h in cc
+
+no_return_byte : (b : ℕ) → stays b ≡ true → b ≡ 13 → ⊥
+no_return_byte b h e = let no : false ≡ true = sym (ap stays e) ∙ h in cc
+
+pub no_feed : (text : List ℕ) → AllStay text → HasNoFeed text
+no_feed [] h = tt
+no_feed (b ∷ text) h = (no_feed_byte b h.0, no_feed text h.1)
+
+pub no_return_ends : (text front : List ℕ) → AllStay text → text ≡ front ++ 13 ∷ [] → ⊥
+no_return_ends [] [] h e = cc
+no_return_ends [] (c ∷ front) h e = cc
+no_return_ends (b ∷ text) [] h e = no_return_byte b h.0 (cc)
+no_return_ends (b ∷ text) (c ∷ front) h e = no_return_ends text front h.1 (cc)
+
+pub stay_from : (text : List ℕ) → HasNoFeed text → AllByRecursion (λ b. b ≡ 13 → ⊥) text → AllStay text
+stay_from [] p q = tt
+stay_from (b ∷ text) p q = (rw (no_match b 10 p.0, no_match b 13 q.0) refl, stay_from text p.1 q.1)
 
 -- texts of known bytes
-pub known_feed : (text : List ℕ) → list_all (λ b. not (eqb b 10)) text ≡ true → HasNoFeed text
-known_feed [] e = tt
-known_feed (b ∷ text) e =
-    let parts = and_parts (not (eqb b 10)) (list_all (λ b. not (eqb b 10)) text) e in
-    (λ is. let no : false ≡ true = sym (ap (λ c. not (eqb c 10)) is) ∙ parts.0 in cc, known_feed text parts.1)
+pub known_stay : (text : List ℕ) → list_all stays text ≡ true → AllStay text
+known_stay [] e = tt
+known_stay (b ∷ text) e = let parts = and_parts (stays b) (list_all stays text) e in (parts.0, known_stay text parts.1)
 
-all_digits : (n : ℕ) (digits : List ℕ) → HasNoFeed digits → get_or digits n 0 ≡ 10 → ⊥
-all_digits n [] h e = let z : get_or [] n 0 ≡ 0 = get_or_past {X = ℕ} [] n 0 (omega arith) in omega (arith, z, e)
-all_digits zero (d ∷ digits) h e = h.0 e
-all_digits (suc n) (d ∷ digits) h e = all_digits n digits h.1 e
+glyph_above : (d : ℕ) (test : Bool) → 14 ≤ cond test (48 + d) (87 + d)
+glyph_above d true = omega arith
+glyph_above d false = omega arith
 
-hex_feed : (bytes : List ℕ) → HasNoFeed (encode_lower bytes)
+glyph_stays : (d : ℕ) → stays (digit_glyph false d) ≡ true
+glyph_stays d = stays_above (digit_glyph false d) (glyph_above d (nat_lt d 10))
+
+either_stays : (test : Bool) (x y : List ℕ) → AllStay x → AllStay y → AllStay (cond test x y)
+either_stays true x y p q = p
+either_stays false x y p q = q
+
+digits_stay : (k n : ℕ) (acc : List ℕ) → AllStay acc → AllStay (digits_onto k 10 false n acc)
+digits_stay zero n acc h = h
+digits_stay (suc k) n acc h = either_stays (eqb (n / 10) 0) (digit_glyph false (n % 10) ∷ acc) (digits_onto k 10 false (n / 10) (digit_glyph false (n % 10) ∷ acc)) (glyph_stays (n % 10), h)
+    (digits_stay k (n / 10) (digit_glyph false (n % 10) ∷ acc) (glyph_stays (n % 10), h))
+
+pub decimal_stays : (n : ℕ) → AllStay (decimal n)
+unfolding digits
+decimal_stays n = digits_stay 64 n [] tt
+
+hex_digit_stays : (n : ℕ) (digits : List ℕ) → AllStay digits → stays (get_or digits n 0) ≡ true
+hex_digit_stays n [] h = ap stays (get_or_past {X = ℕ} [] n 0 (omega arith))
+hex_digit_stays zero (d ∷ digits) h = h.0
+hex_digit_stays (suc n) (d ∷ digits) h = hex_digit_stays n digits h.1
+
+hex_stay : (bytes : List ℕ) → AllStay (encode_lower bytes)
 unfolding encode_with
-hex_feed [] = tt
-hex_feed (b ∷ bytes) = (all_digits (b / 16) lower_digits (known_feed lower_digits refl), (all_digits (b % 16) lower_digits (known_feed lower_digits refl), hex_feed bytes))
+hex_stay [] = tt
+hex_stay (b ∷ bytes) = (hex_digit_stays (b / 16) lower_digits (known_stay lower_digits refl), (hex_digit_stays (b % 16) lower_digits (known_stay lower_digits refl), hex_stay bytes))
 
-name_byte : (b : ℕ) → is_name_byte b ≡ true → b ≡ 10 → ⊥
-name_byte b h e = let no : false ≡ true = sym (ap is_name_byte e) ∙ h in cc
+name_byte : (b : ℕ) → is_name_byte b ≡ true → stays b ≡ true
+name_byte b h = stays_above b (grind (arith))
 
-name_bytes : (bs : List ℕ) → list_all is_name_byte bs ≡ true → HasNoFeed bs
+name_bytes : (bs : List ℕ) → list_all is_name_byte bs ≡ true → AllStay bs
 name_bytes [] h = tt
 name_bytes (b ∷ bs) h = let p = and_parts (is_name_byte b) (list_all is_name_byte bs) h in (name_byte b p.0, name_bytes bs p.1)
 
-name_feed : (name : List ℕ) → IsName name → HasNoFeed name
-name_feed name h = name_bytes name (and_parts (starts_lower name && nat_le (length name) 32) (list_all is_name_byte name) h).1
+name_stays : (name : List ℕ) → IsName name → AllStay name
+name_stays name h = name_bytes name (and_parts (starts_lower name && nat_le (length name) 32) (list_all is_name_byte name) h).1
 
-value_feed : (kind : Kind) (x : Value kind) → IsValue kind x → HasNoFeed (value_word kind x)
-value_feed Machine n r = no_feed_decimal n (omega (arith, r))
-value_feed Number n r = no_feed_decimal n (omega (arith, r))
-value_feed Word n r = no_feed_decimal n r
-value_feed Hex bytes r = hex_feed bytes
-value_feed Name name r = name_feed name r
+value_stays : (kind : Kind) (x : Value kind) → IsValue kind x → AllStay (value_word kind x)
+value_stays Machine n r = decimal_stays n
+value_stays Number n r = decimal_stays n
+value_stays Word n r = decimal_stays n
+value_stays Hex bytes r = hex_stay bytes
+value_stays Name name r = name_stays name r
 
-words_feed : (ws : List ℕ) → AllByRecursion (λ w. w < 2 ^ 64) ws → AllByRecursion HasNoFeed (map decimal ws)
-words_feed [] r = tt
-words_feed (w ∷ ws) r = (no_feed_decimal w r.0, words_feed ws r.1)
+words_stay : (ws : List ℕ) → AllByRecursion (λ w. w < 2 ^ 64) ws → AllByRecursion AllStay (map decimal ws)
+words_stay [] r = tt
+words_stay (w ∷ ws) r = (decimal_stays w, words_stay ws r.1)
 
-values_feed : (kinds : Kinds) (x : Values kinds) → AreValues kinds x → AllByRecursion HasNoFeed (value_words kinds x)
-values_feed End tt r = tt
-values_feed (Then kind kinds) (x, xs) r = (value_feed kind x r.0, values_feed kinds xs r.1)
-values_feed Words ws r = words_feed ws r.1
+values_stay : (kinds : Kinds) (x : Values kinds) → AreValues kinds x → AllByRecursion AllStay (value_words kinds x)
+values_stay End tt r = tt
+values_stay (Then kind kinds) (x, xs) r = (value_stays kind x r.0, values_stay kinds xs r.1)
+values_stay Words ws r = words_stay ws r.1
 
-known_verb : (v : Verb) → list_all (λ b. not (eqb b 10)) (verb_word v) ≡ true
+known_verb : (v : Verb) → list_all stays (verb_word v) ≡ true
 known_verb (verbs.Event events.Admit) = refl
 known_verb (verbs.Event (events.Machine machine_events.Start)) = refl
 known_verb (verbs.Event (events.Machine machine_events.Ask)) = refl
@@ -118,41 +159,41 @@ known_verb (verbs.Place place_verbs.OfPage) = refl
 known_verb (verbs.Place place_verbs.Advise) = refl
 known_verb verbs.WhatIf = refl
 
-verb_feed : (v : Verb) → HasNoFeed (verb_word v)
-verb_feed v = known_feed (verb_word v) (known_verb v)
+verb_stays : (v : Verb) → AllStay (verb_word v)
+verb_stays v = known_stay (verb_word v) (known_verb v)
 
-pub joined_feed : (ws : List (List ℕ)) → AllByRecursion HasNoFeed ws → HasNoFeed (joined ws)
-joined_feed [] h = tt
-joined_feed (w ∷ []) h = h.0
-joined_feed (w ∷ v ∷ vs) h = no_feed_both w (32 ∷ joined (v ∷ vs)) h.0 (λ e. omega (arith, e), joined_feed (v ∷ vs) h.1)
+pub joined_stay : (ws : List (List ℕ)) → AllByRecursion AllStay ws → AllStay (joined ws)
+joined_stay [] h = tt
+joined_stay (w ∷ []) h = h.0
+joined_stay (w ∷ v ∷ vs) h = both_stay w (32 ∷ joined (v ∷ vs)) h.0 (refl, joined_stay (v ∷ vs) h.1)
 
-semicolon_feed : (ws : List (List ℕ)) → AllByRecursion HasNoFeed ws → AllByRecursion HasNoFeed (with_semicolon ws)
-semicolon_feed [] h = tt
-semicolon_feed (w ∷ []) h = (no_feed_both w (59 ∷ []) h.0 (λ e. omega (arith, e), tt), tt)
-semicolon_feed (w ∷ v ∷ vs) h = (h.0, semicolon_feed (v ∷ vs) h.1)
+semicolon_stay : (ws : List (List ℕ)) → AllByRecursion AllStay ws → AllByRecursion AllStay (with_semicolon ws)
+semicolon_stay [] h = tt
+semicolon_stay (w ∷ []) h = (both_stay w (59 ∷ []) h.0 (refl, tt), tt)
+semicolon_stay (w ∷ v ∷ vs) h = (h.0, semicolon_stay (v ∷ vs) h.1)
 
-both_words : (xs ys : List (List ℕ)) → AllByRecursion HasNoFeed xs → AllByRecursion HasNoFeed ys → AllByRecursion HasNoFeed (xs ++ ys)
+both_words : (xs ys : List (List ℕ)) → AllByRecursion AllStay xs → AllByRecursion AllStay ys → AllByRecursion AllStay (xs ++ ys)
 both_words [] ys p q = q
 both_words (x ∷ xs) ys p q = (p.0, both_words xs ys p.1 q)
 
-event_feed : (e : Event) → IsEventInRange e → AllByRecursion HasNoFeed (event_words e)
-event_feed e r = (verb_feed (verbs.Event (event_verb e)), values_feed (event_kinds (event_verb e)) (event_values e) r)
+event_stays : (e : Event) → IsEventInRange e → AllByRecursion AllStay (event_words e)
+event_stays e r = (verb_stays (verbs.Event (event_verb e)), values_stay (event_kinds (event_verb e)) (event_values e) r)
 
-list_feed : (events : List Event) → AllByRecursion IsEventInRange events → AllByRecursion HasNoFeed (list_words events)
-list_feed [] p = tt
-list_feed (e ∷ []) p = event_feed e p.0
-list_feed (e ∷ n ∷ events) p = both_words (with_semicolon (event_words e)) (list_words (n ∷ events)) (semicolon_feed (event_words e) (event_feed e p.0)) (list_feed (n ∷ events) p.1)
+list_stay : (events : List Event) → AllByRecursion IsEventInRange events → AllByRecursion AllStay (list_words events)
+list_stay [] p = tt
+list_stay (e ∷ []) p = event_stays e p.0
+list_stay (e ∷ n ∷ events) p = both_words (with_semicolon (event_words e)) (list_words (n ∷ events)) (semicolon_stay (event_words e) (event_stays e p.0)) (list_stay (n ∷ events) p.1)
 
-operands_feed : (form : Form) (x : Operands form) → AreOperands form x → AllByRecursion HasNoFeed (operand_words form x)
-operands_feed (Plain kinds) x r = values_feed kinds x r
-operands_feed Tried events r = list_feed events r.1
+operands_stay : (form : Form) (x : Operands form) → AreOperands form x → AllByRecursion AllStay (operand_words form x)
+operands_stay (Plain kinds) x r = values_stay kinds x r
+operands_stay Tried events r = list_stay events r.1
 
-pub no_feed_spelling : (call : Call) → IsInRange call → HasNoFeed (spelling call)
-no_feed_spelling call r = joined_feed (verb_word (verb call) ∷ operand_words (verb_form (verb call)) (operands call)) (verb_feed (verb call), operands_feed (verb_form (verb call)) (operands call) r)
+pub spelling_stays : (call : Call) → IsInRange call → AllStay (spelling call)
+spelling_stays call r = joined_stay (verb_word (verb call) ∷ operand_words (verb_form (verb call)) (operands call)) (verb_stays (verb call), operands_stay (verb_form (verb call)) (operands call) r)
 
-pub no_feed_call : (line : List ℕ) (caller : ℕ) (call : Call) → SpellsCall line caller call → HasNoFeed line
-no_feed_call line caller call is =
-    rw is.spelled (no_feed_both (decimal caller) (32 ∷ spelling call) (no_feed_decimal caller (small_caller caller is.known)) (λ e. omega (arith, e), no_feed_spelling call is.range))
+pub call_stays : (line : List ℕ) (caller : ℕ) (call : Call) → SpellsCall line caller call → AllStay line
+call_stays line caller call is =
+    rw is.spelled (both_stay (decimal caller) (32 ∷ spelling call) (decimal_stays caller) (refl, spelling_stays call is.range))
 
 -- a number begins with a digit
 pub first_digit : (n : ℕ) → n < 2 ^ 64 → (d : ℕ) × (ds : List ℕ) × (decimal n ≡ d ∷ ds) × (48 ≤ d) × (d ≤ 57)

@@ -14,7 +14,7 @@ use Rattle.esx_session.specs.Sessions.{quoted_from, quoted, call_text, entry_tex
 use Rattle.esx_session.specs.Reading.{HasNoFeed, SpellsCall}
 use Rattle.esx_session.proofs.QuoteLemmas.{Closes, AreAscii, NoQuote, same_reply}
 use Rattle.esx_session.proofs.CallLemmas.{small_caller, one_spelled}
-use Rattle.esx_session.proofs.FeedLemmas.{no_feed_call, no_feed_both, no_feed_decimal, first_digit}
+use Rattle.esx_session.proofs.FeedLemmas.{no_feed, call_stays, first_digit}
 
 -- lines with no feed, each ended by one, begin one text only if they are the same
 pub same_line : (x y a b : List ℕ) → HasNoFeed x → HasNoFeed y → x ++ 10 ∷ a ≡ y ++ 10 ∷ b → (x ≡ y) × (a ≡ b)
@@ -47,7 +47,7 @@ pub spells_entry : (e : Entry) → IsEntry e → SpellsCall (call_line e) e.call
 spells_entry e is = record { known = is.caller; range = is.call; spelled = refl }
 
 pub call_line_feed : (e : Entry) → IsEntry e → HasNoFeed (call_line e)
-call_line_feed e is = no_feed_call (call_line e) e.caller e.call (spells_entry e is)
+call_line_feed e is = no_feed (call_line e) (call_stays (call_line e) e.caller e.call (spells_entry e is))
 
 pub call_text_is : (e : Entry) (more : List ℕ) → entry_text e ++ more ≡ call_line e ++ 10 ∷ (quoted e.reply ++ more)
 call_text_is e more = simp append_assoc

@@ -10,3 +10,4 @@ pub mod ReplyLemmas
 pub mod EntryLemmas
 pub mod CallsLemmas
 pub mod StopLemmas
+pub mod PrintedLemmas

@@ -15,7 +15,7 @@ use Rattle.std.proofs.lemmas.List.Sums.{fails_before_first}
 use Rattle.esx_reading.proofs.FieldLemmas.{no_match}
 use Rattle.esx_session.specs.Reading.{HasNoFeed}
 
-parts_cons : (x : List ℕ) (parts : List (List ℕ)) → 0 < length parts → lines_of_parts (x ∷ parts) ≡ strip_carriage_return x ∷ lines_of_parts parts
+pub parts_cons : (x : List ℕ) (parts : List (List ℕ)) → 0 < length parts → lines_of_parts (x ∷ parts) ≡ strip_carriage_return x ∷ lines_of_parts parts
 parts_cons x [] l = absurd (omega (arith, l))
 parts_cons x (y ∷ more) l = refl
 

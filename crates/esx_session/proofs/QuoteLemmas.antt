@@ -23,7 +23,7 @@ by_test : (b : ℕ) (t : Bool) → eqb b 10 ≡ t → (eqb b 10 ≡ true) × (b 
 by_test b true e = inl (e, grind (arith, Decides-eqb b 10))
 by_test b false e = inr (e, λ is. grind (arith, Decides-eqb b 10))
 
-tests_feed : (b : ℕ) → (eqb b 10 ≡ true) × (b ≡ 10) ⊎ (eqb b 10 ≡ false) × (b ≡ 10 → ⊥)
+pub tests_feed : (b : ℕ) → (eqb b 10 ≡ true) × (b ≡ 10) ⊎ (eqb b 10 ≡ false) × (b ≡ 10 → ⊥)
 tests_feed b = by_test b (eqb b 10) refl
 
 -- the first line of what goes on within one

@@ -8,22 +8,20 @@ use Rattle.esx_session.specs.declared.session.Entry.{Entry}
 use Rattle.esx_session.specs.Sessions.{ended, site_words, site_text, end_text, session_text, IsEntry, IsSession, Tells}
 use Rattle.esx_session.specs.Reading.{HasNoFeed, head_line, calls_text, TellsCalls}
 use Rattle.esx_session.proofs.SiteLemmas.{small_site, fields_of_site, same_site}
-use Rattle.esx_session.proofs.FeedLemmas.{known_feed, joined_feed, no_feed_decimal}
+use Rattle.esx_session.proofs.FeedLemmas.{AllStay, known_stay, joined_stay, decimal_stays, no_feed}
 use Rattle.esx_session.proofs.FrontLemmas.{same_line, same_front, settled, body, no_quote_end, no_end_call}
 
 abbrev pub site_line : Config → List ℕ
 site_line site = joined (site_words site)
 
-number_feed : (n : ℕ) → n < 2 ^ 32 → HasNoFeed (decimal n)
-number_feed n h = no_feed_decimal n (omega (arith, h))
+pub site_stays : (site : Config) → AllStay (site_line site)
+site_stays site = joined_stay (site_words site)
+    (known_stay (codes "frames") refl, (decimal_stays site.frames, (known_stay (codes "page") refl, (decimal_stays site.page, (known_stay (codes "slots") refl, (decimal_stays site.slots,
+    (known_stay (codes "tau") refl, (decimal_stays site.tau, (known_stay (codes "levels") refl, (decimal_stays site.high, (decimal_stays site.soft, (decimal_stays site.hard, (decimal_stays site.low,
+    (known_stay (codes "nodes") refl, (decimal_stays site.nodes, tt)))))))))))))))
 
-pub no_feed_site : (site : Config) → IsConfig site → HasNoFeed (site_line site)
-no_feed_site site r =
-    let s = small_site site r in
-    joined_feed (site_words site)
-    (known_feed (codes "frames") refl, (number_feed site.frames s.frames, (known_feed (codes "page") refl, (number_feed site.page s.page, (known_feed (codes "slots") refl, (number_feed site.slots s.slots,
-    (known_feed (codes "tau") refl, (number_feed site.tau s.tau, (known_feed (codes "levels") refl, (number_feed site.high s.high, (number_feed site.soft s.soft,
-    (number_feed site.hard s.hard, (number_feed site.low s.low, (known_feed (codes "nodes") refl, (number_feed site.nodes s.nodes, tt)))))))))))))))
+pub no_feed_site : (site : Config) → HasNoFeed (site_line site)
+no_feed_site site = no_feed (site_line site) (site_stays site)
 
 pub session_lines : (site : Config) (entries : List Entry) → session_text site entries ≡ head_line ++ 10 ∷ (site_line site ++ 10 ∷ calls_text entries)
 session_lines site entries = ap (λ t. head_line ++ 10 ∷ t) (append_assoc (site_line site) (10 ∷ []) (calls_text entries))
@@ -34,7 +32,7 @@ one_site a b p q e = same_site a b (small_site a p) (small_site b q) (sym (field
 
 pub same_site_line : (a b : Config) (x y : List ℕ) → IsConfig a → IsConfig b → site_line a ++ 10 ∷ x ≡ site_line b ++ 10 ∷ y → (a ≡ b) × (x ≡ y)
 same_site_line a b x y p q e =
-    let both = same_line (site_line a) (site_line b) x y (no_feed_site a p) (no_feed_site b q) e in (one_site a b p q both.0, both.1)
+    let both = same_line (site_line a) (site_line b) x y (no_feed_site a) (no_feed_site b) e in (one_site a b p q both.0, both.1)
 
 pub behind_head : (x y : List ℕ) → head_line ++ 10 ∷ x ≡ head_line ++ 10 ∷ y → x ≡ y
 behind_head x y e = cc

@@ -10,7 +10,7 @@ use Rattle.esx_reading.specs.declared.fault.TextFault.TheVariants.{NotToml, BadK
 use Rattle.esx_session.specs.declared.session.Entry.{Entry}
 use Rattle.esx_session.specs.Sessions.{ended, end_text, session_text, Tells, TellsNone, Begins, StopsAt, IsRefused}
 use Rattle.esx_session.specs.Reading.{Place, HasNoFeed, SpellsSite, head_line, calls_text, TellsCalls, BeginsCalls, IsStuck, StopsCalls, LacksCalls, LacksHead, LacksSite, LacksOpening}
-use Rattle.esx_session.proofs.FeedLemmas.{known_feed}
+use Rattle.esx_session.proofs.FeedLemmas.{known_stay, no_feed}
 use Rattle.esx_session.proofs.FrontLemmas.{same_line}
 use Rattle.esx_session.proofs.SessionLemmas.{site_line, no_feed_site, session_lines, same_site_line, behind_head}
 use Rattle.esx_session.proofs.CallsLemmas.{end_line}
@@ -87,7 +87,7 @@ begins_head = (site_line least_site ∷ end_line 0 ∷ [], least_site, [], tells
 head_of : (line : List ℕ) (others : List (List ℕ)) (site : Config) (entries : List Entry) → HasNoFeed line → Tells (line ∷ others) site entries → line ≡ head_line
 head_of line others site entries feed is =
     let whole = sym (append_assoc line (10 ∷ []) (ended others)) ∙ is.same ∙ session_lines site entries in
-    (same_line line head_line (ended others) (site_line site ++ 10 ∷ calls_text entries) feed (known_feed head_line refl) whole).0
+    (same_line line head_line (ended others) (site_line site ++ 10 ∷ calls_text entries) feed (no_feed head_line (known_stay head_line refl)) whole).0
 
 lost_head : (told : List (List ℕ)) → LacksHead told → IsLost [] told
 lost_head [] lacks = λ site entries is. let none : [] ≡ head_line ++ 10 ∷ (site_line site ++ 10 ∷ calls_text entries) = is.same ∙ session_lines site entries in cc
@@ -108,7 +108,7 @@ lost_site : (left : List (List ℕ)) → LacksSite left → IsLost (head_line �
 lost_site [] lacks = λ site entries is. no_text (site_line site) (calls_text entries) (behind_first [] site entries is)
 lost_site (line ∷ others) lacks = λ b.
     let whole = sym (append_assoc line (10 ∷ []) (ended b.0)) ∙ behind_first (line ∷ b.0) b.1 b.2 b.3 in
-    let same = same_line line (site_line b.1) (ended b.0) (calls_text b.2) lacks.0 (no_feed_site b.1 b.3.range.opened) whole in
+    let same = same_line line (site_line b.1) (ended b.0) (calls_text b.2) lacks.0 (no_feed_site b.1) whole in
     lacks.1 b.1 (record { range = b.3.range.opened; spelled = same.0 })
 
 pub no_site : (told left : List (List ℕ)) → told ≡ head_line ∷ left → LacksSite left → StopsAt 2 told

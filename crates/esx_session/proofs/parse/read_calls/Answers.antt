@@ -1,7 +1,7 @@
 use Rattle.std.proofs.Common.{◌≡◌, ◌∙◌, ap, sym, refl, length}
 use Rattle.std.proofs.lemmas.Result.{err_from_is_err_and}
 use Rattle.esx_session.specs.Reading.{Place}
-use Rattle.esx_session.proofs.CallsLemmas.{end_line, late_line, not_end, small_end, lacks_entry, ends_early, one_more}
+use Rattle.esx_session.proofs.CallsLemmas.{end_line, late_line, not_end, lacks_entry, ends_early, one_more}
 use Rattle.esx_session.proofs.parse.read_calls.Goals as goal
 
 pub returns-in-Some-next-clause-only : goal.returns-in-Some-next-clause-only
@@ -16,7 +16,7 @@ returns-in_err-entry-clause-only c =
     rw (p.1, p.2) (lacks_entry c.in_err-entry.field-0.0 c.args.place.now c.loop-line.place c.next.new.self c.loop-line.entries c.in-Some.line.now c.loop-line.invariant
     c.in-Some.ensures.left c.in-Some.ensures.passed c.in-Some.ensures.line
     (not_end c.in-Some.line.now c.is_end.result c.len.result (length c.loop-line.entries) c.len.ensures c.is_end.ensures c.if-is_end.false)
-    (small_end c.len.result (length c.loop-line.entries) c.len.ensures c.len.type_inv) c.in_err-entry.ensures.only)
+    c.in_err-entry.ensures.only)
 
 pub loop-line-preserved : goal.loop-line-preserved
 loop-line-preserved c =
