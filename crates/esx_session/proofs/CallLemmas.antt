@@ -29,8 +29,7 @@ head_of x y xs ys e = cc
 pub parts_of_call : (line number command : List ℕ) → fields line ≡ number ∷ fields command → (caller : ℕ) (call : Call) → SpellsCall line caller call
     → (number ≡ decimal caller) × Spells command call
 parts_of_call line number command cut caller call is =
-    let both = sym cut ∙ fields_of_call line caller call is in
-    (
+    let both = sym cut ∙ fields_of_call line caller call is in (
       head_of _ _ _ _ both,
       record { range = is.range; spelled = sym (joined_of_fields command) ∙ ap joined (others_of _ _ _ _ both) ∙ joined_of_fields (spelling call) },
     )
@@ -38,8 +37,7 @@ parts_of_call line number command cut caller call is =
 -- a line is that of one call by one caller
 pub one_spelled : (line : List ℕ) (caller other : ℕ) (call same : Call) → SpellsCall line caller call → SpellsCall line other same → (caller ≡ other) × (call ≡ same)
 one_spelled line caller other call same p q =
-    let parts = parts_of_call line (decimal caller) (spelling call) (fields_of_call line caller call p) other same q in
-    (
+    let parts = parts_of_call line (decimal caller) (spelling call) (fields_of_call line caller call p) other same q in (
       decimal_injective caller other (small_caller caller p.known) (small_caller other q.known) parts.0,
       one_call (spelling call) call same (record { range = p.range; spelled = refl }) parts.1,
     )

@@ -113,16 +113,20 @@ nothing_ends count (y ∷ others) p e =
 
 -- the lines end before the end of the session
 pub ends_early : (old now : Place) (entries : List Entry) → AreRead old now entries → now.left ≡ [] → (m : ℕ) × (now.passed + 1 ≡ old.passed + m + 1) × StopsCalls m old.left
-ends_early old now entries is none = (length is.taken, omega (arith, is.passed), record {
-  front = is.taken;
-  others = [];
-  whole = is.left ∙ ap (λ t. is.taken ++ t) none;
-  count = refl;
-  begins = begins_calls is.taken entries is.range is.text;
-  stuck = λ es tells.
-      let front = same_front entries es (length es) [] is.range tells.range (settled_none entries) (sym tells.same ∙ is.text ∙ sym (append-nil (body entries))) in
-      nothing_ends (length es) front.0 front.2 front.3;
-})
+ends_early old now entries is none = (
+  length is.taken,
+  omega (arith, is.passed),
+  record {
+    front = is.taken;
+    others = [];
+    whole = is.left ∙ ap (λ t. is.taken ++ t) none;
+    count = refl;
+    begins = begins_calls is.taken entries is.range is.text;
+    stuck = λ es tells.
+        let front = same_front entries es (length es) [] is.range tells.range (settled_none entries) (sym tells.same ∙ is.text ∙ sym (append-nil (body entries))) in
+        nothing_ends (length es) front.0 front.2 front.3;
+  },
+)
 
 -- what a session that goes on with a line has behind the calls so far
 goes_on : (taken : List (List ℕ)) (line : List ℕ) (entries : List Entry) (later : List (List ℕ)) (es : List Entry) → ended taken ≡ body entries
@@ -143,18 +147,22 @@ no_other entries (y ∷ others) es line text whole p feed end none e =
 
 pub bad_line : (old now new : Place) (entries : List Entry) (line : List ℕ) → AreRead old now entries → now.left ≡ line ∷ new.left → new.passed ≡ now.passed + 1 → HasNoFeed line
     → (line ≡ end_line (length entries) → ⊥) → SpellsNoCall line → (m : ℕ) × (new.passed ≡ old.passed + m + 1) × StopsCalls m old.left
-bad_line old now new entries line is left passed feed end none = (length is.taken, omega (arith, is.passed, passed), record {
-  front = is.taken;
-  others = line ∷ new.left;
-  whole = is.left ∙ ap (λ t. is.taken ++ t) left;
-  count = refl;
-  begins = begins_calls is.taken entries is.range is.text;
-  stuck = λ goes.
-      let here = goes_on is.taken line entries goes.0 goes.1 is.text goes.2 in
-      let front = same_front entries goes.1 (length goes.1) (line ++ 10 ∷ ended goes.0) is.range goes.2.range
-          (settled_line entries line new.left (ended goes.0) (rw left at is.next)) here in
-      no_other entries front.0 goes.1 line (ended goes.0) front.1 front.2 feed end none front.3;
-})
+bad_line old now new entries line is left passed feed end none = (
+  length is.taken,
+  omega (arith, is.passed, passed),
+  record {
+    front = is.taken;
+    others = line ∷ new.left;
+    whole = is.left ∙ ap (λ t. is.taken ++ t) left;
+    count = refl;
+    begins = begins_calls is.taken entries is.range is.text;
+    stuck = λ goes.
+        let here = goes_on is.taken line entries goes.0 goes.1 is.text goes.2 in
+        let front = same_front entries goes.1 (length goes.1) (line ++ 10 ∷ ended goes.0) is.range goes.2.range
+        (settled_line entries line new.left (ended goes.0) (rw left at is.next)) here in
+        no_other entries front.0 goes.1 line (ended goes.0) front.1 front.2 feed end none front.3;
+  },
+)
 
 -- a call whose reply is still to come
 begins_call : (taken : List (List ℕ)) (entries : List Entry) (line : List ℕ) (caller : ℕ) (call : Call) → AllByRecursion IsEntry entries → ended taken ≡ body entries
@@ -162,8 +170,7 @@ begins_call : (taken : List (List ℕ)) (entries : List Entry) (line : List ℕ)
 begins_call taken entries line caller call range text is =
     let e : Entry = record { caller = caller; call = call; reply = 10 ∷ [] } in
     let good : IsEntry e = record { caller = is.known; call = is.range; reply = ([], refl); ascii = one_feed } in
-    let last = end_line (length (entries ++ e ∷ [])) in
-    (
+    let last = end_line (length (entries ++ e ∷ [])) in (
       (61 ∷ 32 ∷ []) ∷ last ∷ [],
       entries ++ e ∷ [],
       record {
@@ -189,7 +196,7 @@ call_is_no_end : (line : List ℕ) (caller : ℕ) (call : Call) (count : ℕ) (t
 call_is_no_end line caller call count text is e =
     let digit = first_digit caller (small_caller caller is.known) in
     let whole : end_text count ≡ digit.0 ∷ (digit.1 ++ 32 ∷ (spelling call ++ 10 ∷ text)) =
-        e ∙ ap (λ t. t ++ 10 ∷ text) is.spelled ∙ append_assoc (decimal caller) (32 ∷ spelling call) (10 ∷ text) ∙ ap (λ t. t ++ 32 ∷ (spelling call ++ 10 ∷ text)) digit.2 in
+    e ∙ ap (λ t. t ++ 10 ∷ text) is.spelled ∙ append_assoc (decimal caller) (32 ∷ spelling call) (10 ∷ text) ∙ ap (λ t. t ++ 32 ∷ (spelling call ++ 10 ∷ text)) digit.2 in
     let byte : digit.0 ≡ 101 = cc in omega (arith, byte, digit.3, digit.4)
 
 -- a session goes on from the line of a call with a line of its reply
@@ -217,14 +224,18 @@ stuck_call taken entries line caller call (other ∷ left) range text settled is
 
 pub bad_reply : (old now new : Place) (entries : List Entry) (line : List ℕ) (caller : ℕ) (call : Call) → AreRead old now entries → now.left ≡ line ∷ new.left
     → new.passed ≡ now.passed + 1 → SpellsCall line caller call → LeavesReply new.left → (m : ℕ) × (new.passed + 1 ≡ old.passed + m + 1) × StopsCalls m old.left
-bad_reply old now new entries line caller call is left passed spells next = (length is.taken + 1, omega (arith, is.passed, passed), record {
-  front = is.taken ++ line ∷ [];
-  others = new.left;
-  whole = is.left ∙ ap (λ t. is.taken ++ t) left ∙ sym (append_assoc is.taken (line ∷ []) new.left);
-  count = sym (length-append is.taken (line ∷ []));
-  begins = begins_call is.taken entries line caller call is.range is.text spells;
-  stuck = stuck_call is.taken entries line caller call new.left is.range is.text (λ text. settled_line entries line new.left text (rw left at is.next)) spells next;
-})
+bad_reply old now new entries line caller call is left passed spells next = (
+  length is.taken + 1,
+  omega (arith, is.passed, passed),
+  record {
+    front = is.taken ++ line ∷ [];
+    others = new.left;
+    whole = is.left ∙ ap (λ t. is.taken ++ t) left ∙ sym (append_assoc is.taken (line ∷ []) new.left);
+    count = sym (length-append is.taken (line ∷ []));
+    begins = begins_call is.taken entries line caller call is.range is.text spells;
+    stuck = stuck_call is.taken entries line caller call new.left is.range is.text (λ text. settled_line entries line new.left text (rw left at is.next)) spells next;
+  },
+)
 
 -- nothing stands behind the end
 end_and_more : (count number : ℕ) (line text : List ℕ) → count ≡ number → end_text count ≡ end_line number ++ 10 ∷ (line ++ 10 ∷ text) → ⊥
@@ -242,26 +253,34 @@ behind_end entries (y ∷ others) es line text whole p e =
 
 pub late_line : (old now next new : Place) (entries : List Entry) (line other : List ℕ) → AreRead old now entries → now.left ≡ line ∷ next.left → next.passed ≡ now.passed + 1
     → line ≡ end_line (length entries) → next.left ≡ other ∷ new.left → new.passed ≡ next.passed + 1 → (m : ℕ) × (new.passed ≡ old.passed + m + 1) × StopsCalls m old.left
-late_line old now next new entries line other is left passed end late later = (length is.taken + 1, omega (arith, is.passed, passed, later), record {
-  front = is.taken ++ line ∷ [];
-  others = other ∷ new.left;
-  whole = is.left ∙ ap (λ t. is.taken ++ t) (left ∙ ap (λ t. line ∷ t) late) ∙ sym (append_assoc is.taken (line ∷ []) (other ∷ new.left));
-  count = sym (length-append is.taken (line ∷ []));
-  begins = ([], entries, record {
-    range = is.range;
-    same = ended_at is.taken line [] ∙ ap (λ t. t ++ (line ++ 10 ∷ [])) is.text ∙ ap (λ t. body entries ++ (t ++ 10 ∷ [])) end;
-  });
-  stuck = λ goes.
-      let whole : TellsCalls ((is.taken ++ line ∷ []) ++ (other ∷ goes.0)) goes.1 = rw (sym (append_assoc (is.taken ++ line ∷ []) (other ∷ []) goes.0)) goes.2 in
-      let here : body goes.1 ++ end_text (length goes.1) ≡ body entries ++ (end_line (length entries) ++ 10 ∷ (other ++ 10 ∷ ended goes.0)) =
-          goes_on is.taken line entries (other ∷ goes.0) goes.1 is.text whole
-          ∙ ap (λ t. body entries ++ (line ++ 10 ∷ t)) (append_assoc other (10 ∷ []) (ended goes.0))
-          ∙ ap (λ t. body entries ++ (t ++ 10 ∷ (other ++ 10 ∷ ended goes.0))) end in
-      let none : Settled entries (end_line (length entries) ++ 10 ∷ (other ++ 10 ∷ ended goes.0)) =
-          rw end at (settled_line entries line next.left (other ++ 10 ∷ ended goes.0) (rw left at is.next)) in
-      let front = same_front entries goes.1 (length goes.1) _ is.range goes.2.range none here in
-      behind_end entries front.0 goes.1 other (ended goes.0) front.1 front.2 front.3;
-})
+late_line old now next new entries line other is left passed end late later = (
+  length is.taken + 1,
+  omega (arith, is.passed, passed, later),
+  record {
+    front = is.taken ++ line ∷ [];
+    others = other ∷ new.left;
+    whole = is.left ∙ ap (λ t. is.taken ++ t) (left ∙ ap (λ t. line ∷ t) late) ∙ sym (append_assoc is.taken (line ∷ []) (other ∷ new.left));
+    count = sym (length-append is.taken (line ∷ []));
+    begins = (
+      [],
+      entries,
+      record {
+        range = is.range;
+        same = ended_at is.taken line [] ∙ ap (λ t. t ++ (line ++ 10 ∷ [])) is.text ∙ ap (λ t. body entries ++ (t ++ 10 ∷ [])) end;
+      },
+    );
+    stuck = λ goes.
+        let whole : TellsCalls ((is.taken ++ line ∷ []) ++ (other ∷ goes.0)) goes.1 = rw (sym (append_assoc (is.taken ++ line ∷ []) (other ∷ []) goes.0)) goes.2 in
+        let here : body goes.1 ++ end_text (length goes.1) ≡ body entries ++ (end_line (length entries) ++ 10 ∷ (other ++ 10 ∷ ended goes.0)) =
+        goes_on is.taken line entries (other ∷ goes.0) goes.1 is.text whole
+        ∙ ap (λ t. body entries ++ (line ++ 10 ∷ t)) (append_assoc other (10 ∷ []) (ended goes.0))
+        ∙ ap (λ t. body entries ++ (t ++ 10 ∷ (other ++ 10 ∷ ended goes.0))) end in
+        let none : Settled entries (end_line (length entries) ++ 10 ∷ (other ++ 10 ∷ ended goes.0)) =
+        rw end at (settled_line entries line next.left (other ++ 10 ∷ ended goes.0) (rw left at is.next)) in
+        let front = same_front entries goes.1 (length goes.1) _ is.range goes.2.range none here in
+        behind_end entries front.0 goes.1 other (ended goes.0) front.1 front.2 front.3;
+  },
+)
 
 -- a line that is not the end of so many calls
 pub not_end : (line : List ℕ) (t : Bool) (count number : ℕ) → count ≡ number → IsTrue t ↔ (line ≡ end_line count) → t ≡ false → line ≡ end_line number → ⊥

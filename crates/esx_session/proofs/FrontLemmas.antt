@@ -65,10 +65,13 @@ no_quote_none line later p q e = cc
 -- the first byte of a call
 pub first_of_call : (e : Entry) (more : List ℕ) → IsEntry e → (d : ℕ) × (ds : List ℕ) × (entry_text e ++ more ≡ d ∷ ds) × (48 ≤ d) × (d ≤ 57)
 first_of_call e more is =
-    let digit = first_digit e.caller (small_caller e.caller is.caller) in
-    (digit.0, digit.1 ++ 32 ∷ (spelling e.call ++ 10 ∷ (quoted e.reply ++ more)),
-     call_text_is e more ∙ append_assoc (decimal e.caller) (32 ∷ spelling e.call) (10 ∷ (quoted e.reply ++ more)) ∙ ap (λ t. t ++ 32 ∷ (spelling e.call ++ 10 ∷ (quoted e.reply ++ more))) digit.2,
-     digit.3, digit.4)
+    let digit = first_digit e.caller (small_caller e.caller is.caller) in (
+      digit.0,
+      digit.1 ++ 32 ∷ (spelling e.call ++ 10 ∷ (quoted e.reply ++ more)),
+      call_text_is e more ∙ append_assoc (decimal e.caller) (32 ∷ spelling e.call) (10 ∷ (quoted e.reply ++ more)) ∙ ap (λ t. t ++ 32 ∷ (spelling e.call ++ 10 ∷ (quoted e.reply ++ more))) digit.2,
+      digit.3,
+      digit.4,
+    )
 
 pub no_quote_call : (e : Entry) (more : List ℕ) → IsEntry e → NoQuote (entry_text e ++ more)
 no_quote_call e more is =
@@ -118,8 +121,8 @@ same_front (x ∷ entries) [] count text p q n e =
     absurd (no_end_call x (body entries ++ text) count [] p.0 (sym (append_assoc (entry_text x) (body entries) text) ∙ sym e ∙ sym (append-nil (end_text count))))
 same_front (x ∷ entries) (y ∷ all) count text p q n e =
     let whole : entry_text y ++ (body all ++ end_text count) ≡ entry_text x ++ (body entries ++ text) =
-        sym (append_assoc (entry_text y) (body all) (end_text count)) ∙ e ∙ append_assoc (entry_text x) (body entries) text in
+    sym (append_assoc (entry_text y) (body all) (end_text count)) ∙ e ∙ append_assoc (entry_text x) (body entries) text in
     let first = same_entry y x (body all ++ end_text count) (body entries ++ text) q.0 p.0
-        (no_quote_body all (end_text count) q.1 (rw (sym (append-nil (end_text count))) (no_quote_end count []))) (no_quote_body entries text p.1 n) whole in
+    (no_quote_body all (end_text count) q.1 (rw (sym (append-nil (end_text count))) (no_quote_end count []))) (no_quote_body entries text p.1 n) whole in
     let more = same_front entries all count text p.1 q.1 (settled entries text n) first.1 in
     (more.0, ap (λ t. t ∷ all) first.0 ∙ ap (λ t. x ∷ t) more.1, more.2, more.3)

@@ -15,10 +15,46 @@ abbrev pub site_line : Config → List ℕ
 site_line site = joined (site_words site)
 
 pub site_stays : (site : Config) → AllStay (site_line site)
-site_stays site = joined_stay (site_words site)
-    (known_stay (codes "frames") refl, (decimal_stays site.frames, (known_stay (codes "page") refl, (decimal_stays site.page, (known_stay (codes "slots") refl, (decimal_stays site.slots,
-    (known_stay (codes "tau") refl, (decimal_stays site.tau, (known_stay (codes "levels") refl, (decimal_stays site.high, (decimal_stays site.soft, (decimal_stays site.hard, (decimal_stays site.low,
-    (known_stay (codes "nodes") refl, (decimal_stays site.nodes, tt)))))))))))))))
+site_stays site = joined_stay (site_words site) (
+  known_stay (codes "frames") refl,
+  (
+    decimal_stays site.frames,
+    (
+      known_stay (codes "page") refl,
+      (
+        decimal_stays site.page,
+        (
+          known_stay (codes "slots") refl,
+          (
+            decimal_stays site.slots,
+            (
+              known_stay (codes "tau") refl,
+              (
+                decimal_stays site.tau,
+                (
+                  known_stay (codes "levels") refl,
+                  (
+                    decimal_stays site.high,
+                    (
+                      decimal_stays site.soft,
+                      (
+                        decimal_stays site.hard,
+                        (
+                          decimal_stays site.low,
+                          (known_stay (codes "nodes") refl, (decimal_stays site.nodes, tt)),
+                        ),
+                      ),
+                    ),
+                  ),
+                ),
+              ),
+            ),
+          ),
+        ),
+      ),
+    ),
+  ),
+)
 
 pub no_feed_site : (site : Config) → HasNoFeed (site_line site)
 no_feed_site site = no_feed (site_line site) (site_stays site)

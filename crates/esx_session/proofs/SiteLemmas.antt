@@ -34,10 +34,37 @@ fields_of_site site r =
     fields_of_joined (codes "frames")
     (decimal site.frames ∷ codes "page" ∷ decimal site.page ∷ codes "slots" ∷ decimal site.slots ∷ codes "tau" ∷ decimal site.tau
     ∷ codes "levels" ∷ decimal site.high ∷ decimal site.soft ∷ decimal site.hard ∷ decimal site.low ∷ codes "nodes" ∷ decimal site.nodes ∷ [])
-    (no_space_in_known (codes "frames") refl)
-    (number_field site.frames s.frames, (no_space_in_known (codes "page") refl, (number_field site.page s.page, (no_space_in_known (codes "slots") refl, (number_field site.slots s.slots,
-    (no_space_in_known (codes "tau") refl, (number_field site.tau s.tau, (no_space_in_known (codes "levels") refl, (number_field site.high s.high, (number_field site.soft s.soft,
-    (number_field site.hard s.hard, (number_field site.low s.low, (no_space_in_known (codes "nodes") refl, (number_field site.nodes s.nodes, tt))))))))))))))
+    (no_space_in_known (codes "frames") refl) (
+      number_field site.frames s.frames,
+      (
+        no_space_in_known (codes "page") refl,
+        (
+          number_field site.page s.page,
+          (
+            no_space_in_known (codes "slots") refl,
+            (
+              number_field site.slots s.slots,
+              (
+                no_space_in_known (codes "tau") refl,
+                (
+                  number_field site.tau s.tau,
+                  (
+                    no_space_in_known (codes "levels") refl,
+                    (
+                      number_field site.high s.high,
+                      (
+                        number_field site.soft s.soft,
+                        (number_field site.hard s.hard, (number_field site.low s.low, (no_space_in_known (codes "nodes") refl, (number_field site.nodes s.nodes, tt)))),
+                      ),
+                    ),
+                  ),
+                ),
+              ),
+            ),
+          ),
+        ),
+      ),
+    )
 
 pub site_fields : (line : List ℕ) (site : Config) → SpellsSite line site → fields line ≡ site_words site
 site_fields line site is = ap fields is.spelled ∙ fields_of_site site is.range

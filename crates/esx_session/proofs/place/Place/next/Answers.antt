@@ -10,9 +10,9 @@ returns-in-Some-clause-left c =
     let h = rw c.in-Some.is at (split_once_first 10 c.self.inside.rest.now c.split_once.result c.split_once.ensures.cases (lit< tt)) in
     let s = strip_suffix_char 13 c.in-Some.line.now c.strip_suffix.result c.strip_suffix.ensures.cases (lit< tt) in
     rw c.unwrap_or.ensures (
-      ap (λ (p : Place). p.left) (sym c.self.view_is)
-      ∙ next_line c.self.inside.rest.now c.in-Some.line.now c.in-Some.later.now h.0 h.1 h.2
-      ∙ ap (λ t. t ∷ lines c.in-Some.later.now) (stripped c.in-Some.line c.strip_suffix.result s))
+    ap (λ (p : Place). p.left) (sym c.self.view_is)
+    ∙ next_line c.self.inside.rest.now c.in-Some.line.now c.in-Some.later.now h.0 h.1 h.2
+    ∙ ap (λ t. t ∷ lines c.in-Some.later.now) (stripped c.in-Some.line c.strip_suffix.result s))
 
 pub returns-in-Some-clause-line : goal.returns-in-Some-clause-line
 returns-in-Some-clause-line c =
