@@ -1,5 +1,5 @@
 -- The line of a call: its fields, and that it has them of one call only.
-use Rattle.std.proofs.Common.{◌≡◌, ◌<◌, ◌^◌, ℕ, List, [], ◌∷◌, ◌++◌, decimal, arith, refl, sym, ap, ◌∙◌}
+use Rattle.std.proofs.Common.{◌≡◌, ◌<◌, ◌^◌, ℕ, List, [], ◌∷◌, decimal, arith, refl, sym, ap, ◌∙◌}
 use Rattle.std.proofs.Math.Dec.{eqb}
 use Rattle.std.proofs.lemmas.List.Splits.{slice_split_at}
 use Rattle.std.proofs.lemmas.Fmt.{decimal_injective}
@@ -7,7 +7,7 @@ use Rattle.esx_types.specs.declared.config.TheConstants.{CALLERS}
 use Rattle.esx_events.specs.declared.call.Call.{Call}
 use Rattle.esx_reading.specs.Fields.{fields, joined}
 use Rattle.esx_reading.proofs.FieldLemmas.{no_space_in_decimal, joined_of_fields, some_field, others_of}
-use Rattle.esx_words.specs.Commands.{spelling, Spells, IsInRange}
+use Rattle.esx_words.specs.Commands.{spelling, Spells}
 use Rattle.esx_words.proofs.CommandLemmas.{one_call}
 use Rattle.esx_session.specs.Reading.{SpellsCall}
 

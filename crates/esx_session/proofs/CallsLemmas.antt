@@ -1,12 +1,10 @@
 -- The calls of a session as far as they were read, and what stops them.
-use Rattle.std.proofs.Common.{◌≡◌, ◌<◌, ◌≤◌, ◌+◌, ℕ, List, Bool, true, false, [], ◌∷◌, ◌++◌, length, arith, refl, sym, ap, ◌∙◌, append_assoc, append-nil, length-append, decimal, codes}
+use Rattle.std.proofs.Common.{◌≡◌, ◌<◌, ◌+◌, ℕ, List, Bool, true, false, [], ◌∷◌, ◌++◌, length, arith, refl, sym, ap, ◌∙◌, append_assoc, append-nil, length-append, decimal, codes}
 use Rattle.std.specs.List.{AllByRecursion}
-use Rattle.std.specs.Prelude.{flat_map}
-use Rattle.std.specs.Str.{IsAscii}
 use Rattle.std.proofs.lemmas.Grind.{flat_map-append}
 use Rattle.std.proofs.lemmas.Str.Ascii.{IsAscii-from_all}
 use Rattle.std.proofs.lemmas.List.Elements.{All-from_recursion}
-use Rattle.std.proofs.Common.{◌↔◌, ◌^◌, inl, inr}
+use Rattle.std.proofs.Common.{◌↔◌, inl, inr}
 use Rattle.std.specs.Prelude.{IsTrue}
 use Rattle.esx_reading.specs.declared.fault.TextFault.{TextFault}
 use Rattle.esx_reading.specs.declared.fault.TextFault.TheVariants.{NotToml, BadKey, BadLine, NotText, Differs, Read, Write, OutOfMemory}
@@ -14,13 +12,13 @@ use Rattle.esx_events.specs.declared.call.Call.{Call}
 use Rattle.esx_words.specs.Commands.{spelling}
 use Rattle.esx_session.specs.declared.session.Entry.{Entry}
 use Rattle.esx_session.specs.Sessions.{ended, quoted, call_text, entry_text, end_text, IsEntry, IsEnded}
-use Rattle.esx_session.specs.Reading.{Place, HasNoFeed, Quotes, QuotesNone, LeavesReply, SpellsCall, SpellsNoCall, TakesEntry, LacksEntry, LacksCalls, calls_text, TellsCalls, BeginsCalls, IsStuck, StopsCalls}
+use Rattle.esx_session.specs.Reading.{Place, HasNoFeed, QuotesNone, LeavesReply, SpellsCall, SpellsNoCall, TakesEntry, LacksEntry, LacksCalls, TellsCalls, BeginsCalls, IsStuck, StopsCalls}
 use Rattle.esx_session.proofs.QuoteLemmas.{Closes, AreAscii, NoQuote, begins_quote}
 use Rattle.esx_session.proofs.CallLemmas.{small_caller}
 use Rattle.esx_session.proofs.FeedLemmas.{AllStay, call_stays, both_stay, decimal_stays, known_stay, no_feed, first_digit}
 use Rattle.esx_session.proofs.ReplyLemmas.{ended_more, one_feed}
 use Rattle.esx_session.proofs.EntryLemmas.{call_line_text}
-use Rattle.esx_session.proofs.FrontLemmas.{same_line, closes_ended, are_ascii, call_line, spells_entry, call_line_feed, call_text_is, first_of_call, no_end_call, no_quote_end, no_quote_none, Settled, settled, body, same_front}
+use Rattle.esx_session.proofs.FrontLemmas.{same_line, closes_ended, are_ascii, call_line, spells_entry, call_line_feed, call_text_is, first_of_call, no_end_call, no_quote_none, Settled, settled, body, same_front}
 
 -- no line of a reply follows, where there is a call
 abbrev pub SettledLines : List Entry → List (List ℕ) → Type 0
@@ -34,9 +32,6 @@ pub record AreRead (old new : Place) (entries : List Entry) : Type 0 where
   pub text : ended taken ≡ body entries
   pub range : AllByRecursion IsEntry entries
   pub next : SettledLines entries new.left
-
-pub no_calls : (place : Place) → AreRead place place []
-no_calls place = record { taken = []; left = refl; passed = omega arith; text = refl; range = tt; next = tt }
 
 both_entries : (xs ys : List Entry) → AllByRecursion IsEntry xs → AllByRecursion IsEntry ys → AllByRecursion IsEntry (xs ++ ys)
 both_entries [] ys p q = q
@@ -87,15 +82,6 @@ settled_line (e ∷ entries) line left text h = no_quote_line line text h.0 h.1
 
 settled_none : (entries : List Entry) → Settled entries []
 settled_none entries = settled entries [] no_quote_none
-
--- the end stands where it can
-pub tells_calls : (old now new : Place) (entries : List Entry) (line : List ℕ) → AreRead old now entries → now.left ≡ line ∷ new.left → line ≡ end_line (length entries)
-    → new.left ≡ [] → TellsCalls old.left entries
-tells_calls old now new entries line is left end none = record {
-  range = is.range;
-  same = ap ended (is.left ∙ ap (λ t. is.taken ++ t) (left ∙ ap (λ t. line ∷ t) none)) ∙ ended_more is.taken line ∙ ap (λ t. t ++ (line ++ 10 ∷ [])) is.text
-      ∙ ap (λ t. body entries ++ (t ++ 10 ∷ [])) end;
-}
 
 -- calls whose end is still to come
 begins_calls : (taken : List (List ℕ)) (entries : List Entry) → AllByRecursion IsEntry entries → ended taken ≡ body entries → BeginsCalls taken

@@ -25,11 +25,10 @@ use Rattle.esx_words.specs.declared.verbs.PlaceVerb.TheVariants as place_verbs
 use Rattle.esx_words.specs.Kinds.{Kind, Kinds, Value, Values, value_word, value_words, IsValue, AreValues}
 use Rattle.esx_words.specs.Kinds.Kind.{Machine, Number, Word, Hex, Name}
 use Rattle.esx_words.specs.Kinds.Kinds.{End, Then, Words}
-use Rattle.esx_words.specs.Verbs.{event_word, verb_word}
+use Rattle.esx_words.specs.Verbs.{verb_word}
 use Rattle.esx_words.specs.Commands.{Form, verb_form, verb, operands, Operands, operand_words, AreOperands, spelling, IsInRange, event_verb, event_kinds, event_values, event_words, IsEventInRange, list_words, with_semicolon}
 use Rattle.esx_words.specs.Commands.Form.{Plain, Tried}
 use Rattle.esx_session.specs.Reading.{HasNoFeed, SpellsCall}
-use Rattle.esx_session.proofs.CallLemmas.{small_caller}
 
 -- a byte within a line
 abbrev pub stays : ℕ → Bool

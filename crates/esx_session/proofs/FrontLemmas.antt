@@ -1,16 +1,14 @@
 -- What stands behind some calls of a session, and that it stands there in one way.
-use Rattle.std.proofs.Common.{◌≡◌, ◌<◌, ◌≤◌, ◌+◌, ◌^◌, ℕ, List, Bool, true, false, [], ◌∷◌, ◌++◌, length, arith, refl, sym, ap, ◌∙◌, append_assoc, append-nil, decimal, codes, suc}
+use Rattle.std.proofs.Common.{◌≡◌, ◌<◌, ◌≤◌, ℕ, List, Bool, true, false, [], ◌∷◌, ◌++◌, arith, refl, sym, ap, ◌∙◌, append_assoc, append-nil, decimal}
 use Rattle.std.specs.List.{AllByRecursion}
 use Rattle.std.specs.Prelude.{flat_map}
 use Rattle.std.proofs.Math.Dec.{eqb}
 use Rattle.std.specs.Str.{IsAscii}
-use Rattle.std.proofs.lemmas.List.Elements.{recursion_from_All, All-from_recursion}
-use Rattle.std.proofs.lemmas.Str.Ascii.{All-from_ascii, IsAscii-from_all}
-use Rattle.std.proofs.lemmas.Fmt.{decimal_injective}
-use Rattle.esx_events.specs.declared.call.Call.{Call}
+use Rattle.std.proofs.lemmas.List.Elements.{recursion_from_All}
+use Rattle.std.proofs.lemmas.Str.Ascii.{All-from_ascii}
 use Rattle.esx_words.specs.Commands.{spelling}
 use Rattle.esx_session.specs.declared.session.Entry.{Entry}
-use Rattle.esx_session.specs.Sessions.{quoted_from, quoted, call_text, entry_text, end_text, IsEnded, IsEntry}
+use Rattle.esx_session.specs.Sessions.{quoted, entry_text, end_text, IsEnded, IsEntry}
 use Rattle.esx_session.specs.Reading.{HasNoFeed, SpellsCall}
 use Rattle.esx_session.proofs.QuoteLemmas.{Closes, AreAscii, NoQuote, same_reply}
 use Rattle.esx_session.proofs.CallLemmas.{small_caller, one_spelled}

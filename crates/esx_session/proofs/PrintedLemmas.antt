@@ -1,13 +1,12 @@
 -- What is printed of a session is read as that session.
-use Rattle.std.proofs.Common.{◌≡◌, ◌<◌, ℕ, List, Bool, true, false, [], ◌∷◌, ◌++◌, length, arith, refl, sym, ap, ◌∙◌, append_assoc, append-nil, inl, inr, codes, decimal}
+use Rattle.std.proofs.Common.{◌≡◌, ℕ, List, Bool, true, false, [], ◌∷◌, ◌++◌, length, arith, refl, sym, ap, ◌∙◌, append_assoc, append-nil, inl, inr}
 use Rattle.std.specs.List.{AllByRecursion, slice_split}
-use Rattle.std.specs.Str.Lines.{lines, lines_of_parts, strip_carriage_return}
+use Rattle.std.specs.Str.Lines.{lines, lines_of_parts}
 use Rattle.std.proofs.Math.Dec.{eqb}
 use Rattle.std.proofs.lemmas.List.Elements.{All-from_recursion}
 use Rattle.std.proofs.lemmas.List.Splits.{slice_split_at, length-slice_split}
 use Rattle.esx_types.specs.declared.config.Config.{Config}
 use Rattle.esx_reading.proofs.FieldLemmas.{no_match}
-use Rattle.esx_words.specs.Commands.{spelling}
 use Rattle.esx_session.specs.declared.session.Entry.{Entry}
 use Rattle.esx_session.specs.Sessions.{ended, quoted_from, quoted, entry_text, end_text, session_text, IsEntry, IsSession, HasNoReturn, Tells}
 use Rattle.esx_session.specs.Reading.{HasNoFeed, head_line, calls_text}

@@ -1,9 +1,9 @@
 -- Replies behind equals signs: what they are, and that they end where another line begins.
-use Rattle.std.proofs.Common.{◌≡◌, ◌<◌, ℕ, List, Bool, true, false, [], ◌∷◌, ◌++◌, length, arith, refl, sym, ap, ◌∙◌, append_assoc, inl, inr, ◌⊎◌}
+use Rattle.std.proofs.Common.{◌≡◌, ◌<◌, ℕ, List, Bool, true, false, [], ◌∷◌, ◌++◌, arith, refl, sym, ap, inl, inr, ◌⊎◌}
 use Rattle.std.specs.List.{AllByRecursion}
 use Rattle.std.proofs.Math.Dec.{eqb}
 use Rattle.std.proofs.lemmas.Bool.Decides.{Decides-eqb}
-use Rattle.esx_session.specs.Sessions.{quoted_from, quoted, IsEnded}
+use Rattle.esx_session.specs.Sessions.{quoted_from, quoted}
 use Rattle.esx_session.specs.Reading.{HasNoFeed}
 
 -- a text whose lines are all ended; not `fresh`, it goes on within a line

@@ -1,7 +1,5 @@
 -- A reply, line by line.
-use Rattle.std.proofs.Common.{◌≡◌, ◌<◌, ◌≤◌, ◌+◌, ℕ, List, Bool, true, false, [], ◌∷◌, ◌++◌, length, arith, refl, sym, ap, ◌∙◌, append_assoc, append-nil, length-append}
-use Rattle.std.specs.List.{AllByRecursion}
-use Rattle.std.specs.Prelude.{flat_map}
+use Rattle.std.proofs.Common.{◌≡◌, ◌<◌, ◌+◌, ℕ, List, Bool, true, false, [], ◌∷◌, ◌++◌, length, arith, refl, sym, ap, ◌∙◌, append_assoc, append-nil, length-append}
 use Rattle.std.specs.Str.{IsAscii}
 use Rattle.std.proofs.Math.Dec.{eqb}
 use Rattle.std.proofs.lemmas.Str.{IsAscii-append}
@@ -24,16 +22,6 @@ pub record IsRead (old new : Place) (reply : List ℕ) : Type 0 where
   pub text : ended taken ≡ quoted reply
   pub closes : Closes true reply
   pub ascii : IsAscii reply
-
-pub none_read : (place : Place) → IsRead place place []
-none_read place = record {
-  taken = [];
-  left = refl;
-  passed = omega arith;
-  text = refl;
-  closes = tt;
-  ascii = λ i. lit< tt;
-}
 
 quoted_both : (fresh : Bool) (a b : List ℕ) → Closes fresh a → quoted_from fresh (a ++ b) ≡ quoted_from fresh a ++ quoted_from true b
 quoted_both true [] b h = refl

@@ -1,12 +1,12 @@
 -- A session's text by its lines, and that it is the text of one session.
-use Rattle.std.proofs.Common.{◌≡◌, ◌<◌, ◌≤◌, ◌+◌, ◌^◌, ℕ, List, [], ◌∷◌, ◌++◌, length, arith, refl, sym, ap, ◌∙◌, append_assoc, append-nil, decimal, codes}
+use Rattle.std.proofs.Common.{◌≡◌, ℕ, List, [], ◌∷◌, ◌++◌, length, refl, sym, ap, ◌∙◌, append_assoc, append-nil, codes}
 use Rattle.std.specs.List.{AllByRecursion}
 use Rattle.esx_types.specs.Ranges.{IsConfig}
 use Rattle.esx_types.specs.declared.config.Config.{Config}
 use Rattle.esx_reading.specs.Fields.{fields, joined}
 use Rattle.esx_session.specs.declared.session.Entry.{Entry}
-use Rattle.esx_session.specs.Sessions.{ended, site_words, site_text, end_text, session_text, IsEntry, IsSession, Tells}
-use Rattle.esx_session.specs.Reading.{HasNoFeed, head_line, calls_text, TellsCalls}
+use Rattle.esx_session.specs.Sessions.{site_words, end_text, session_text, IsEntry, Tells}
+use Rattle.esx_session.specs.Reading.{HasNoFeed, head_line, calls_text}
 use Rattle.esx_session.proofs.SiteLemmas.{small_site, fields_of_site, same_site}
 use Rattle.esx_session.proofs.FeedLemmas.{AllStay, known_stay, joined_stay, decimal_stays, no_feed}
 use Rattle.esx_session.proofs.FrontLemmas.{same_line, same_front, settled, body, no_quote_end, no_end_call}

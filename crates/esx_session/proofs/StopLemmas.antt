@@ -1,5 +1,5 @@
 -- Where a text stops being a session.
-use Rattle.std.proofs.Common.{◌⊎◌, ◌≡◌, ◌<◌, ◌≤◌, ◌+◌, ℕ, List, [], ◌∷◌, ◌++◌, length, take, drop, arith, refl, sym, ap, ◌∙◌, append_assoc, append-nil, length-append, inl, inr, codes}
+use Rattle.std.proofs.Common.{◌⊎◌, ◌≡◌, ◌≤◌, ◌+◌, ℕ, List, [], ◌∷◌, ◌++◌, length, take, drop, arith, refl, sym, ap, ◌∙◌, append_assoc, append-nil, length-append, inl, inr}
 use Rattle.std.proofs.lemmas.List.{take-append-le, take-append-drop}
 use Rattle.std.proofs.Math.Seq.{take-append_seam}
 use Rattle.std.specs.Str.Lines.{lines}
@@ -8,8 +8,8 @@ use Rattle.esx_types.specs.declared.config.Config.{Config}
 use Rattle.esx_reading.specs.declared.fault.TextFault.{TextFault}
 use Rattle.esx_reading.specs.declared.fault.TextFault.TheVariants.{NotToml, BadKey, BadLine, NotText, Differs, Read, Write, OutOfMemory}
 use Rattle.esx_session.specs.declared.session.Entry.{Entry}
-use Rattle.esx_session.specs.Sessions.{ended, end_text, session_text, Tells, TellsNone, Begins, StopsAt, IsRefused}
-use Rattle.esx_session.specs.Reading.{Place, HasNoFeed, SpellsSite, head_line, calls_text, TellsCalls, BeginsCalls, IsStuck, StopsCalls, LacksCalls, LacksHead, LacksSite, LacksOpening}
+use Rattle.esx_session.specs.Sessions.{ended, end_text, Tells, TellsNone, Begins, StopsAt, IsRefused}
+use Rattle.esx_session.specs.Reading.{Place, HasNoFeed, head_line, calls_text, TellsCalls, IsStuck, StopsCalls, LacksCalls, LacksHead, LacksSite, LacksOpening}
 use Rattle.esx_session.proofs.FeedLemmas.{known_stay, no_feed}
 use Rattle.esx_session.proofs.FrontLemmas.{same_line}
 use Rattle.esx_session.proofs.SessionLemmas.{site_line, no_feed_site, session_lines, same_site_line, behind_head}
@@ -152,7 +152,3 @@ no_session (Differs k) text site at range whole two h = absurd h
 no_session Read text site at range whole two h = absurd h
 no_session Write text site at range whole two h = absurd h
 no_session OutOfMemory text site at range whole two h = tt
-
-pub reads_session : (text : List ℕ) (site : Config) (left : List (List ℕ)) (entries : List Entry) → IsConfig site → lines text ≡ head_line ∷ site_line site ∷ left → TellsCalls left entries
-    → Tells (lines text) site entries
-reads_session text site left entries range whole is = rw whole (tells_session site left entries range is)

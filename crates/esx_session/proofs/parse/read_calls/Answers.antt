@@ -1,4 +1,4 @@
-use Rattle.std.proofs.Common.{◌≡◌, ◌∙◌, ap, sym, refl, length}
+use Rattle.std.proofs.Common.{◌∙◌, ap, refl, length}
 use Rattle.std.proofs.lemmas.Result.{err_from_is_err_and}
 use Rattle.esx_session.specs.Reading.{Place}
 use Rattle.esx_session.proofs.CallsLemmas.{end_line, late_line, not_end, lacks_entry, ends_early, one_more}

@@ -1,5 +1,3 @@
-use Rattle.esx_session.specs.Reading.{LeavesReply, Place}
-use Rattle.std.proofs.Common.{ap}
 use Rattle.esx_session.proofs.ReplyLemmas.{read_more, takes_reply, lacks_reply, not_empty}
 use Rattle.esx_session.proofs.parse.read_reply.Goals as goal
 

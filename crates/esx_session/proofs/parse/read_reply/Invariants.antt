@@ -1,6 +1,4 @@
-use Rattle.std.proofs.Common.{◌≡◌, ℕ, List, ◌++◌, ◌+◌, length}
-use Rattle.std.specs.Str.{IsAscii}
-use Rattle.esx_session.specs.Sessions.{ended, quoted}
+use Rattle.std.proofs.Common.{length}
 use Rattle.esx_session.proofs.ReplyLemmas.{IsRead}
 use Rattle.esx_session.proofs.parse.read_reply.Given as goal
 

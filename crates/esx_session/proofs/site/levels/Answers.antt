@@ -1,4 +1,3 @@
-use Rattle.std.proofs.Common.{[], ◌∷◌, decimal}
 use Rattle.esx_reading.proofs.FieldLemmas.{after_one, after_two}
 use Rattle.esx_session.proofs.site.levels.Goals as goal
 
