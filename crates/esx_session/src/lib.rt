@@ -1,0 +1,13 @@
+//! Sessions as texts: the site that a console was opened with, each call that was made of it, and what was
+//! answered.
+#![tactic(auto)]
+
+pub mod laws;
+mod line;
+mod parse;
+mod place;
+pub mod session;
+mod site;
+
+pub use parse::parse_session;
+pub use session::{Entry, Session};
