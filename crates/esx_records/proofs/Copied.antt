@@ -25,12 +25,12 @@ use Rattle.esx_tables.specs.Readings.{row_at}
 use Rattle.esx_plans.specs.plan.Counted.{is_first, turned_from, closed_means, open_parts, counted_parts}
 use Rattle.esx_plans.specs.plan.Access.{write_copy}
 
-abbrev pages_of : Option VmRow → Option (List MapRow)
+abbrev pub pages_of : Option VmRow → Option (List MapRow)
 pages_of o = option_map (λ (v : VmRow). v.pages) o
 
 -- Parts that leave the page map alone.
 
-abbrev IsStill : VmPart → Type 0
+abbrev pub IsStill : VmPart → Type 0
 IsStill part = (v : VmRow) → (part_traded v part).0.pages ≡ v.pages
 
 turned_still : (i page : ℕ) (marks : List Mark) → AllByRecursion IsStill (turned_from i page marks)
@@ -49,7 +49,7 @@ opened_still : (page : ℕ) (means : Means) (o : Option PeriodRow) → AllByRecu
 opened_still page means None = tt
 opened_still page means (Some p) = period_still page means p (nat_lt (p.done + 1) p.length)
 
-one_still : (vms : List (Option VmRow)) (n : ℕ) (part : VmPart) → IsStill part → pages_of (get_or (set vms n (vm_traded (get_or vms n None) part).0) n None) ≡ pages_of (get_or vms n None)
+pub one_still : (vms : List (Option VmRow)) (n : ℕ) (part : VmPart) → IsStill part → pages_of (get_or (set vms n (vm_traded (get_or vms n None) part).0) n None) ≡ pages_of (get_or vms n None)
 one_still [] n part still = refl
 one_still (None ∷ os) zero part still = refl
 one_still (Some v ∷ os) zero part still = ap (λ ps. Some ps) (still v)

@@ -39,9 +39,9 @@ pub fn admitted_machine_moves()
 
 /// The record of a machine that goes holds its row with the page map; flipped it holds an empty place.
 pub fn gone_machine_moves()
-    ensures given { (old new : Kept) (n : ℕ) (v : VmRow) (r : Back) → IsKept old → Exchanges old new (Gone n) r → row_at old.tables n ≡ Some v → length v.overhead ≤ 1
+    ensures given { (old new : Kept) (n : ℕ) (v : VmRow) (r : Back) → Exchanges old new (Gone n) r → row_at old.tables n ≡ Some v → row_at new.tables n ≡ None
         → places_in r.changes ≡ Some v ∷ [] }
-    ensures flipped { (old new : Kept) (n : ℕ) (v : VmRow) (r : Back) → IsKept old → Exchanges old new (Gone n) r → row_at old.tables n ≡ Some v → length v.overhead ≤ 1
+    ensures flipped { (old new : Kept) (n : ℕ) (v : VmRow) (r : Back) → Exchanges old new (Gone n) r → row_at old.tables n ≡ Some v → row_at new.tables n ≡ None
         → places_in (turned r new).changes ≡ None ∷ [] }
 {}
 
