@@ -1,11 +1,10 @@
 -- A page that is copied as it is written is in another frame afterwards.
-use Rattle.std.proofs.Common.{◌≡◌, zero, suc, ℕ, ◌+◌, nat_lt, Bool, true, false, List, [], ◌∷◌, length, map, get_or, set, refl, sym, ap, ◌∙◌, subst, cond, Option, Some, None}
+use Rattle.std.proofs.Common.{◌≡◌, zero, suc, ℕ, ◌+◌, nat_lt, Bool, true, false, List, [], ◌∷◌, map, get_or, set, refl, sym, ap, ◌∙◌, cond, Option, Some, None}
 use Rattle.std.specs.List.{AllByRecursion}
 use Rattle.std.specs.Option.{option_map}
 use Rattle.esx_average.specs.Means.{Means}
 use Rattle.esx_lists.specs.Trades.{in_turn}
 use Rattle.esx_lists.proofs.Positions.{first_found}
-use Rattle.esx_types.specs.declared.table.FrameRow.{FrameRow}
 use Rattle.esx_types.specs.declared.table.FrameRow.TheVariants as frames
 use Rattle.esx_types.specs.declared.table.MapRow.{MapRow}
 use Rattle.esx_types.specs.declared.table.MapRow.TheVariants as maps

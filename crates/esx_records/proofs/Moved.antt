@@ -1,5 +1,5 @@
 -- A machine that is admitted, and one that goes.
-use Rattle.std.proofs.Common.{◌≡◌, zero, suc, ℕ, ◌<◌, ◌≤◌, Bool, false, List, [], ◌∷◌, length, get_or, set, refl, sym, ap, ◌∙◌, subst, cond, arith, ◌-◌, slice_index, Option, Some, None, is_some, ◌⊎◌, inl, inr, true, nat_lt}
+use Rattle.std.proofs.Common.{◌≡◌, zero, suc, ℕ, ◌<◌, Bool, false, List, [], ◌∷◌, length, get_or, set, refl, sym, ap, ◌∙◌, subst, cond, arith, ◌-◌, slice_index, Option, Some, None, is_some, ◌⊎◌, inl, inr, true, nat_lt}
 use Rattle.std.proofs.lemmas.List.{get_or-set_same}
 use Rattle.esx_types.specs.declared.config.Config.{Config}
 use Rattle.esx_types.specs.declared.config.TheConstants.{VM_NUMBERS}
@@ -114,6 +114,7 @@ plan_goes t n v there = at_row_of (Leaves t n v) (row_at t n) _ (λ w here.
   where
     one_row : (o : Option VmRow) (v w : VmRow) → o ≡ Some v → o ≡ Some w → v ≡ w
     one_row o v w e f = cc
+
     either : (b : Bool) → Leaves t n v (cond b (FrameAt (slice_index v.overhead (length v.overhead - 1)) frames.Free ∷ OfVm n (OverheadTop None) ∷ []) (gone_changes n v.overhead))
     either true = inr (frame_goes t n (slice_index v.overhead (length v.overhead - 1)) v there)
     either false = inl (goes_by t n v there v.overhead)

@@ -6,7 +6,7 @@ use Rattle.esx_types.specs.declared.table.FrameRow.{FrameRow}
 use Rattle.esx_types.specs.declared.table.FrameRow.TheVariants as frames
 use Rattle.esx_types.specs.declared.table.MapRow.{MapRow}
 use Rattle.esx_types.specs.declared.table.MapRow.TheVariants as maps
-use Rattle.esx_types.specs.Frames.{frame_at, ref_count, least_frame}
+use Rattle.esx_types.specs.Frames.{frame_at, least_frame}
 use Rattle.esx_types.specs.Pages.{page_at}
 use Rattle.esx_events.specs.declared.event.Event.TheVariants.{Write}
 use Rattle.esx_model.specs.declared.book.VmRow.{VmRow}
