@@ -9,3 +9,4 @@ pub mod Forms
 pub mod Told
 pub mod Written
 pub mod Moved
+pub mod Copied

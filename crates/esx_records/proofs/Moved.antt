@@ -1,6 +1,5 @@
 -- A machine that is admitted, and one that goes.
-use Rattle.std.proofs.Common.{◌≡◌, zero, suc, ℕ, ◌<◌, ◌≤◌, Bool, false, List, [], ◌∷◌, length, get_or, set, refl, sym, ap, ◌∙◌, subst, cond, arith, ◌-◌, slice_index, Option, Some, None, is_some}
-use Rattle.std.proofs.lemmas.Bool.{le-ltb}
+use Rattle.std.proofs.Common.{◌≡◌, zero, suc, ℕ, ◌<◌, Bool, false, List, [], ◌∷◌, length, get_or, set, refl, sym, ap, ◌∙◌, subst, cond, arith, ◌-◌, slice_index, Option, Some, None, is_some, ◌⊎◌, inl, inr, true, nat_lt}
 use Rattle.std.proofs.lemmas.List.{get_or-set_same}
 use Rattle.esx_types.specs.declared.config.Config.{Config}
 use Rattle.esx_types.specs.declared.config.TheConstants.{VM_NUMBERS}
@@ -16,6 +15,7 @@ use Rattle.esx_tables.specs.declared.change.Change.{Change}
 use Rattle.esx_tables.specs.declared.change.Change.TheVariants.{FrameAt, OfVm, VmAt}
 use Rattle.esx_tables.specs.declared.change.VmPart.TheVariants.{OverheadTop}
 use Rattle.esx_tables.specs.Changes.{traded, exchanged}
+use Rattle.esx_tables.specs.Machines.{vm_traded}
 use Rattle.esx_tables.specs.Readings.{row_at}
 use Rattle.esx_plans.specs.plan.Planned.{Planned}
 use Rattle.esx_plans.specs.plan.Admission.{memory_after, swap_after, admit_plan}
@@ -23,6 +23,7 @@ use Rattle.esx_plans.specs.plan.Leaving.{gone_changes, give_back_changes, gone_p
 use Rattle.esx_machine.specs.Machine.{Kept, IsKept, Back, Exchanges, turned}
 use Rattle.esx_records.specs.Small.{places_in}
 use Rattle.esx_records.proofs.Modest.{PlansOf, at_row_of, gate_of}
+use Rattle.esx_records.proofs.Copied.{pages_of, one_still}
 use Rattle.esx_records.proofs.Forms.{turned_changes, kept_stocked}
 
 -- An admission.
@@ -87,25 +88,49 @@ unfolding exchanged traded
 goes_by t n v there [] = record { empty = refl; full = ap (λ (o : Option VmRow). o ∷ []) there }
 goes_by t n v there (f ∷ fs) = record { empty = refl; full = ap (λ (o : Option VmRow). o ∷ []) there }
 
-plan_goes : (t : Tables) (n : ℕ) (v : VmRow) → row_at t n ≡ Some v → length v.overhead ≤ 1 → PlansOf (Goes t v) (gone_plan t n)
+-- they do, or there is a machine still
+abbrev Leaves : Tables → ℕ → VmRow → List Change → Type 0
+Leaves t n v changes = Goes t v changes ⊎ (row_at (exchanged t changes).0 n ≡ None → ⊥)
+
+stands : (o p : Option VmRow) (v : VmRow) → pages_of o ≡ pages_of p → p ≡ Some v → o ≡ None → ⊥
+stands o p v same there gone =
+    let some : pages_of p ≡ Some v.pages = ap pages_of there in
+    let none : pages_of o ≡ None = ap pages_of gone in
+    differ (sym none ∙ same ∙ some)
+  where
+    differ : None ≡ Some v.pages → ⊥
+    differ e = cc
+
+frame_goes : (t : Tables) (n f : ℕ) (v : VmRow) → row_at t n ≡ Some v → row_at (exchanged t (FrameAt f frames.Free ∷ OfVm n (OverheadTop None) ∷ [])).0 n ≡ None → ⊥
+unfolding exchanged traded
+frame_goes t n f v there = stands (get_or (set t.vms n (vm_traded (get_or t.vms n None) (OverheadTop None)).0) n None) (row_at t n) v (one_still t.vms n (OverheadTop None) (λ w. refl)) there
+
+plan_goes : (t : Tables) (n : ℕ) (v : VmRow) → row_at t n ≡ Some v → PlansOf (Leaves t n v) (gone_plan t n)
 unfolding gone_plan
-plan_goes t n v there last = at_row_of (Goes t v) (row_at t n) _ (λ w here.
+plan_goes t n v there = at_row_of (Leaves t n v) (row_at t n) _ (λ w here.
     let same : v ≡ w = one_row (row_at t n) v w there here in
-    let P : VmRow → Type 0 = λ u. Goes t v (give_back_changes n u) in
-    let Q : Bool → Type 0 = λ b. Goes t v (cond b (FrameAt (slice_index v.overhead (length v.overhead - 1)) frames.Free ∷ OfVm n (OverheadTop None) ∷ []) (gone_changes n v.overhead)) in
-    gate_of (Goes t v) (gone_gate (standing_of w)) _ (λ _. subst P same (subst Q (sym (le-ltb 1 (length v.overhead) last)) (goes_by t n v there v.overhead))))
+    let P : VmRow → Type 0 = λ u. Leaves t n v (give_back_changes n u) in
+    gate_of (Leaves t n v) (gone_gate (standing_of w)) _ (λ _. subst P same (either (nat_lt 1 (length v.overhead)))))
   where
     one_row : (o : Option VmRow) (v w : VmRow) → o ≡ Some v → o ≡ Some w → v ≡ w
     one_row o v w e f = cc
 
-goes : (old new : Kept) (n : ℕ) (v : VmRow) (r : Back) (x : Exchanges old new (Gone n) r) → row_at old.tables n ≡ Some v → length v.overhead ≤ 1 → Goes old.tables v x.plan.1
-goes old new n v r x there last =
-    let P : Planned → Type 0 = PlansOf (Goes old.tables v) in
-    subst P x.planned (plan_goes old.tables n v there last)
+    either : (b : Bool) → Leaves t n v (cond b (FrameAt (slice_index v.overhead (length v.overhead - 1)) frames.Free ∷ OfVm n (OverheadTop None) ∷ []) (gone_changes n v.overhead))
+    either true = inr (frame_goes t n (slice_index v.overhead (length v.overhead - 1)) v there)
+    either false = inl (goes_by t n v there v.overhead)
 
-pub gone_given : (old new : Kept) (n : ℕ) (v : VmRow) (r : Back) → IsKept old → Exchanges old new (Gone n) r → row_at old.tables n ≡ Some v → length v.overhead ≤ 1 → places_in r.changes ≡ Some v ∷ []
-gone_given old new n v r kept x there last = ap places_in x.changes ∙ (goes old new n v r x there last).full
+left : (t u : Tables) (n : ℕ) (v : VmRow) (changes : List Change) → u ≡ (exchanged t changes).0 → row_at u n ≡ None → Leaves t n v changes → Goes t v changes
+left t u n v changes is gone (inl goes) = goes
+left t u n v changes is gone (inr stays) = absurd (stays (ap (λ (x : Tables). row_at x n) (sym is) ∙ gone))
 
-pub gone_flipped : (old new : Kept) (n : ℕ) (v : VmRow) (r : Back) → IsKept old → Exchanges old new (Gone n) r → row_at old.tables n ≡ Some v → length v.overhead ≤ 1
+goes : (old new : Kept) (n : ℕ) (v : VmRow) (r : Back) (x : Exchanges old new (Gone n) r) → row_at old.tables n ≡ Some v → row_at new.tables n ≡ None → Goes old.tables v x.plan.1
+goes old new n v r x there gone =
+    let P : Planned → Type 0 = PlansOf (Leaves old.tables n v) in
+    left old.tables new.tables n v x.plan.1 x.tables gone (subst P x.planned (plan_goes old.tables n v there))
+
+pub gone_given : (old new : Kept) (n : ℕ) (v : VmRow) (r : Back) → Exchanges old new (Gone n) r → row_at old.tables n ≡ Some v → row_at new.tables n ≡ None → places_in r.changes ≡ Some v ∷ []
+gone_given old new n v r x there gone = ap places_in x.changes ∙ (goes old new n v r x there gone).full
+
+pub gone_flipped : (old new : Kept) (n : ℕ) (v : VmRow) (r : Back) → Exchanges old new (Gone n) r → row_at old.tables n ≡ Some v → row_at new.tables n ≡ None
     → places_in (turned r new).changes ≡ None ∷ []
-gone_flipped old new n v r kept x there last = ap places_in (turned_changes old new (Gone n) r x) ∙ (goes old new n v r x there last).empty
+gone_flipped old new n v r x there gone = ap places_in (turned_changes old new (Gone n) r x) ∙ (goes old new n v r x there gone).empty

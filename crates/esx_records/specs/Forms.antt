@@ -1,7 +1,6 @@
--- The forms of a record, and what a write finds that leaves its page where it is.
-use Rattle.std.specs.Prelude.{◌≡◌, ℕ, zero, suc, nat_lt, false, Some}
+-- The forms of a record, and where a page is.
+use Rattle.std.specs.Prelude.{◌≡◌, ℕ, zero, suc, Some}
 use Rattle.esx_types.specs.declared.table.MapRow.TheVariants.{Here}
-use Rattle.esx_types.specs.Frames.{frame_at, ref_count}
 use Rattle.esx_types.specs.Pages.{page_at}
 use Rattle.esx_model.specs.declared.book.VmRow.{VmRow}
 use Rattle.esx_model.specs.declared.tables.Tables.{Tables}
@@ -13,10 +12,8 @@ abbrev pub after_flips : ℕ → Back → Kept → Kept → Back
 after_flips zero r here there = r
 after_flips (suc k) r here there = after_flips k (turned r here) there here
 
--- The page is in a frame, and no other page is in it.
-pub record IsAlone (t : Tables) (n page : ℕ) : Type 0 where
+-- the page of a machine is in a frame
+pub record IsIn (t : Tables) (n page frame : ℕ) : Type 0 where
   pub row : VmRow
-  pub frame : ℕ
   pub machine : row_at t n ≡ Some row
   pub place : page_at row.pages page ≡ Here frame
-  pub own : nat_lt 1 (ref_count (frame_at t.frames frame)) ≡ false

@@ -14,7 +14,7 @@ ghost use Rattle.esx_tables.specs.Readings.{row_at};
 ghost use Rattle.esx_tables.specs.Sizes.{size_of, capped};
 ghost use Rattle.esx_machine.specs.Machine.{Kept, IsKept, Back, Exchanges, turned};
 ghost use Rattle.esx_records.specs.Small.{places_in, machines_moved, IsSmall};
-ghost use Rattle.esx_records.specs.Forms.{after_flips, IsAlone};
+ghost use Rattle.esx_records.specs.Forms.{after_flips, IsIn};
 
 /// The record of an event holds one page of bytes at most, 10 rows, 100 sample marks and 32 targets; and no
 /// machine with its page map, but for one in an admission and where a machine gives back an overhead frame.
@@ -25,8 +25,8 @@ pub fn records_are_small()
 
 /// The record of a write into a frame that stays its page's holds as many bytes as were written.
 pub fn written_bytes_alone()
-    ensures { (old new : Kept) (n page at : ℕ) (bytes : List ℕ) (r : Back) → IsKept old → Exchanges old new (Write n page at bytes) r → IsAlone old.tables n page
-        → (k : ℕ) → (size_of (after_flips k r new old).changes).bytes ≡ length bytes }
+    ensures { (old new : Kept) (n page at f : ℕ) (bytes : List ℕ) (r : Back) → IsKept old → Exchanges old new (Write n page at bytes) r
+        → IsIn old.tables n page f → IsIn new.tables n page f → (k : ℕ) → (size_of (after_flips k r new old).changes).bytes ≡ length bytes }
 {}
 
 /// The record of an admission is the machine's place, which is empty, and nothing else; flipped it is the
@@ -39,9 +39,9 @@ pub fn admitted_machine_moves()
 
 /// The record of a machine that goes holds its row with the page map; flipped it holds an empty place.
 pub fn gone_machine_moves()
-    ensures given { (old new : Kept) (n : ℕ) (v : VmRow) (r : Back) → IsKept old → Exchanges old new (Gone n) r → row_at old.tables n ≡ Some v → length v.overhead ≤ 1
+    ensures given { (old new : Kept) (n : ℕ) (v : VmRow) (r : Back) → Exchanges old new (Gone n) r → row_at old.tables n ≡ Some v → row_at new.tables n ≡ None
         → places_in r.changes ≡ Some v ∷ [] }
-    ensures flipped { (old new : Kept) (n : ℕ) (v : VmRow) (r : Back) → IsKept old → Exchanges old new (Gone n) r → row_at old.tables n ≡ Some v → length v.overhead ≤ 1
+    ensures flipped { (old new : Kept) (n : ℕ) (v : VmRow) (r : Back) → Exchanges old new (Gone n) r → row_at old.tables n ≡ Some v → row_at new.tables n ≡ None
         → places_in (turned r new).changes ≡ None ∷ [] }
 {}
 
