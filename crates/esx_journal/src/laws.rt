@@ -129,7 +129,7 @@ pub fn prune_takes_off()
 {}
 
 /// What a try of events tells is what making them would tell: their answers, one after another, up to the first refusal, and the
-/// sums before and after them. Where all nodes are made they are tried all the same.
+/// sums before and after them. Nothing is said of nodes that are all made, where no event can be.
 pub fn try_foretells()
     ensures none { (h : History) → what_if [] h ≡ record { given = 0; before = sum_of (book_at h); replies = []; after = sum_of (book_at h) } }
     ensures accepted { (c : Config) (h after : History) (event : Event) (events : List Event) (answer : Answer) → IsReached c h
