@@ -1,7 +1,6 @@
 //! The lines of a session, each alone.
 
-ghost use Rattle.std.specs.Prelude.{◌≡◌, ◌∷◌, ◌++◌, ◌<◌, ◌^◌, ◌↔◌, [], ℕ, List, codes, decimal, MatchOption, IfSome, IfNone, IfOk, IfErr, IsTrue};
-ghost use Rattle.esx_types.specs.declared.config.Config.{Config};
+ghost use Rattle.std.specs.Prelude.{◌≡◌, ◌++◌, ◌<◌, ◌↔◌, ℕ, codes, decimal, MatchOption, IfSome, IfNone, IfOk, IfErr, IsTrue};
 ghost use Rattle.esx_types.specs.declared.config.TheConstants.{CALLERS};
 ghost use Rattle.esx_events.specs.declared.call.Call.{Call};
 ghost use Rattle.esx_reading.specs.Faults.{Refuses};

@@ -1,10 +1,9 @@
 //! Sessions as they are read.
 
-ghost use Rattle.std.specs.Prelude.{◌≡◌, ◌∷◌, ◌+◌, ◌++◌, [], ℕ, List, IfOk, IfErr, OnOk, MatchBool};
-ghost use Rattle.std.specs.List.{AllByRecursion};
+ghost use Rattle.std.specs.Prelude.{◌≡◌, ◌∷◌, ◌+◌, ◌++◌, [], IfOk, IfErr, OnOk, MatchBool};
 ghost use Rattle.esx_types.specs.Ranges.{IsConfig};
 ghost use Rattle.esx_reading.specs.Fields.{joined};
-ghost use Rattle.esx_session.specs.Sessions.{site_words, ended, IsEntry, Reads, IsRefused};
+ghost use Rattle.esx_session.specs.Sessions.{site_words, Reads, IsRefused};
 ghost use Rattle.esx_session.specs.Reading.{head_line, placed, TakesReply, LacksReply, TakesEntry, LacksEntry, TellsCalls, LacksCalls, LacksHead, LacksOpening};
 
 use crate::line::{call_of, is_end};

@@ -1,6 +1,6 @@
 //! The site of a session.
 
-ghost use Rattle.std.specs.Prelude.{◌≡◌, ◌∷◌, ◌<◌, ◌^◌, [], ℕ, List, codes, decimal, IfSome, IfNone};
+ghost use Rattle.std.specs.Prelude.{◌≡◌, ◌∷◌, ◌<◌, ◌^◌, ℕ, List, codes, decimal, IfSome, IfNone};
 ghost use Rattle.esx_types.specs.declared.config.Config.{Config};
 ghost use Rattle.esx_types.specs.Ranges.{IsConfig};
 ghost use Rattle.esx_session.specs.Sessions.{site_words};
