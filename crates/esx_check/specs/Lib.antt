@@ -1,0 +1,2 @@
+pub use Rattle.esx_replies.specs.Replies
+pub mod Comparing
