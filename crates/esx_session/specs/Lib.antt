@@ -1,0 +1,10 @@
+pub use Rattle.hex.specs.Hex
+pub use Rattle.esx_types.specs.Ranges
+pub use Rattle.esx_events.specs.Names
+pub use Rattle.esx_events.specs.Lists
+pub use Rattle.esx_reading.specs.Faults
+pub use Rattle.esx_reading.specs.Fields
+pub use Rattle.esx_reading.specs.Written
+pub use Rattle.esx_words.specs.Commands
+pub use Rattle.esx_replies.specs.Replies
+pub mod Sessions
