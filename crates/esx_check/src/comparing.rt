@@ -7,7 +7,7 @@ use esx_events::Reply;
 use esx_replies::write_reply;
 use esx_types::{Counts, Sink, SinkFailed};
 use esx_writing::AnswerBuffer;
-use std::marker::{Brand, Model};
+use std::marker::{Brand, Model, PhantomData};
 use std::sync::ledger::{Blank, Ledger};
 
 /// How many bytes two texts begin with alike.
@@ -28,54 +28,66 @@ fn common_front(text: &[u8], other: &[u8]) -> usize
     shorter
 }
 
-/// A sink for one text, which takes bytes up to and with the first that the text has not there. After
-/// that it fails.
+/// A text that is wanted. `Brand` stands for any: the proof of a call picks it.
+pub trait Wanted {
+    ghost text: { List ℕ };
+}
+
+impl Wanted for Brand {
+    ghost text = { [] };
+}
+
+/// A sink for the text that is wanted, which takes bytes up to and with the first that the text has not
+/// there. After that it fails.
 #[derive(Drop)]
-pub struct Comparing<'a, L: Ledger> {
+pub struct Comparing<'a, T: Wanted, L: Ledger> {
     text: &'a [u8],
     count: usize,
     other: Option<u8>,
     counts: Counts<L>,
+    wanted: PhantomData<T>,
 }
 
-impl<'a, L: Ledger> Model for Comparing<'a, L> {
+impl<'a, T: Wanted, L: Ledger> Model for Comparing<'a, T, L> {
     ghost use Rattle.std.specs.Prelude.{◌≡◌, ◌≢◌, ◌<◌, ◌≤◌, Some, length, slice_get, IfSome, IsSome};
-    ghost use Rattle.esx_check.specs.Comparing.{Compared, written_of};
+    ghost use Rattle.esx_check.specs.Comparing.{Written, front_and_other};
 
-    ghost Value = { Compared };
+    ghost Value = { Written };
 
-    ghost view = { λ s. record { text = s.text.now; written = written_of s.text.now s.count s.other; tally = s.counts } };
+    ghost view = { λ s. record { bytes = front_and_other T.text s.count s.other; tally = s.counts } };
 
-    ghost invariant = { λ s. (s.count ≤ length s.text.now) × IfSome s.other (λ byte. slice_get s.text.now s.count ≢ Some byte)
-        × (0 < s.counts.failures → IsSome s.other) };
+    ghost invariant = { λ s. (s.text.now ≡ T.text) × (s.count ≤ length T.text)
+        × IfSome s.other (λ byte. slice_get T.text s.count ≢ Some byte) × (0 < s.counts.failures → IsSome s.other) };
 }
 
-impl<'a, L: Ledger> Comparing<'a, L> {
-    pub fn new(text: &'a [u8], blank: Blank) -> Comparing<'a, L>
+impl<'a, T: Wanted, L: Ledger> Comparing<'a, T, L> {
+    pub fn new(text: &'a [u8], blank: Blank) -> Comparing<'a, T, L>
+        requires wanted { text.now ≡ T.text }
         requires name { blank.name ≡ L.name }
         requires parts { blank.parts ≡ L.parts }
         requires three { 3 ≤ blank.parts }
-        ensures { result ≡ record { text = text.now; written = []; tally = record { calls = 0; failures = 0; flushes = 0 } } }
+        ensures { result ≡ record { bytes = []; tally = record { calls = 0; failures = 0; flushes = 0 } } }
     {
         Comparing {
             text,
             count: 0,
             other: None,
             counts: Counts::new(blank),
+            wanted: PhantomData,
         }
     }
 
     /// Whether the whole text was written, and nothing else.
     pub fn is_same(&self) -> bool
-        ensures same { IsTrue result ↔ (self.now.written ≡ self.now.text) }
-        ensures failed { 0 < self.now.tally.failures → (rest : List ℕ) → self.now.text ≡ self.now.written ++ rest → ⊥ }
+        ensures same { IsTrue result ↔ (self.now.bytes ≡ T.text) }
+        ensures failed { 0 < self.now.tally.failures → (rest : List ℕ) → T.text ≡ self.now.bytes ++ rest → ⊥ }
     {
         self.other.is_none() && self.count == self.text.len()
     }
 }
 
-impl<'a, L: Ledger> Sink for Comparing<'a, L> {
-    ghost contents = { λ s. Some s.written };
+impl<'a, T: Wanted, L: Ledger> Sink for Comparing<'a, T, L> {
+    ghost contents = { λ s. Some s.bytes };
 
     ghost waiting = { λ _. [] };
 
@@ -94,13 +106,11 @@ impl<'a, L: Ledger> Sink for Comparing<'a, L> {
         let same = common_front(rest, bytes);
         self.count += same;
         self.counts.count_done();
-        match bytes.get(same) {
-            Some(byte) => {
-                self.other = Some(*byte);
-                Ok(same + 1)
-            }
-            None => Ok(same),
+        if same == bytes.len() {
+            return Ok(same);
         }
+        self.other = Some(bytes[same]);
+        Ok(same + 1)
     }
 
     fn flush(&mut self) -> Result<(), SinkFailed> {
@@ -109,7 +119,13 @@ impl<'a, L: Ledger> Sink for Comparing<'a, L> {
     }
 }
 
-fn compared<L: Ledger>(held: &mut AnswerBuffer, reply: &Reply, text: &[u8], blank: Blank) -> bool
+fn compared<T: Wanted, L: Ledger>(
+    held: &mut AnswerBuffer,
+    reply: &Reply,
+    text: &[u8],
+    blank: Blank,
+) -> bool
+    requires wanted { text.now ≡ T.text }
     requires empty { held.old ≡ [] }
     requires name { blank.name ≡ L.name }
     requires parts { blank.parts ≡ L.parts }
@@ -117,7 +133,7 @@ fn compared<L: Ledger>(held: &mut AnswerBuffer, reply: &Reply, text: &[u8], blan
     ensures same { IsTrue result ↔ (reply_text reply.now ≡ text.now) }
     ensures empty { IsTrue result → held.new ≡ [] }
 {
-    let mut sink = Comparing::<L>::new(text, blank);
+    let mut sink = Comparing::<T, L>::new(text, blank);
     let _ = write_reply(&mut sink, held, reply);
     sink.is_same()
 }
@@ -128,5 +144,5 @@ pub fn has_text(held: &mut AnswerBuffer, reply: &Reply, text: &[u8]) -> bool
     ensures same { IsTrue result ↔ (reply_text reply.now ≡ text.now) }
     ensures empty { IsTrue result → held.new ≡ [] }
 {
-    compared::<Brand>(held, reply, text, Blank::new(3))
+    compared::<Brand, Brand>(held, reply, text, Blank::new(3))
 }
