@@ -6,8 +6,8 @@ use Rattle.esx_check.proofs.replay.write_replies.Given as goal
 
 abbrev pub invariant-loop-entry : goal.invariant-loop-entry
 invariant-loop-entry g l = record {
-  can_next : (goal.iterator-loop-entry).can_next l.entry-iterator;
-  is_finite : (goal.iterator-loop-entry).is_finite l.entry-iterator;
+  can_next : (goal.iterator-loop-entry g).can_next l.entry-iterator;
+  is_finite : (goal.iterator-loop-entry g).is_finite l.entry-iterator;
   console : l.console ≡ made l.initial.console.site l.yielded;
   held : l.held ≡ [];
   split : l.fn.entries.items ≡ l.yielded ++ l.entry-iterator.rest.items;
