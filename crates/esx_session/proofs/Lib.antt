@@ -1,0 +1,13 @@
+pub mod LineLemmas
+pub mod CallLemmas
+pub mod SiteLemmas
+pub mod QuoteLemmas
+pub mod FeedLemmas
+pub mod FrontLemmas
+pub mod SessionLemmas
+pub mod PlaceLemmas
+pub mod ReplyLemmas
+pub mod EntryLemmas
+pub mod CallsLemmas
+pub mod StopLemmas
+pub mod PrintedLemmas

@@ -8,3 +8,4 @@ pub use Rattle.esx_reading.specs.Written
 pub use Rattle.esx_words.specs.Commands
 pub use Rattle.esx_replies.specs.Replies
 pub mod Sessions
+pub mod Reading

@@ -2,6 +2,12 @@
 //! answered.
 #![tactic(auto)]
 
+pub mod laws;
+mod line;
+mod parse;
+mod place;
 pub mod session;
+mod site;
 
+pub use parse::parse_session;
 pub use session::{Entry, Session};
