@@ -10,6 +10,7 @@ use Rattle.esx_model.specs.Console.{Session, history, history_from, after, reply
 use Rattle.esx_console.specs.Calls.{opened_session, lined_all}
 use Rattle.esx_session.specs.declared.session.Entry.{Entry}
 use Rattle.esx_session.specs.Sessions.{logged}
+use Rattle.esx_check.specs.declared.check.Checked.{Checked}
 use Rattle.esx_check.specs.declared.check.Checked.TheVariants.{Same}
 use Rattle.esx_check.specs.Again.{asked, made, replies_again}
 use Rattle.esx_check.specs.Checks.{Checks, replies_told}
@@ -79,3 +80,9 @@ unfolding made
 same_is_told site entries same =
     let added = adds (opened_session site) entries in
     ap (map logged) added.log ∙ added.told (sym (ap (map text_of) added.log) ∙ same)
+
+pub read_is_same : (s : Session) (site : Config) (entries : List Entry) (checked : Checked)
+    → Checks s.site (map logged s.log) (Same (length s.log)) → (site ≡ s.site) × (entries ≡ map logged s.log)
+    → ((c d : Checked) → Checks s.site (map logged s.log) c → Checks s.site (map logged s.log) d → c ≡ d)
+    → Checks site entries checked → checked ≡ Same (length s.log)
+read_is_same s site entries checked same is one checks = one checked (Same (length s.log)) (rw (is.0, is.1) at checks) same
