@@ -1,1 +1,2 @@
 pub mod OutgoingLemmas
+pub mod WordLemmas

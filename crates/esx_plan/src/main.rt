@@ -20,7 +20,7 @@ use opening::site_of_reader;
 use session::{check_to, replay_to, session_of_reader, status_of_check};
 use std::alloc::AllocGlobal;
 use std::env::{self, Env};
-use std::fs::{self, File};
+use std::fs;
 use std::io::{self, ErrorKind, Input, Print};
 use std::process::ExitCode;
 use std::rt::Files;
@@ -92,7 +92,7 @@ fn all_words<R: Env + AllocGlobal>(rt: &R) -> Result<Vec<String>, Failure> {
 }
 
 /// A file, opened to be read.
-fn opened<R: Files + AllocGlobal>(rt: &R, path: &str) -> Result<File, TextFault> {
+fn opened<R: Files + AllocGlobal>(rt: &R, path: &str) -> Result<R::File, TextFault> {
     match fs::open(rt, path) {
         Ok(file) => Ok(file),
         Err(error) => {

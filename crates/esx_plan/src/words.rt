@@ -2,6 +2,7 @@
 
 ghost use Rattle.std.specs.Prelude.{◌≡◌, ◌⊎◌, Some, None, false, map, option_map, string_bytes, IfOk, IfErr};
 ghost use Rattle.clap.specs.Words.{app_of, takes};
+ghost use Rattle.clap.specs.declared.builder.command.Command.TheViews.{out-Command as fields_of};
 ghost use Rattle.esx_plan.specs.Words.{with_file, program_app, word_and_file, asked_by, asked_in};
 
 use clap::error::ErrorKind;
@@ -28,7 +29,8 @@ pub enum WordsFault {
 
 /// A word of the program, and behind it one file at most.
 fn word_with_file<'a>(alloc: Global, word: &'a str) -> Result<Command<'a>, AllocError>
-    ensures { IfOk result (λ c. app_of c ≡ with_file word.now) }
+    ensures app { IfOk result (λ c. app_of c ≡ with_file word.entry.now) }
+    ensures local { IfOk result (λ c. (fields_of c).has_globals ≡ false) }
 {
     let file = Arg::new(alloc, "file");
     Command::new(alloc, word).arg(file)
@@ -47,7 +49,7 @@ fn program<'a>(alloc: Global) -> Result<Command<'a>, AllocError>
 
 /// What is asked for by a word and the file behind it. All words but a console want one.
 fn asked_for<'a>(word: &str, file: Option<&'a str>) -> Option<Asked<'a>>
-    ensures { option_map word_and_file result ≡ asked_by word.now (option_map (λ f. f.now) file) }
+    ensures { option_map word_and_file result ≡ asked_by word.now (option_map (λ f. f.now) file.entry) }
 {
     match word {
         "replay" => Some(Asked::Replay(file?)),
