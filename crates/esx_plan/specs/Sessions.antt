@@ -1,5 +1,5 @@
 -- The session that a file has, and what is written when it is gone through again.
-use Rattle.std.specs.Prelude.{ℕ, List, [], Option, Result, Ok, Err, IsUtf8}
+use Rattle.std.specs.Prelude.{ℕ, List, [], ◌≡◌, Option, IsUtf8}
 use Rattle.std.specs.Io.KnownBytes.{Appends}
 use Rattle.esx_types.specs.declared.config.Config.{Config}
 use Rattle.esx_reading.specs.declared.fault.TextFault.{TextFault}
@@ -31,6 +31,11 @@ IsNoSession old new _ = ⊥
 abbrev pub CheckStops : OutputFault → Config → List Entry → Option (List ℕ) → Option (List ℕ) → Type 0
 CheckStops output.Write site entries old new = (checked : Checked) × Checks site entries checked × WritesFront old new (checked_text checked)
 CheckStops output.OutOfMemory site entries old new = Appends old new []
+
+-- all that was taken came out, or after a fault of writing a front of it
+abbrev pub GivenOut : OutputFault → Option (List ℕ) → Option (List ℕ) → Type 0
+GivenOut output.Write taken out = (rest : List ℕ) × Appends out taken rest
+GivenOut output.OutOfMemory taken out = taken ≡ out
 
 -- 1 at a difference
 abbrev pub check_status : Checked → ℕ

@@ -5,7 +5,7 @@ ghost use Rattle.std.specs.Io.KnownBytes.{Appends};
 ghost use Rattle.esx_types.specs.Ranges.{IsConfig};
 ghost use Rattle.esx_check.specs.Checks.{Checks, checked_text};
 ghost use Rattle.esx_check.specs.Replays.{ReplayStops, replay_text, write_faults};
-ghost use Rattle.esx_plan.specs.Sessions.{IsSessionOf, IsNoSession, CheckStops, check_status};
+ghost use Rattle.esx_plan.specs.Sessions.{IsSessionOf, IsNoSession, CheckStops, GivenOut, check_status};
 
 use crate::outgoing::{Outgoing, Waiting};
 use esx_check::{Checked, OutputFault, check_session, replay_session, write_checked};
@@ -115,7 +115,8 @@ pub fn replay_buffered<W: Sink + Drop, L: Ledger>(
     requires parts { blank.parts ≡ L.parts }
     requires three { 3 ≤ blank.parts }
     ensures ok { OnOk result.0 (Appends (W.contents writer) (W.contents result.1) (replay_text session.site session.entries)) }
-    ensures fault { IfErr result.0 (λ e. ReplayStops e session.site session.entries (W.contents writer) (W.contents result.1)) }
+    ensures fault { IfErr result.0 (λ e. (taken : Option (List ℕ)) × ReplayStops e session.site session.entries (W.contents writer) taken
+        × GivenOut e taken (W.contents result.1)) }
     ensures failures { W.failures result.1 ≡ W.failures writer + write_faults result.0 }
 {
     let Ok(waiting) = Waiting::new(alloc) else {
@@ -148,7 +149,8 @@ fn replay_counted<W: Write + Drop, O: Ledger, L: Ledger>(
     requires parts_held { calls_held.parts ≡ L.parts }
     requires three_held { 3 ≤ calls_held.parts }
     ensures ok { OnOk result.ended (Appends (W.contents writer) (W.contents result.writer) (replay_text session.site session.entries)) }
-    ensures fault { IfErr result.ended (λ e. ReplayStops e session.site session.entries (W.contents writer) (W.contents result.writer)) }
+    ensures fault { IfErr result.ended (λ e. (taken : Option (List ℕ)) × ReplayStops e session.site session.entries (W.contents writer) taken
+        × GivenOut e taken (W.contents result.writer)) }
 {
     let sink = WriteSink::<W, O>::new(writer, calls_out);
     let (ended, sink) = replay_buffered::<_, L>(alloc, session, sink, calls_held);
@@ -163,7 +165,8 @@ fn replay_counted<W: Write + Drop, O: Ledger, L: Ledger>(
 pub fn replay_to<W: Write + Drop>(alloc: Global, session: Session, writer: W) -> Replayed<W>
     requires { IsConfig session.site }
     ensures ok { OnOk result.ended (Appends (W.contents writer) (W.contents result.writer) (replay_text session.site session.entries)) }
-    ensures fault { IfErr result.ended (λ e. ReplayStops e session.site session.entries (W.contents writer) (W.contents result.writer)) }
+    ensures fault { IfErr result.ended (λ e. (taken : Option (List ℕ)) × ReplayStops e session.site session.entries (W.contents writer) taken
+        × GivenOut e taken (W.contents result.writer)) }
 {
     replay_counted::<_, Brand, Brand>(alloc, session, writer, Blank::new(3), Blank::new(3))
 }
