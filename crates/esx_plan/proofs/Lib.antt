@@ -1,1 +1,3 @@
 pub mod OutgoingLemmas
+pub mod WordLemmas
+pub mod SessionLemmas

@@ -2,8 +2,9 @@
 use Rattle.std.specs.Prelude.{ℕ}
 use Rattle.esx_reading.specs.declared.fault.TextFault.TheVariants as text
 use Rattle.esx_text.specs.declared.fault.ServeFault.TheVariants.{Read, Write, OutOfMemory}
+use Rattle.esx_check.specs.declared.fault.OutputFault.TheVariants as output
 use Rattle.esx_plan.specs.declared.Failure.{Failure}
-use Rattle.esx_plan.specs.declared.Failure.TheVariants.{Words, Text, Serve}
+use Rattle.esx_plan.specs.declared.Failure.TheVariants.{Words, Text, Serve, Output}
 
 -- 1 where a file was refused, or it could not read or write; 2 where it was given wrong words; 3 where memory ran out
 abbrev pub status_of : Failure → ℕ
@@ -13,3 +14,5 @@ status_of (Text _) = 1
 status_of (Serve Read) = 1
 status_of (Serve Write) = 1
 status_of (Serve OutOfMemory) = 3
+status_of (Output output.Write) = 1
+status_of (Output output.OutOfMemory) = 3

@@ -1,12 +1,37 @@
 -- What the program's words ask for.
-use Rattle.std.specs.Prelude.{List, Option, codes}
-use Rattle.std.specs.Option.{option_and_then}
-use Rattle.clap.specs.Words.{App, Text, first_of, new_app, new_rule, subcommand_of, with_rule, with_subcommand}
+use Rattle.std.specs.Prelude.{List, Option, Some, None, codes, option_map, if◌then◌else◌}
+use Rattle.std.specs.Str.{bytes_eq}
+use Rattle.clap.specs.Words.{App, Row, Text, first_of, new_app, new_rule, subcommand_of, with_rule, with_subcommand}
+use Rattle.esx_plan.specs.declared.words.Asked.{Asked}
+use Rattle.esx_plan.specs.declared.words.Asked.TheVariants.{Console, Replay, Check}
 
--- nothing, or `console` and at most one file
+-- a word, and at most one file behind it
+abbrev pub with_file : Text → App
+with_file word = with_rule (new_app word) (new_rule (codes "file"))
+
+-- nothing, or one of the three words and at most one file
 abbrev pub program_app : App
-program_app = with_subcommand (new_app (codes "esxplan")) (with_rule (new_app (codes "console")) (new_rule (codes "file"))).top
+program_app =
+    with_subcommand (with_subcommand (with_subcommand (new_app (codes "esxplan")) (with_file (codes "console")).top) (with_file (codes "replay")).top)
+    (with_file (codes "check")).top
 
--- the file behind `console`, if there is one
-abbrev pub file_in : List Text → Option Text
-file_in words = option_and_then (λ found. first_of (codes "file") found.1) (subcommand_of program_app words)
+-- the word that asks for it, and the file
+abbrev pub word_and_file : Asked → Text × Option Text
+word_and_file (Console file) = (codes "console", option_map (λ f. f.now) file)
+word_and_file (Replay file) = (codes "replay", Some file.now)
+word_and_file (Check file) = (codes "check", Some file.now)
+
+-- what a word and the file behind it ask for: a console needs no file
+abbrev pub asked_by : Text → Option Text → Option (Text × Option Text)
+asked_by word file =
+    if bytes_eq word (codes "replay") then option_map (λ f. (codes "replay", Some f)) file
+    else (if bytes_eq word (codes "check") then option_map (λ f. (codes "check", Some f)) file else Some (codes "console", file))
+
+-- what a word and what stands behind it ask for; without a word it is a console
+abbrev pub asked_at : Option (Text × List Row) → Option (Text × Option Text)
+asked_at None = Some (codes "console", None)
+asked_at (Some found) = asked_by found.0 (first_of (codes "file") found.1)
+
+-- what the words ask for, if it is anything
+abbrev pub asked_in : List Text → Option (Text × Option Text)
+asked_in words = asked_at (subcommand_of program_app words)

@@ -6,14 +6,18 @@ ghost use Rattle.esx_types.specs.Ranges.{IsConfig};
 
 mod opening;
 mod outgoing;
+mod session;
 mod site;
 mod streams;
 mod words;
 
+use esx_check::OutputFault;
 use esx_reading::TextFault;
+use esx_session::Session;
 use esx_text::ServeFault;
 use esx_types::Config;
 use opening::site_of_reader;
+use session::{check_to, replay_to, session_of_reader, status_of_check};
 use std::alloc::AllocGlobal;
 use std::env::{self, Env};
 use std::fs;
@@ -22,7 +26,7 @@ use std::process::ExitCode;
 use std::rt::Files;
 use streams::serve_streams;
 use thiserror::Error;
-use words::{WordsFault, file_of_words};
+use words::{Asked, WordsFault, asked_of_words};
 
 /// The site of a console that is given no scenario: 20 frames of 16 bytes and 8 swap slots.
 const SITE: Config = Config {
@@ -46,6 +50,8 @@ enum Failure {
     Text(TextFault),
     #[error("{0}")]
     Serve(ServeFault),
+    #[error("{0}")]
+    Output(OutputFault),
 }
 
 impl Failure {
@@ -62,6 +68,8 @@ impl Failure {
             Failure::Text(_) => 1,
             Failure::Serve(ServeFault::Read | ServeFault::Write) => 1,
             Failure::Serve(ServeFault::OutOfMemory) => 3,
+            Failure::Output(OutputFault::Write) => 1,
+            Failure::Output(OutputFault::OutOfMemory) => 3,
         }
     }
 }
@@ -83,12 +91,10 @@ fn all_words<R: Env + AllocGlobal>(rt: &R) -> Result<Vec<String>, Failure> {
     }
 }
 
-/// The site of the scenario in a file.
-fn site_of_file<R: Files + AllocGlobal>(rt: &R, path: &str) -> Result<Config, TextFault>
-    ensures { IfOk result IsConfig }
-{
+/// A file, opened to be read.
+fn opened<R: Files + AllocGlobal>(rt: &R, path: &str) -> Result<R::File, TextFault> {
     match fs::open(rt, path) {
-        Ok(file) => site_of_reader(rt.alloc(), file),
+        Ok(file) => Ok(file),
         Err(error) => {
             if error.kind() == ErrorKind::OutOfMemory {
                 Err(TextFault::OutOfMemory)
@@ -99,34 +105,69 @@ fn site_of_file<R: Files + AllocGlobal>(rt: &R, path: &str) -> Result<Config, Te
     }
 }
 
-/// The site that the words ask for.
-fn site_of_words<R: Env + Files + AllocGlobal>(rt: &R) -> Result<Config, Failure>
+/// The site of the scenario in a file.
+fn site_of_file<R: Files + AllocGlobal>(rt: &R, path: &str) -> Result<Config, TextFault>
     ensures { IfOk result IsConfig }
 {
+    site_of_reader(rt.alloc(), opened(rt, path)?)
+}
+
+/// The session in a file.
+fn session_of_file<R: Files + AllocGlobal>(rt: &R, path: &str) -> Result<Session, Failure>
+    ensures { IfOk result (λ session. IsConfig session.site) }
+{
+    let file = opened(rt, path).map_err(Failure::Text)?;
+    session_of_reader(rt.alloc(), file).map_err(Failure::Text)
+}
+
+/// Serves the standard input to the standard output, at the site of a scenario if a file is named.
+fn run_console<R: Files + Input + Print + AllocGlobal>(
+    rt: &R,
+    file: Option<&str>,
+) -> Result<u8, Failure> {
+    let site = match file {
+        Some(path) => site_of_file(rt, path).map_err(Failure::Text)?,
+        None => SITE,
+    };
+    match serve_streams(rt.alloc(), site, rt.reader(), io::writer(rt)).ended {
+        Ok(_) => Ok(0),
+        Err(fault) => Err(Failure::Serve(fault)),
+    }
+}
+
+/// Writes the replies of a session anew to the standard output.
+fn run_replay<R: Files + Print + AllocGlobal>(rt: &R, path: &str) -> Result<u8, Failure> {
+    let session = session_of_file(rt, path)?;
+    match replay_to(rt.alloc(), session, io::writer(rt)).ended {
+        Ok(()) => Ok(0),
+        Err(fault) => Err(Failure::Output(fault)),
+    }
+}
+
+/// Checks a session, and tells on the standard output what came of it.
+fn run_check<R: Files + Print + AllocGlobal>(rt: &R, path: &str) -> Result<u8, Failure> {
+    let session = session_of_file(rt, path)?;
+    match check_to(rt.alloc(), session, io::writer(rt)).ended {
+        Ok(checked) => Ok(status_of_check(checked)),
+        Err(fault) => Err(Failure::Output(fault)),
+    }
+}
+
+/// Does what the words ask for, and gives the status to end with.
+fn run<R: Env + Files + Input + Print + AllocGlobal>(rt: &R) -> Result<u8, Failure> {
     let words = all_words(rt)?;
-    match file_of_words(rt.alloc(), words.as_slice()) {
-        Ok(Some(path)) => match site_of_file(rt, path) {
-            Ok(config) => Ok(config),
-            Err(fault) => Err(Failure::Text(fault)),
-        },
-        Ok(None) => Ok(SITE),
+    match asked_of_words(rt.alloc(), words.as_slice()) {
+        Ok(Asked::Console(file)) => run_console(rt, file),
+        Ok(Asked::Replay(path)) => run_replay(rt, path),
+        Ok(Asked::Check(path)) => run_check(rt, path),
         Err(WordsFault::Wrong) => Err(Failure::Words),
         Err(WordsFault::OutOfMemory) => Err(Failure::Text(TextFault::OutOfMemory)),
     }
 }
 
-/// Serves the standard input to the standard output, at the site that the words ask for.
-fn run_console<R: Env + Files + Input + Print + AllocGlobal>(rt: &R) -> Result<(), Failure> {
-    let site = site_of_words(rt)?;
-    match serve_streams(rt.alloc(), site, rt.reader(), io::writer(rt)).ended {
-        Ok(_) => Ok(()),
-        Err(fault) => Err(Failure::Serve(fault)),
-    }
-}
-
 fn main(rt: HostRuntime) -> ExitCode {
-    match run_console(&rt) {
-        Ok(()) => ExitCode::from(0),
+    match run(&rt) {
+        Ok(status) => ExitCode::from(status),
         Err(failure) => {
             let status = failure.status();
             let _ = rt.eprintln(failure);

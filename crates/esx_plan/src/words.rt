@@ -1,12 +1,24 @@
 //! The words that the program is given.
 
-ghost use Rattle.std.specs.Prelude.{◌≡◌, false, map, option_map, string_bytes, IfOk, IfErr};
+ghost use Rattle.std.specs.Prelude.{◌≡◌, ◌⊎◌, Some, None, false, map, option_map, string_bytes, IfOk, IfErr};
 ghost use Rattle.clap.specs.Words.{app_of, takes};
-ghost use Rattle.esx_plan.specs.Words.{program_app, file_in};
+ghost use Rattle.clap.specs.declared.builder.command.Command.TheViews.{out-Command as fields_of};
+ghost use Rattle.esx_plan.specs.Words.{with_file, program_app, word_and_file, asked_by, asked_in};
 
 use clap::error::ErrorKind;
 use clap::{Arg, Command};
 use std::alloc::{AllocError, Global};
+
+/// What the words ask for.
+#[derive(Clone, Copy, Debug, PartialEq, Eq)]
+pub enum Asked<'a> {
+    /// A console, at the site of the scenario in a file if one is named.
+    Console(Option<&'a str>),
+    /// A session in a file, gone through again.
+    Replay(&'a str),
+    /// Whether the calls of a session in a file have the replies that stand with them.
+    Check(&'a str),
+}
 
 /// Why the words ask for nothing.
 #[derive(Clone, Copy, Debug, PartialEq, Eq)]
@@ -15,28 +27,51 @@ pub enum WordsFault {
     OutOfMemory,
 }
 
-/// What may stand on the program's command line: nothing, or `console` and at most one file.
+/// A word of the program, and behind it one file at most.
+fn word_with_file<'a>(alloc: Global, word: &'a str) -> Result<Command<'a>, AllocError>
+    ensures app { IfOk result (λ c. app_of c ≡ with_file word.entry.now) }
+    ensures local { IfOk result (λ c. (fields_of c).has_globals ≡ false) }
+{
+    let file = Arg::new(alloc, "file");
+    Command::new(alloc, word).arg(file)
+}
+
+/// What may stand on the program's command line: nothing, or `console` and at most one file, or `replay` or
+/// `check` and a file.
 fn program<'a>(alloc: Global) -> Result<Command<'a>, AllocError>
     ensures { IfOk result (λ c. app_of c ≡ program_app) }
 {
-    let file = Arg::new(alloc, "file");
-    let console = Command::new(alloc, "console").arg(file)?;
-    Command::new(alloc, "esxplan").subcommand(console)
+    Command::new(alloc, "esxplan")
+        .subcommand(word_with_file(alloc, "console")?)?
+        .subcommand(word_with_file(alloc, "replay")?)?
+        .subcommand(word_with_file(alloc, "check")?)
 }
 
-/// The file that the words name, the first of which is the program's name. Any refusal but for memory is
-/// `Wrong`, a request for help too.
-pub fn file_of_words<'a>(alloc: Global, words: &'a [String]) -> Result<Option<&'a str>, WordsFault>
-    ensures ok { IfOk result (λ file. option_map (λ f. f.now) file ≡ file_in (map string_bytes words.now)) }
-    ensures refused { IfErr result (λ e. e ≡ WordsFault.Wrong → takes program_app (map string_bytes words.now) ≡ false) }
+/// What is asked for by a word and the file behind it. All words but a console want one.
+fn asked_for<'a>(word: &str, file: Option<&'a str>) -> Option<Asked<'a>>
+    ensures { option_map word_and_file result ≡ asked_by word.now (option_map (λ f. f.now) file.entry) }
+{
+    match word {
+        "replay" => Some(Asked::Replay(file?)),
+        "check" => Some(Asked::Check(file?)),
+        _ => Some(Asked::Console(file)),
+    }
+}
+
+/// What the words ask for, the first of which is the program's name. Any refusal but for memory is `Wrong`,
+/// a request for help too.
+pub fn asked_of_words<'a>(alloc: Global, words: &'a [String]) -> Result<Asked<'a>, WordsFault>
+    ensures ok { IfOk result (λ asked. asked_in (map string_bytes words.now) ≡ Some (word_and_file asked)) }
+    ensures refused { IfErr result (λ e. e ≡ WordsFault.Wrong
+        → (takes program_app (map string_bytes words.now) ≡ false) ⊎ (asked_in (map string_bytes words.now) ≡ None)) }
 {
     let Ok(command) = program(alloc) else {
         return Err(WordsFault::OutOfMemory);
     };
     match command.try_get_matches_from(words) {
         Ok(matches) => match matches.subcommand() {
-            Some((_, console)) => Ok(console.get_str("file")),
-            None => Ok(None),
+            Some((word, rest)) => asked_for(word, rest.get_str("file")).ok_or(WordsFault::Wrong),
+            None => Ok(Asked::Console(None)),
         },
         Err(error) => match error.kind() {
             ErrorKind::OutOfMemory => Err(WordsFault::OutOfMemory),

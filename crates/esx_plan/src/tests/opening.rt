@@ -1,7 +1,7 @@
 //! The program's words, and the sites of scenarios that readers give.
 
 use crate::opening::site_of_reader;
-use crate::words::{WordsFault, file_of_words};
+use crate::words::{Asked, WordsFault, asked_of_words};
 use crate::{SITE, site_of_file};
 use esx_reading::TextFault;
 use esx_types::Config;
@@ -22,11 +22,17 @@ fn words_of(alloc: Global, line: &str) -> Result<Vec<String>, AllocError> {
 fn words(rt: HostRuntime) -> Result<(), Fail> {
     let alloc = rt.alloc();
     let rows = [
-        ("esxplan", Ok(None)),
-        ("esxplan console", Ok(None)),
-        ("esxplan console a.toml", Ok(Some("a.toml"))),
-        ("esxplan console --", Ok(None)),
-        ("esxplan console -- -a", Ok(Some("-a"))),
+        ("esxplan", Ok(Asked::Console(None))),
+        ("esxplan console", Ok(Asked::Console(None))),
+        ("esxplan console a.toml", Ok(Asked::Console(Some("a.toml")))),
+        ("esxplan console --", Ok(Asked::Console(None))),
+        ("esxplan console -- -a", Ok(Asked::Console(Some("-a")))),
+        ("esxplan replay a", Ok(Asked::Replay("a"))),
+        ("esxplan check a", Ok(Asked::Check("a"))),
+        ("esxplan replay", Err(WordsFault::Wrong)),
+        ("esxplan check", Err(WordsFault::Wrong)),
+        ("esxplan check a b", Err(WordsFault::Wrong)),
+        ("esxplan check --help", Err(WordsFault::Wrong)),
         ("esxplan console -a", Err(WordsFault::Wrong)),
         ("esxplan console a b", Err(WordsFault::Wrong)),
         ("esxplan Console", Err(WordsFault::Wrong)),
@@ -37,7 +43,7 @@ fn words(rt: HostRuntime) -> Result<(), Fail> {
     ];
     for (line, wanted) in &rows {
         let words = words_of(alloc, *line)?;
-        assert!(rt; file_of_words(alloc, words.as_slice()) == *wanted, "{line}");
+        assert!(rt; asked_of_words(alloc, words.as_slice()) == *wanted, "{line}");
     }
     Ok(())
 }

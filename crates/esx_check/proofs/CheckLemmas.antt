@@ -1,0 +1,69 @@
+-- What a check knows on its way, and at its end.
+use Rattle.std.proofs.Common.{◌≡◌, ◌≢◌, ℕ, suc, ◌+◌, List, [], ◌∷◌, ◌++◌, Option, Some, Bool, false, IsTrue, ◌↔◌, refl, sym, ◌∙◌, ap, arith, append_assoc, length, take, map}
+use Rattle.std.proofs.Math.Seq.{take-append_seam}
+use Rattle.std.proofs.lemmas.List.{map-append, length-map, length-append}
+use Rattle.std.specs.Prelude.{slice_get}
+use Rattle.esx_types.specs.declared.config.Config.{Config}
+use Rattle.esx_events.specs.declared.call.Call.{Call}
+use Rattle.esx_model.specs.Console.{Session, next_reply}
+use Rattle.esx_replies.specs.Replies.{reply_text}
+use Rattle.esx_session.specs.declared.session.Entry.{Entry}
+use Rattle.esx_check.specs.declared.check.Checked.TheVariants.{Differs}
+use Rattle.esx_check.specs.Again.{made, replies_again}
+use Rattle.esx_check.specs.Checks.{Checks, PartAt, replies_told}
+use Rattle.esx_check.proofs.AgainLemmas.{replies_more, made_follow, text_of}
+
+-- one more reply that stands with its call
+pub same_more : (site : Config) (done : List Entry) (e : Entry) → replies_again site done ≡ replies_told done
+    → reply_text (next_reply (made site done) e.call) ≡ e.reply → replies_again site (done ++ e ∷ []) ≡ replies_told (done ++ e ∷ [])
+same_more site done e same is =
+    replies_more site done e ∙ ap (λ v. v ++ reply_text (next_reply (made site done) e.call) ∷ []) same
+    ∙ ap (λ r. replies_told done ++ r ∷ []) is ∙ sym (map-append (λ (x : Entry). x.reply) done (e ∷ []))
+
+-- what a console that is the one of the calls so far replies
+pub reply_is : (s t : Session) (call : Call) (told : List ℕ) → s ≡ t → reply_text (next_reply s call) ≡ told → reply_text (next_reply t call) ≡ told
+reply_is s t call told e is = rw e at is
+
+pub reply_is_not : (s t : Session) (call : Call) (told : List ℕ) (same : Bool) → s ≡ t → (IsTrue same ↔ (reply_text (next_reply s call) ≡ told))
+    → same ≡ false → reply_text (next_reply t call) ≡ told → ⊥
+reply_is_not s t call told same e is other h =
+    let yes = is.1 (reply_is t s call told (sym e) h) in cc
+
+pub one_longer : (done : List Entry) (e : Entry) → length done + 1 ≡ length (done ++ e ∷ [])
+one_longer done e = sym (length-append done (e ∷ []))
+
+at_seam : (xs : List (List ℕ)) (y : List ℕ) (ys : List (List ℕ)) → slice_get (xs ++ y ∷ ys) (length xs) ≡ Some y
+at_seam [] y ys = refl
+at_seam (x ∷ xs) y ys = at_seam xs y ys
+
+some_same : (x y : List ℕ) → Some x ≡ Some y → x ≡ y
+some_same x y e = cc
+
+part_at_seam : (xs ys zs : List (List ℕ)) (y z : List ℕ) → y ≢ z → PartAt (length xs) (xs ++ y ∷ ys) (xs ++ z ∷ zs)
+part_at_seam xs ys zs y z other = record {
+  before = take-append_seam xs (y ∷ ys) ∙ sym (take-append_seam xs (z ∷ zs));
+  here = λ e. other (some_same y z (sym (at_seam xs y ys) ∙ e ∙ at_seam xs z zs));
+}
+
+part_of : (at : ℕ) (xs ys us vs : List (List ℕ)) → us ≡ xs → vs ≡ ys → PartAt at xs ys → PartAt at us vs
+part_of at xs ys us vs e f p = rw (e, f) p
+
+-- the first reply that does not
+pub differs_here : (site : Config) (entries done later : List Entry) (e : Entry) (count : ℕ)
+    → entries ≡ done ++ e ∷ later → replies_again site done ≡ replies_told done
+    → (reply_text (next_reply (made site done) e.call) ≡ e.reply → ⊥) → count ≡ length done → Checks site entries (Differs (count + 1))
+differs_here site entries done later e count split same other is =
+    let reply = reply_text (next_reply (made site done) e.call) in
+    let follow = made_follow site (done ++ e ∷ []) later in
+    let more = map text_of follow.more in
+    let told : replies_told entries ≡ replies_told done ++ e.reply ∷ replies_told later =
+    ap replies_told split ∙ map-append (λ (x : Entry). x.reply) done (e ∷ later) in
+    let again : replies_again site entries ≡ replies_told done ++ reply ∷ more =
+    ap (replies_again site) (split ∙ sym (append_assoc done (e ∷ []) later)) ∙ (ap (map text_of) follow.log ∙ map-append text_of (made site (done ++ e ∷ [])).log follow.more)
+    ∙ ap (λ v. v ++ more) (replies_more site done e ∙ ap (λ v. v ++ reply ∷ []) same) ∙ append_assoc (replies_told done) (reply ∷ []) more in
+    let long : length (replies_told done) ≡ count = length-map done (λ (x : Entry). x.reply) ∙ sym is in
+    (
+      count,
+      refl,
+      rw (← long) (part_of (length (replies_told done)) _ _ _ _ told again (part_at_seam (replies_told done) (replies_told later) more e.reply reply (λ e. other (sym e)))),
+    )

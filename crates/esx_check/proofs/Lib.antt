@@ -1,0 +1,5 @@
+pub mod ComparingLemmas
+pub mod AgainLemmas
+pub mod CheckLemmas
+pub mod LawLemmas
+pub mod ReplayLemmas

@@ -1,0 +1,43 @@
+use Rattle.std.proofs.Common.{◌≡◌, ◌∷◌, [], ◌++◌, sym, ◌∙◌, ap, refl, rules, append_assoc, ◌+◌}
+use Rattle.esx_model.specs.Console.{lined}
+use Rattle.esx_check.proofs.AgainLemmas.{made_nothing, made_more, again_nothing}
+use Rattle.esx_check.proofs.CheckLemmas.{same_more, differs_here, reply_is, reply_is_not, one_longer}
+use Rattle.esx_check.proofs.check.check_calls.Goals as goal
+
+pub loop-entry-init : goal.loop-entry-init
+loop-entry-init c = record {
+  can_next = tt;
+  is_finite = tt;
+  console = c.requires.opened ∙ sym (made_nothing _);
+  same = again_nothing _;
+  count = refl;
+  held = c.requires.empty;
+  split = search rules;
+}
+
+pub loop-entry-preserved : goal.loop-entry-preserved
+loop-entry-preserved c =
+    let so_far = c.loop-entry.invariant in
+    let done = c.loop-entry.yielded in
+    let e = c.in-Some.entry in
+    let step : c.loop-entry.entry-iterator.rest.items ≡ e ∷ c.next.new.self.rest.items = search rules in
+    let is = c.in_ok-has_same_reply.ensures in
+    record {
+      can_next = tt;
+      is_finite = tt;
+      console = is.made ∙ ap (λ s. lined s e.caller e.call) so_far.console ∙ sym (made_more _ done e);
+      same = same_more _ done e so_far.same (reply_is _ _ e.call e.reply so_far.console (is.same.0 c.if-not-branch.false));
+      count = ap (λ n. n + 1) so_far.count ∙ one_longer done e;
+      held = is.empty c.if-not-branch.false;
+      split = so_far.split ∙ ap (λ v. done ++ v) step ∙ sym (append_assoc done (e ∷ []) c.next.new.self.rest.items);
+    }
+
+pub returns-then-not-branch : goal.returns-then-not-branch
+returns-then-not-branch c =
+    let so_far = c.loop-entry.invariant in
+    let done = c.loop-entry.yielded in
+    let e = c.in-Some.entry in
+    let step : c.loop-entry.entry-iterator.rest.items ≡ e ∷ c.next.new.self.rest.items = search rules in
+    let is = c.in_ok-has_same_reply.ensures in
+    differs_here _ c.args.entries.items done c.next.new.self.rest.items e c.loop-entry.count (so_far.split ∙ ap (λ v. done ++ v) step) so_far.same
+    (reply_is_not _ _ e.call e.reply _ so_far.console is.same c.if-not-branch.true) so_far.count

@@ -1,0 +1,114 @@
+//! Whether the calls of a session have the replies that stand with them.
+
+ghost use Rattle.std.specs.Prelude.{◌≡◌, ◌+◌, ◌↔◌, [], OnOk, IfOk, IsTrue};
+ghost use Rattle.esx_types.specs.Ranges.{IsConfig};
+ghost use Rattle.esx_model.specs.Console.{next_reply, lined};
+ghost use Rattle.esx_console.specs.Calls.{opened_session};
+ghost use Rattle.esx_replies.specs.Replies.{reply_text};
+ghost use Rattle.esx_writing.specs.Writing.{Writes, sink_faults};
+ghost use Rattle.esx_check.specs.Checks.{Checks, checked_text};
+
+use crate::again::opened;
+use crate::comparing::has_text;
+use esx_console::Console;
+use esx_session::{Entry, Session};
+use esx_types::{Sink, SinkFailed};
+use esx_writing::{AnswerBuffer, Piece, write_pieces};
+use std::alloc::{AllocError, Global};
+
+/// What a check comes to.
+#[derive(Clone, Copy, Debug, PartialEq, Eq)]
+pub enum Checked {
+    /// So many calls, each with its reply.
+    Same(u64),
+    /// The first call, from 1 on, that has another reply.
+    Differs(u64),
+}
+
+/// Makes the call of an entry again, and tells whether the reply is the one that stands with it.
+fn has_same_reply(
+    console: &mut Console,
+    held: &mut AnswerBuffer,
+    entry: Entry,
+) -> Result<bool, AllocError>
+    requires { held.old ≡ [] }
+    ensures made { IfOk result (λ same. console.new ≡ lined console.old entry.caller entry.call) }
+    ensures same { IfOk result (λ same. IsTrue same ↔ (reply_text (next_reply console.old entry.call) ≡ entry.reply)) }
+    ensures empty { IfOk result (λ same. IsTrue same → held.new ≡ []) }
+{
+    let Entry {
+        caller,
+        call,
+        reply: told,
+    } = entry;
+    let reply = console.call(caller, call)?;
+    Ok(has_text(held, &reply, told.as_slice()))
+}
+
+/// Makes the calls of entries again at a console that was just opened.
+fn check_calls(
+    console: &mut Console,
+    held: &mut AnswerBuffer,
+    entries: Vec<Entry>,
+) -> Result<Checked, AllocError>
+    requires opened { console.old ≡ opened_session console.old.site }
+    requires empty { held.old ≡ [] }
+    ensures { IfOk result (Checks console.old.site entries.items) }
+{
+    let mut count: u64 = 0;
+    for entry in entries {
+        count += 1;
+        if !has_same_reply(console, held, entry)? {
+            return Ok(Checked::Differs(count));
+        }
+    }
+    Ok(Checked::Same(count))
+}
+
+/// Makes the calls of a session again, in their order and each by its caller, up to the first that has
+/// another reply than the one that stands with it.
+///
+/// The calls are moved into the console, and replies are compared as they are told, so that no second
+/// session is made.
+pub fn check_session(alloc: Global, session: Session) -> Result<Checked, AllocError>
+    requires { IsConfig session.site }
+    ensures { IfOk result (Checks session.site session.entries) }
+{
+    let mut held = AnswerBuffer::new(alloc)?;
+    let mut console = opened(alloc, session.site)?;
+    check_calls(&mut console, &mut held, session.entries.into_vec())
+}
+
+/// Writes what a check came to as a line, over an empty buffer.
+pub fn write_checked<W: Sink>(
+    sink: &mut W,
+    held: &mut AnswerBuffer,
+    checked: Checked,
+) -> Result<(), SinkFailed>
+    requires { held.old ≡ [] }
+    ensures bytes { Writes (W.contents sink.old) (W.contents sink.new) (checked_text checked) result }
+    ensures empty { OnOk result (held.new ≡ []) }
+    ensures failures { W.failures sink.new ≡ W.failures sink.old + sink_faults result }
+    ensures flushes { W.flushes sink.new ≡ W.flushes sink.old }
+{
+    match checked {
+        Checked::Same(count) => write_pieces(
+            sink,
+            held,
+            &[
+                Piece::Text("same "),
+                Piece::Number(count),
+                Piece::Text("\n"),
+            ],
+        ),
+        Checked::Differs(number) => write_pieces(
+            sink,
+            held,
+            &[
+                Piece::Text("differs "),
+                Piece::Number(number),
+                Piece::Text("\n"),
+            ],
+        ),
+    }
+}

@@ -1,0 +1,42 @@
+//! Laws of checks. A function here does nothing: its contract is the law.
+
+ghost use Rattle.std.specs.Prelude.{◌≡◌, List, length, map};
+ghost use Rattle.std.specs.List.{AllByRecursion};
+ghost use Rattle.esx_types.specs.declared.config.Config.{Config};
+ghost use Rattle.esx_model.specs.Console.{Session, IsLegal};
+ghost use Rattle.esx_session.specs.declared.session.Entry.{Entry};
+ghost use Rattle.esx_session.specs.Sessions.{logged, session_text, Reads, IsSession, HasNoReturn};
+ghost use Rattle.esx_check.specs.declared.check.Checked.{Checked};
+ghost use Rattle.esx_check.specs.declared.check.Checked.TheVariants.{Same};
+ghost use Rattle.esx_check.specs.Again.{made};
+ghost use Rattle.esx_check.specs.Checks.{Checks};
+
+use esx_session::laws::{one_session, read_as_printed};
+
+/// A check comes to one thing.
+pub fn one_check()
+    ensures { (site : Config) (entries : List Entry) (checked other : Checked) → Checks site entries checked → Checks site entries other → checked ≡ other }
+{}
+
+/// What is told of a legal log is the same when it is gone through again.
+pub fn told_log_is_same()
+    ensures { (s : Session) → IsLegal s → Checks s.site (map logged s.log) (Same (length s.log)) }
+{}
+
+/// Whatever session is read of what is printed of a legal log, it is the same when it is gone through again.
+/// The log has to be one that can be printed.
+pub fn printed_log_is_same()
+    ensures { (s : Session) (site : Config) (entries : List Entry) (checked : Checked) → IsLegal s
+        → IsSession s.site (map logged s.log) → AllByRecursion HasNoReturn (map logged s.log)
+        → Reads (session_text s.site (map logged s.log)) site entries → Checks site entries checked → checked ≡ Same (length s.log) }
+{
+    one_session();
+    read_as_printed();
+    told_log_is_same();
+    one_check();
+}
+
+/// A session is the same only where it is what is told of a log: that of a console at which its calls were made.
+pub fn same_is_told_log()
+    ensures { (site : Config) (entries : List Entry) → Checks site entries (Same (length entries)) → map logged (made site entries).log ≡ entries }
+{}

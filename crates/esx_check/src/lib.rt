@@ -1,0 +1,13 @@
+//! Sessions gone through again: whether the calls have the replies that stand with them, and what they have.
+#![tactic(auto)]
+
+mod again;
+mod check;
+mod comparing;
+mod fault;
+pub mod laws;
+mod replay;
+
+pub use check::{Checked, check_session, write_checked};
+pub use fault::OutputFault;
+pub use replay::replay_session;

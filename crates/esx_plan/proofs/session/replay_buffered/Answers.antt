@@ -1,0 +1,26 @@
+use Rattle.std.proofs.Common.{◌∙◌, refl}
+use Rattle.esx_check.proofs.ReplayLemmas.{no_replies}
+use Rattle.esx_plan.proofs.OutgoingLemmas.{second_none}
+use Rattle.esx_plan.proofs.SessionLemmas.{text_comes_out, stop_comes_out}
+use Rattle.esx_plan.proofs.session.replay_buffered.Goals as goal
+
+pub returns-in_default-clause-fault : goal.returns-in_default-clause-fault
+returns-in_default-clause-fault g c = (g.W.Sink.contents c.args.writer, (0, no_replies _ _), refl)
+
+pub returns-clause-ok : goal.returns-clause-ok
+returns-clause-ok g c =
+    let out = c.replay_session-replayed.new.writer in
+    rw c.into_sink.ensures
+    (text_comes_out c.replay_session-replayed.result (g.W.Sink.contents c.args.writer) (g.W.Sink.contents out.sink)
+    c.new-outgoing.result.waiting out.waiting _ (c.new-outgoing.ensures.waiting ∙ c.in-Ok.ensures)
+    (λ h. second_none (g.W.Sink.waiting out.sink) out.waiting (c.replay_session-replayed.ensures.sent h))
+    (rw c.new-outgoing.ensures.sink at c.replay_session-replayed.ensures.ok))
+
+pub returns-clause-fault : goal.returns-clause-fault
+returns-clause-fault g c =
+    let out = c.replay_session-replayed.new.writer in
+    rw c.into_sink.ensures
+    (stop_comes_out c.replay_session-replayed.result c.args.session.site c.args.session.entries (g.W.Sink.contents c.args.writer) (g.W.Sink.contents out.sink)
+    c.new-outgoing.result.waiting out.waiting (c.new-outgoing.ensures.waiting ∙ c.in-Ok.ensures)
+    (λ h. second_none (g.W.Sink.waiting out.sink) out.waiting (c.replay_session-replayed.ensures.sent h))
+    (rw c.new-outgoing.ensures.sink at c.replay_session-replayed.ensures.fault))
