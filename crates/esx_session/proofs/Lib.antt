@@ -1,0 +1,3 @@
+pub mod QuotingLemmas
+pub mod ReplyLemmas
+pub mod PuttingLemmas

@@ -2,6 +2,8 @@
 //! answered.
 #![tactic(auto)]
 
+mod printing;
 pub mod session;
 
+pub use printing::{print_session, put_session, write_session};
 pub use session::{Entry, Session};
