@@ -1,5 +1,5 @@
 -- What is put when quoted texts are put one behind the other.
-use Rattle.std.proofs.Common.{◌≡◌, true, ℕ, List, [], ◌∷◌, ◌++◌, Option, Result, Ok, Err, refl, sym, codes, decimal, ◌==◌, ap, ◌∙◌, append_assoc, length, map}
+use Rattle.std.proofs.Common.{◌≡◌, true, ℕ, List, [], ◌∷◌, ◌++◌, Option, Result, refl, sym, codes, decimal, ◌==◌, ap, ◌∙◌, append_assoc, length, map}
 use Rattle.std.proofs.lemmas.List.{length-map}
 use Rattle.std.specs.List.{flat_map}
 use Rattle.std.specs.Prelude.{OnOk}
@@ -72,3 +72,13 @@ session_is site log =
     append_assoc head_text (site_text site) (flat_map line_text log ++ end_text (length log))
     ∙ ap (λ v. head_text ++ (site_text site ++ (v ++ end_text (length log)))) (lines_are log)
     ∙ ap (λ (n : ℕ). head_text ++ (site_text site ++ (flat_map entry_text (map logged log) ++ end_text n))) (sym (length-map log logged))
+
+-- the opening, piece by piece
+abbrev pub opening : Config → List ℕ
+opening site =
+    codes "esx session 1\nframes " ++ (decimal site.frames ++ (codes " page " ++ (decimal site.page ++ (codes " slots " ++ (decimal site.slots
+    ++ (codes " tau " ++ (decimal site.tau ++ (codes " levels " ++ (decimal site.high ++ (codes " " ++ (decimal site.soft ++ (codes " "
+    ++ (decimal site.hard ++ (codes " " ++ (decimal site.low ++ (codes " nodes " ++ (decimal site.nodes ++ 10 ∷ [])))))))))))))))))
+
+pub opening_is : (site : Config) → opening site ≡ head_text ++ site_text site
+opening_is site = simp append_assoc

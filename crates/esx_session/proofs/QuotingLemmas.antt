@@ -13,8 +13,8 @@ begun_quoted : (t : List ℕ) → is_line t ≡ true → quoted_from false t ≡
 begun_quoted [] h = refl
 begun_quoted (b ∷ bs) h =
     elim (b == 10) as (λ v. (if v then is_empty bs else is_line bs) ≡ true → b ∷ quoted_from v bs ≡ b ∷ bs) [
-      true ↦ λ e. ap (λ v. b ∷ v) (none_quoted bs e)
-    | false ↦ λ e. ap (λ v. b ∷ v) (begun_quoted bs e)
+      | true ↦ λ e. ap (λ v. b ∷ v) (none_quoted bs e)
+      | false ↦ λ e. ap (λ v. b ∷ v) (begun_quoted bs e)
     ] h
 
 pub line_quoted : (t : List ℕ) → is_line t ≡ true → quoted t ≡ codes "= " ++ t
@@ -33,8 +33,8 @@ begun_closed : (t y : List ℕ) → is_line t ≡ true → quoted_from false (t 
 begun_closed [] y h = absurd (cc)
 begun_closed (b ∷ bs) y h =
     elim (b == 10) as (λ v. (if v then is_empty bs else is_line bs) ≡ true → b ∷ quoted_from v (bs ++ y) ≡ (b ∷ quoted_from v bs) ++ quoted y) [
-      true ↦ λ e. ap (λ v. b ∷ v) (none_closed bs y e)
-    | false ↦ λ e. ap (λ v. b ∷ v) (begun_closed bs y e)
+      | true ↦ λ e. ap (λ v. b ∷ v) (none_closed bs y e)
+      | false ↦ λ e. ap (λ v. b ∷ v) (begun_closed bs y e)
     ] h
 
 pub line_closed : (t : List ℕ) → is_line t ≡ true → IsClosed t

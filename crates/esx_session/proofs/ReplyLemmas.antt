@@ -1,5 +1,5 @@
 -- The texts of replies are lines.
-use Rattle.std.proofs.Common.{◌≡◌, ◌+◌, ◌-◌, ◌/◌, ◌%◌, ℕ, zero, suc, Bool, true, false, List, [], ◌∷◌, ◌++◌, refl, sym, ◌∙◌, ap, append_assoc, codes, decimal, length, ◌==◌, ◌&&◌, if◌then◌else◌, get_or, Result, Ok, Err, arith}
+use Rattle.std.proofs.Common.{◌≡◌, ◌+◌, ◌-◌, ◌/◌, ◌%◌, ℕ, zero, suc, Bool, true, false, List, [], ◌∷◌, ◌++◌, refl, sym, ◌∙◌, ap, append_assoc, codes, decimal, length, ◌==◌, ◌&&◌, if◌then◌else◌, Result, Ok, Err, arith}
 use Rattle.std.specs.Prelude.{replicate, nat_lt}
 use Rattle.std.specs.Fmt.{digits, digits_onto, digit_glyph}
 use Rattle.std.specs.Prelude.{slice_index}
@@ -7,7 +7,7 @@ use Rattle.esx_reading.proofs.FieldLemmas.{no_match}
 use Rattle.std.specs.List.{list_all}
 use Rattle.std.specs.Prelude.{nat_le}
 use Rattle.std.proofs.lemmas.Bool.{and_parts}
-use Rattle.esx_events.specs.Names.{IsName, is_name_byte, is_lower, starts_lower}
+use Rattle.esx_events.specs.Names.{IsName, is_name_byte, starts_lower}
 use Rattle.hex.specs.Hex.{encode_with, encode_lower, lower_digits}
 use Rattle.esx_writing.specs.Writing.{right_in, left_in}
 use Rattle.esx_types.specs.declared.level.Level.{Level}
@@ -30,7 +30,7 @@ use Rattle.esx_events.specs.declared.call.PageState.TheVariants as pages
 use Rattle.esx_events.specs.declared.call.Help.{Help}
 use Rattle.esx_events.specs.declared.call.Help.TheVariants as helps
 use Rattle.esx_replies.specs.Texts.{level_text, state_text, running_text, refusal_text, sum_text, marked_text, looked_text, page_text, help_text}
-use Rattle.esx_replies.specs.Replies.{answer_text, tried_text, said_text, table_head, row_text, marks_head, mark_text, sides_head, before_text, after_text, number_head, numbered_text, tried_texts}
+use Rattle.esx_replies.specs.Replies.{answer_text, tried_text, said_text, table_head, row_text, marks_head, mark_text, sides_head, before_text, after_text, numbered_text, tried_texts}
 use Rattle.std.specs.List.{flat_map}
 use Rattle.esx_session.proofs.QuotingLemmas.{IsClosed, line_closed, feed_closed, both_closed, all_closed}
 use Rattle.esx_session.specs.Printing.{is_empty, is_line, IsOneLine}
@@ -44,16 +44,16 @@ past_plain : (a t : List ℕ) → is_plain a ≡ true → is_line (a ++ t) ≡ i
 past_plain [] t h = refl
 past_plain (b ∷ bs) t h =
     elim (b == 10) as (λ v. (if v then false else is_plain bs) ≡ true → (if v then is_empty (bs ++ t) else is_line (bs ++ t)) ≡ is_line t) [
-      true ↦ λ e. absurd (cc)
-    | false ↦ λ e. past_plain bs t e
+      | true ↦ λ e. absurd (cc)
+      | false ↦ λ e. past_plain bs t e
     ] h
 
 plain_more : (a t : List ℕ) → is_plain a ≡ true → is_plain t ≡ true → is_plain (a ++ t) ≡ true
 plain_more [] t h k = k
 plain_more (b ∷ bs) t h k =
     elim (b == 10) as (λ v. (if v then false else is_plain bs) ≡ true → (if v then false else is_plain (bs ++ t)) ≡ true) [
-      true ↦ λ e. absurd (cc)
-    | false ↦ λ e. plain_more bs t e k
+      | true ↦ λ e. absurd (cc)
+      | false ↦ λ e. plain_more bs t e k
     ] h
 
 plain_spaces : (n : ℕ) → is_plain (replicate n 32) ≡ true
@@ -63,8 +63,8 @@ plain_spaces (suc n) = plain_spaces n
 plain_glyph : (d : ℕ) → (digit_glyph false d == 10) ≡ false
 plain_glyph d =
     elim (nat_lt d 10) as (λ v. ((if v then 48 + d else 87 + d) == 10) ≡ false) [
-      true ↦ no_match (48 + d) 10 (λ e. omega (arith, e))
-    | false ↦ no_match (87 + d) 10 (λ e. omega (arith, e))
+      | true ↦ no_match (48 + d) 10 (λ e. omega (arith, e))
+      | false ↦ no_match (87 + d) 10 (λ e. omega (arith, e))
     ]
 
 plain_digit : (d : ℕ) (acc : List ℕ) → is_plain acc ≡ true → is_plain (digit_glyph false d ∷ acc) ≡ true
@@ -74,8 +74,8 @@ plain_onto : (k n : ℕ) (acc : List ℕ) → is_plain acc ≡ true → is_plain
 plain_onto zero n acc h = h
 plain_onto (suc k) n acc h =
     elim (n / 10 == 0) as (λ v. is_plain (if v then digit_glyph false (n % 10) ∷ acc else digits_onto k 10 false (n / 10) (digit_glyph false (n % 10) ∷ acc)) ≡ true) [
-      true ↦ plain_digit (n % 10) acc h
-    | false ↦ plain_onto k (n / 10) (digit_glyph false (n % 10) ∷ acc) (plain_digit (n % 10) acc h)
+      | true ↦ plain_digit (n % 10) acc h
+      | false ↦ plain_onto k (n / 10) (digit_glyph false (n % 10) ∷ acc) (plain_digit (n % 10) acc h)
     ]
 
 pub plain_decimal : (n : ℕ) → is_plain (decimal n) ≡ true
@@ -86,13 +86,13 @@ plain_at : (xs : List ℕ) (i : ℕ) → is_plain xs ≡ true → (slice_index x
 plain_at [] i h = refl
 plain_at (b ∷ bs) zero h =
     elim (b == 10) as (λ v. (if v then false else is_plain bs) ≡ true → v ≡ false) [
-      true ↦ λ e. absurd (cc)
-    | false ↦ λ e. refl
+      | true ↦ λ e. absurd (cc)
+      | false ↦ λ e. refl
     ] h
 plain_at (b ∷ bs) (suc i) h =
     elim (b == 10) as (λ v. (if v then false else is_plain bs) ≡ true → (slice_index bs i == 10) ≡ false) [
-      true ↦ λ e. absurd (cc)
-    | false ↦ λ e. plain_at bs i e
+      | true ↦ λ e. absurd (cc)
+      | false ↦ λ e. plain_at bs i e
     ] h
 
 pub plain_hex : (bytes : List ℕ) → is_plain (encode_lower bytes) ≡ true

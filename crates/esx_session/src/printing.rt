@@ -60,11 +60,7 @@ fn put_opening<W: Sink>(
 }
 
 /// Who called.
-fn put_caller<W: Sink>(
-    sink: &mut W,
-    held: &mut AnswerBuffer,
-    caller: u16,
-) -> Result<(), SinkFailed>
+fn put_caller<W: Sink>(sink: &mut W, held: &mut AnswerBuffer, caller: u16) -> Result<(), SinkFailed>
     ensures bytes { Puts (W.contents sink.old) held.old (W.contents sink.new) held.new (decimal caller ++ codes " ") result }
     ensures utf8 { OnOk result (IsUtf8 (decimal caller ++ codes " ")) }
     ensures failures { W.failures sink.new ≡ W.failures sink.old + sink_faults result }

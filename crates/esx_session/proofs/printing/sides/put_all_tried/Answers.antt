@@ -19,7 +19,7 @@ returns-in_err-put_numbered_line-clause-bytes g c =
 pub loop-reply-preserved : goal.loop-reply-preserved
 loop-reply-preserved g c =
     let more = quoted_more _ _ _ (tried_more 1 (c.loop-reply.number + 1) c.args.replies.now c.loop-reply.reply-index c.reply-item.result c.loop-reply-test.true c.reply-item.is (omega (arith, c.loop-reply.invariant.counted)))
-        (tried_closed 1 (take c.loop-reply.reply-index c.args.replies.now)) in
+    (tried_closed 1 (take c.loop-reply.reply-index c.args.replies.now)) in
     record {
       counted = omega (arith, c.loop-reply.invariant.counted);
       passed = passes_same _ _ c.args.held.now c.put_numbered_line.new.held _ _ more

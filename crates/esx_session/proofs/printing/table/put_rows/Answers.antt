@@ -18,7 +18,7 @@ returns-in_err-put_row_line-clause-bytes g c =
 pub loop-row-preserved : goal.loop-row-preserved
 loop-row-preserved g c =
     let more = quoted_more _ _ _ (flat_item_more row_text c.args.rows.now c.loop-row.row-index c.row-item.result c.loop-row-test.true c.row-item.is)
-        (rows_closed (take c.loop-row.row-index c.args.rows.now)) in
+    (rows_closed (take c.loop-row.row-index c.args.rows.now)) in
     record {
       passed = passes_same _ _ c.args.held.now c.put_row_line.new.held _ _ more
           (passes_more _ _ _ c.args.held.now c.loop-row.held _ _ _ c.loop-row.invariant.passed c.in_ok-put_row_line.ensures.bytes);
