@@ -11,6 +11,8 @@ mod marks;
 mod replies;
 mod sides;
 mod table;
+#[cfg(test)]
+mod tests;
 
 use crate::printing::replies::put_reply;
 use esx_events::{Call, Line};

@@ -64,9 +64,12 @@ other_joined (a ∷ b ∷ bs) (v ∷ vs) h = h
 not_other : is_other session_line ≡ true → ⊥
 not_other e = cc
 
+other_spelled : (text : List ℕ) (call : Call) → Spells text call → is_other text ≡ true
+other_spelled text call is =
+    rw is.spelled (other_joined (verb_word (verb call)) (operand_words (verb_form (verb call)) (operands call)) (other_verb (verb call)))
+
 pub session_is_no_call : (call : Call) → Spells session_line call → ⊥
-session_is_no_call call is =
-    not_other (rw is.spelled (other_joined (verb_word (verb call)) (operand_words (verb_form (verb call)) (operands call)) (other_verb (verb call))))
+session_is_no_call call is = not_other (other_spelled session_line call is)
 
 loud_session : IsSilent session_line → ⊥
 loud_session s = omega (arith, s)
