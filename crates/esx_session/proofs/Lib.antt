@@ -1,3 +1,3 @@
-pub mod QuotingLemmas
-pub mod ReplyLemmas
+pub mod SignLemmas
+pub mod OneLineLemmas
 pub mod PuttingLemmas

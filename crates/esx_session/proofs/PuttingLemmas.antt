@@ -15,7 +15,7 @@ use Rattle.esx_replies.specs.Texts.{marked_text}
 use Rattle.esx_replies.specs.Replies.{mark_text}
 use Rattle.esx_session.specs.Sessions.{quoted, quoted_from, entry_text, head_text, site_text, end_text, session_text, logged}
 use Rattle.esx_session.specs.Printing.{is_line, line_text}
-use Rattle.esx_session.proofs.QuotingLemmas.{line_quoted, IsClosed}
+use Rattle.esx_session.proofs.SignLemmas.{line_quoted, IsClosed}
 
 -- the quoted text begins with the sign
 abbrev pub Begins : List ℕ → Type 0

@@ -1,5 +1,5 @@
 use Rattle.esx_replies.specs.Texts.{marked_text}
-use Rattle.esx_session.proofs.ReplyLemmas.{marked_line}
+use Rattle.esx_session.proofs.OneLineLemmas.{marked_line}
 use Rattle.esx_session.proofs.PuttingLemmas.{sign_failed, signed, signed_utf8, marked_begins}
 use Rattle.esx_session.proofs.printing.lines.put_marked_line.Goals as goal
 

@@ -1,5 +1,5 @@
 use Rattle.esx_replies.specs.Replies.{said_text}
-use Rattle.esx_session.proofs.ReplyLemmas.{said_line}
+use Rattle.esx_session.proofs.OneLineLemmas.{said_line}
 use Rattle.esx_session.proofs.PuttingLemmas.{sign_failed, signed, signed_utf8, line_begins}
 use Rattle.esx_session.proofs.printing.lines.put_said_line.Goals as goal
 

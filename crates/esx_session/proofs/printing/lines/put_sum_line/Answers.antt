@@ -1,5 +1,5 @@
 use Rattle.esx_replies.specs.Texts.{sum_text}
-use Rattle.esx_session.proofs.ReplyLemmas.{sum_line}
+use Rattle.esx_session.proofs.OneLineLemmas.{sum_line}
 use Rattle.esx_session.proofs.PuttingLemmas.{sign_failed, signed, signed_utf8, line_begins}
 use Rattle.esx_session.proofs.printing.lines.put_sum_line.Goals as goal
 

@@ -1,5 +1,5 @@
 use Rattle.esx_replies.specs.Replies.{marks_head}
-use Rattle.esx_session.proofs.ReplyLemmas.{marks_head_line}
+use Rattle.esx_session.proofs.OneLineLemmas.{marks_head_line}
 use Rattle.esx_session.proofs.PuttingLemmas.{sign_failed, signed, signed_utf8, line_begins}
 use Rattle.esx_session.proofs.printing.marks.put_head_line.Goals as goal
 

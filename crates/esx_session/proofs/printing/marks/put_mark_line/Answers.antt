@@ -1,5 +1,5 @@
 use Rattle.esx_replies.specs.Replies.{mark_text}
-use Rattle.esx_session.proofs.ReplyLemmas.{mark_line}
+use Rattle.esx_session.proofs.OneLineLemmas.{mark_line}
 use Rattle.esx_session.proofs.PuttingLemmas.{sign_failed, signed, signed_utf8, mark_begins}
 use Rattle.esx_session.proofs.printing.marks.put_mark_line.Goals as goal
 

@@ -1,8 +1,8 @@
 use Rattle.std.proofs.Common.{length}
 use Rattle.std.specs.Prelude.{flat_map}
 use Rattle.esx_replies.specs.Replies.{marks_head, mark_text}
-use Rattle.esx_session.proofs.ReplyLemmas.{marks_head_line}
-use Rattle.esx_session.proofs.QuotingLemmas.{line_closed}
+use Rattle.esx_session.proofs.OneLineLemmas.{marks_head_line}
+use Rattle.esx_session.proofs.SignLemmas.{line_closed}
 use Rattle.esx_session.proofs.PuttingLemmas.{both_failed, both_put, both_utf8}
 use Rattle.esx_session.proofs.printing.marks.put_marks.Goals as goal
 

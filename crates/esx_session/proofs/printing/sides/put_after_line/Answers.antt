@@ -1,5 +1,5 @@
 use Rattle.esx_replies.specs.Replies.{after_text}
-use Rattle.esx_session.proofs.ReplyLemmas.{after_line}
+use Rattle.esx_session.proofs.OneLineLemmas.{after_line}
 use Rattle.esx_session.proofs.PuttingLemmas.{sign_failed, signed, signed_utf8, line_begins}
 use Rattle.esx_session.proofs.printing.sides.put_after_line.Goals as goal
 

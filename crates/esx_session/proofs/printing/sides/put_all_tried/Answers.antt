@@ -1,8 +1,8 @@
 use Rattle.std.proofs.Common.{take, arith, ◌∙◌, ◌+◌}
 use Rattle.esx_replies.specs.Replies.{tried_texts}
 use Rattle.esx_session.specs.Sessions.{quoted}
-use Rattle.esx_session.proofs.QuotingLemmas.{quoted_at, quoted_more}
-use Rattle.esx_session.proofs.ReplyLemmas.{tried_closed, numbered_closed}
+use Rattle.esx_session.proofs.SignLemmas.{quoted_at, quoted_more}
+use Rattle.esx_session.proofs.OneLineLemmas.{tried_closed, numbered_closed}
 use Rattle.esx_replies.proofs.SidesLemmas.{tried_at, tried_more}
 use Rattle.esx_writing.proofs.WritingLemmas.{passes_more, passes_same, passes_stop, puts_error, utf8_more}
 use Rattle.esx_session.proofs.printing.sides.put_all_tried.Goals as goal

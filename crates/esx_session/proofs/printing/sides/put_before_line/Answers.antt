@@ -1,5 +1,5 @@
 use Rattle.esx_replies.specs.Replies.{before_text}
-use Rattle.esx_session.proofs.ReplyLemmas.{before_line}
+use Rattle.esx_session.proofs.OneLineLemmas.{before_line}
 use Rattle.esx_session.proofs.PuttingLemmas.{sign_failed, signed, signed_utf8, line_begins}
 use Rattle.esx_session.proofs.printing.sides.put_before_line.Goals as goal
 

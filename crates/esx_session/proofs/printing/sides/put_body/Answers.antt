@@ -1,7 +1,7 @@
 use Rattle.std.proofs.Common.{◌++◌}
 use Rattle.esx_replies.specs.Replies.{before_text, tried_texts, after_text}
-use Rattle.esx_session.proofs.ReplyLemmas.{before_line}
-use Rattle.esx_session.proofs.QuotingLemmas.{line_closed}
+use Rattle.esx_session.proofs.OneLineLemmas.{before_line}
+use Rattle.esx_session.proofs.SignLemmas.{line_closed}
 use Rattle.esx_session.proofs.PuttingLemmas.{both_failed, both_put, both_utf8}
 use Rattle.esx_session.proofs.printing.sides.put_body.Goals as goal
 

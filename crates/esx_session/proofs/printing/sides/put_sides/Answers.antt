@@ -1,7 +1,7 @@
 use Rattle.std.proofs.Common.{◌++◌, ◌∙◌, ap}
 use Rattle.esx_replies.specs.Replies.{accepted, sides_head, before_text, tried_texts, after_text}
-use Rattle.esx_session.proofs.ReplyLemmas.{sides_head_line}
-use Rattle.esx_session.proofs.QuotingLemmas.{line_closed}
+use Rattle.esx_session.proofs.OneLineLemmas.{sides_head_line}
+use Rattle.esx_session.proofs.SignLemmas.{line_closed}
 use Rattle.esx_session.proofs.PuttingLemmas.{both_failed, both_put, both_utf8}
 use Rattle.esx_session.proofs.printing.sides.put_sides.Goals as goal
 

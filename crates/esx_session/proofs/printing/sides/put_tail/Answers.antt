@@ -1,5 +1,5 @@
 use Rattle.esx_replies.specs.Replies.{tried_texts, after_text}
-use Rattle.esx_session.proofs.ReplyLemmas.{tried_closed}
+use Rattle.esx_session.proofs.OneLineLemmas.{tried_closed}
 use Rattle.esx_session.proofs.PuttingLemmas.{both_failed, both_put, both_utf8}
 use Rattle.esx_session.proofs.printing.sides.put_tail.Goals as goal
 

@@ -1,5 +1,5 @@
 use Rattle.esx_replies.specs.Replies.{table_head}
-use Rattle.esx_session.proofs.ReplyLemmas.{head_line}
+use Rattle.esx_session.proofs.OneLineLemmas.{head_line}
 use Rattle.esx_session.proofs.PuttingLemmas.{sign_failed, signed, signed_utf8, line_begins}
 use Rattle.esx_session.proofs.printing.table.put_head_line.Goals as goal
 

@@ -1,5 +1,5 @@
 use Rattle.esx_replies.specs.Replies.{row_text}
-use Rattle.esx_session.proofs.ReplyLemmas.{row_line}
+use Rattle.esx_session.proofs.OneLineLemmas.{row_line}
 use Rattle.esx_session.proofs.PuttingLemmas.{sign_failed, signed, signed_utf8, line_begins}
 use Rattle.esx_session.proofs.printing.table.put_row_line.Goals as goal
 

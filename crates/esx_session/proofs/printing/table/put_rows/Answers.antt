@@ -1,8 +1,8 @@
 use Rattle.std.proofs.Common.{flat_map, take, arith, ◌∙◌}
 use Rattle.esx_replies.specs.Replies.{row_text}
 use Rattle.esx_session.specs.Sessions.{quoted}
-use Rattle.esx_session.proofs.QuotingLemmas.{quoted_at, quoted_more}
-use Rattle.esx_session.proofs.ReplyLemmas.{rows_closed, row_closed}
+use Rattle.esx_session.proofs.SignLemmas.{quoted_at, quoted_more}
+use Rattle.esx_session.proofs.OneLineLemmas.{rows_closed, row_closed}
 use Rattle.esx_writing.proofs.WritingLemmas.{passes_more, passes_same, passes_stop, puts_error, flat_item_at, flat_item_more, utf8_more}
 use Rattle.esx_session.proofs.printing.table.put_rows.Goals as goal
 

@@ -1,7 +1,7 @@
 use Rattle.std.specs.Prelude.{flat_map}
 use Rattle.esx_replies.specs.Texts.{sum_text}
 use Rattle.esx_replies.specs.Replies.{row_text}
-use Rattle.esx_session.proofs.ReplyLemmas.{rows_closed}
+use Rattle.esx_session.proofs.OneLineLemmas.{rows_closed}
 use Rattle.esx_session.proofs.PuttingLemmas.{both_failed, both_put, both_utf8}
 use Rattle.esx_session.proofs.printing.table.put_rows_and_sum.Goals as goal
 

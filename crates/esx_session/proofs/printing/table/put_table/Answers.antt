@@ -2,8 +2,8 @@ use Rattle.std.proofs.Common.{◌++◌}
 use Rattle.std.specs.Prelude.{flat_map}
 use Rattle.esx_replies.specs.Texts.{sum_text}
 use Rattle.esx_replies.specs.Replies.{table_head, row_text}
-use Rattle.esx_session.proofs.ReplyLemmas.{head_line}
-use Rattle.esx_session.proofs.QuotingLemmas.{line_closed}
+use Rattle.esx_session.proofs.OneLineLemmas.{head_line}
+use Rattle.esx_session.proofs.SignLemmas.{line_closed}
 use Rattle.esx_session.proofs.PuttingLemmas.{both_failed, both_put, both_utf8}
 use Rattle.esx_session.proofs.printing.table.put_table.Goals as goal
 

@@ -1,19 +1,15 @@
--- The texts of replies are lines.
+-- The texts of replies, and the parts of those that have several lines, are lines.
 use Rattle.std.proofs.Common.{◌≡◌, ◌+◌, ◌-◌, ◌/◌, ◌%◌, ℕ, zero, suc, Bool, true, false, List, [], ◌∷◌, ◌++◌, refl, sym, ◌∙◌, ap, append_assoc, codes, decimal, length, ◌==◌, ◌&&◌, if◌then◌else◌, Result, Ok, Err, arith}
-use Rattle.std.specs.Prelude.{replicate, nat_lt}
+use Rattle.std.specs.Prelude.{replicate, nat_lt, slice_index, nat_le}
+use Rattle.std.specs.List.{flat_map, list_all}
 use Rattle.std.specs.Fmt.{digits, digits_onto, digit_glyph}
-use Rattle.std.specs.Prelude.{slice_index}
-use Rattle.esx_reading.proofs.FieldLemmas.{no_match}
-use Rattle.std.specs.List.{list_all}
-use Rattle.std.specs.Prelude.{nat_le}
 use Rattle.std.proofs.lemmas.Bool.{and_parts}
-use Rattle.esx_events.specs.Names.{IsName, is_name_byte, starts_lower}
 use Rattle.hex.specs.Hex.{encode_with, encode_lower, lower_digits}
-use Rattle.esx_writing.specs.Writing.{right_in, left_in}
 use Rattle.esx_types.specs.declared.level.Level.{Level}
 use Rattle.esx_types.specs.declared.level.Level.TheVariants.{High, Soft, Hard, Low}
 use Rattle.esx_types.specs.declared.vm.VmState.{VmState}
 use Rattle.esx_types.specs.declared.vm.VmState.TheVariants.{Starting, Running, Stopping}
+use Rattle.esx_events.specs.Names.{IsName, is_name_byte, starts_lower}
 use Rattle.esx_events.specs.declared.event.Answer.{Answer}
 use Rattle.esx_events.specs.declared.event.Answer.TheVariants as answers
 use Rattle.esx_events.specs.declared.event.Refusal.{Refusal}
@@ -29,10 +25,11 @@ use Rattle.esx_events.specs.declared.call.PageState.{PageState}
 use Rattle.esx_events.specs.declared.call.PageState.TheVariants as pages
 use Rattle.esx_events.specs.declared.call.Help.{Help}
 use Rattle.esx_events.specs.declared.call.Help.TheVariants as helps
+use Rattle.esx_reading.proofs.FieldLemmas.{no_match}
+use Rattle.esx_writing.specs.Writing.{right_in, left_in}
 use Rattle.esx_replies.specs.Texts.{level_text, state_text, running_text, refusal_text, sum_text, marked_text, looked_text, page_text, help_text}
 use Rattle.esx_replies.specs.Replies.{answer_text, tried_text, said_text, table_head, row_text, marks_head, mark_text, sides_head, before_text, after_text, numbered_text, tried_texts}
-use Rattle.std.specs.List.{flat_map}
-use Rattle.esx_session.proofs.QuotingLemmas.{IsClosed, line_closed, feed_closed, both_closed, all_closed}
+use Rattle.esx_session.proofs.SignLemmas.{IsClosed, line_closed, feed_closed, both_closed, all_closed}
 use Rattle.esx_session.specs.Printing.{is_empty, is_line, IsOneLine}
 
 -- no line feed stands in the bytes
