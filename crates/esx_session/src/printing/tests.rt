@@ -2,7 +2,7 @@
 
 use crate::print_session;
 use esx_events::{
-    Answer, Boxed, Line, Name, NameRow, Refusal, Reply, Said, Sides, Stand, Sum, TableRow,
+    Answer, Boxed, Call, Line, Name, NameRow, Refusal, Reply, Said, Sides, Stand, Sum, TableRow,
 };
 use esx_types::{Config, Level, Rows, VmId, VmState};
 use esx_words::parse_command;
@@ -33,11 +33,11 @@ const SUM: Sum = Sum {
 const SESSION: &str =
     "esx session 1\nframes 20 page 16 slots 8 tau 75 levels 6 4 2 1 nodes 16777216\n3 undo 1\n= at 2 depth 1 jumps 7\n63 table\n=  vm state        min     max  target    here    lent     out  shares  active\n=   0 running        2       6       6       1       0       0    1000   65536\n= overhead 1 private 1 shared 0 free 18 high\n0 marks\n= marks 1\n= base 2\n0 whatif gone 0; ask 1\n= whatif 1/2\n= before overhead 1 private 1 shared 0 free 18 high\n= 1 ok gone\n= 2 no 1 NoVm\n= after overhead 1 private 1 shared 0 free 18 high\nend 4\n";
 
-/// A line of a log: the caller, the call in its words, and what is said to it after 7 jumps.
-fn line(rt: &HostRuntime, caller: u16, words: &str, said: Said) -> Line {
+/// A line of a log: the caller, the call, and what is said to it after 7 jumps.
+fn line(caller: u16, call: Call, said: Said) -> Line {
     Line {
         caller,
-        call: parse_command(rt.alloc(), words).expect(rt, "a command"),
+        call,
         reply: Reply { jumps: 7, said },
     }
 }
@@ -64,9 +64,7 @@ fn table(alloc: Global, vm: VmId) -> Result<Said, Fail> {
 }
 
 /// One mark.
-fn marks(rt: &HostRuntime) -> Result<Said, Fail> {
-    let alloc = rt.alloc();
-    let name = Name::new(alloc, "base")?.expect(rt, "a name");
+fn marks(alloc: Global, name: Name) -> Result<Said, Fail> {
     let mut rows = Vec::new(alloc);
     rows.push(NameRow { name, node: 2 })?;
     Ok(Said::Marks {
@@ -92,14 +90,17 @@ fn sides(alloc: Global) -> Result<Said, Fail> {
 
 #[test]
 fn a_session(rt: HostRuntime) -> Result<(), Fail> {
+    let alloc = rt.alloc();
     let vm = VmId::new(0).expect(&rt, "a number");
+    let name = Name::new(alloc, "base")?.expect(&rt, "a name");
+    let tried = parse_command(alloc, "whatif gone 0; ask 1").expect(&rt, "a command");
     let stand = Stand { node: 2, depth: 1 };
-    let mut log = Vec::new(rt.alloc());
-    log.push(line(&rt, 3, "undo 1", Said::Stand { stand }))?;
-    log.push(line(&rt, 63, "table", table(rt.alloc(), vm)?))?;
-    log.push(line(&rt, 0, "marks", marks(&rt)?))?;
-    log.push(line(&rt, 0, "whatif gone 0; ask 1", sides(rt.alloc())?))?;
-    let text = print_session(rt.alloc(), &SITE, log.as_slice())?;
+    let mut log = Vec::new(alloc);
+    log.push(line(3, Call::Undo { count: 1 }, Said::Stand { stand }))?;
+    log.push(line(63, Call::Table, table(alloc, vm)?))?;
+    log.push(line(0, Call::Marks, marks(alloc, name)?))?;
+    log.push(line(0, tried, sides(alloc)?))?;
+    let text = print_session(alloc, &SITE, log.as_slice())?;
     assert!(rt; text.as_str() == SESSION);
     Ok(())
 }
