@@ -1,5 +1,5 @@
 -- The line that asks for the session is that of no call, and is answered.
-use Rattle.std.proofs.Common.{◌≡◌, ◌<◌, ◌==◌, ◌&&◌, if◌then◌else◌, ℕ, Bool, true, false, List, [], ◌∷◌, ◌++◌, refl, arith, length}
+use Rattle.std.proofs.Common.{◌≡◌, ◌<◌, ◌==◌, ◌&&◌, if◌then◌else◌, ℕ, Bool, true, false, List, [], ◌∷◌, refl, arith, length}
 use Rattle.esx_events.specs.declared.call.Call.{Call}
 use Rattle.esx_reading.specs.Fields.{joined}
 use Rattle.esx_words.specs.declared.verbs.Verb.{Verb}
