@@ -1,3 +1,16 @@
 pub mod SignLemmas
 pub mod OneLineLemmas
 pub mod PuttingLemmas
+pub mod LineLemmas
+pub mod CallLemmas
+pub mod SiteLemmas
+pub mod QuoteLemmas
+pub mod FeedLemmas
+pub mod FrontLemmas
+pub mod SessionLemmas
+pub mod PlaceLemmas
+pub mod ReplyLemmas
+pub mod EntryLemmas
+pub mod CallsLemmas
+pub mod StopLemmas
+pub mod PrintedLemmas

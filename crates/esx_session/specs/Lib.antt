@@ -9,4 +9,5 @@ pub use Rattle.esx_writing.specs.Writing
 pub use Rattle.esx_words.specs.Commands
 pub use Rattle.esx_replies.specs.Replies
 pub mod Sessions
+pub mod Reading
 pub mod Printing

@@ -1,0 +1,43 @@
+-- The line of a call: its fields, and that it has them of one call only.
+use Rattle.std.proofs.Common.{◌≡◌, ◌<◌, ◌^◌, ℕ, List, [], ◌∷◌, decimal, arith, refl, sym, ap, ◌∙◌}
+use Rattle.std.proofs.Math.Dec.{eqb}
+use Rattle.std.proofs.lemmas.List.Splits.{slice_split_at}
+use Rattle.std.proofs.lemmas.Fmt.{decimal_injective}
+use Rattle.esx_types.specs.declared.config.TheConstants.{CALLERS}
+use Rattle.esx_events.specs.declared.call.Call.{Call}
+use Rattle.esx_reading.specs.Fields.{fields, joined}
+use Rattle.esx_reading.proofs.FieldLemmas.{no_space_in_decimal, joined_of_fields, some_field, others_of}
+use Rattle.esx_words.specs.Commands.{spelling, Spells}
+use Rattle.esx_words.proofs.CommandLemmas.{one_call}
+use Rattle.esx_session.specs.Reading.{SpellsCall}
+
+pub small_caller : (n : ℕ) → n < CALLERS → n < 2 ^ 64
+small_caller n h = omega (arith, h)
+
+-- the first field is the caller
+pub fields_of_call : (line : List ℕ) (caller : ℕ) (call : Call) → SpellsCall line caller call → fields line ≡ decimal caller ∷ fields (spelling call)
+fields_of_call line caller call is =
+    ap fields is.spelled ∙ slice_split_at (λ b. eqb b 32) (decimal caller) 32 (spelling call) (no_space_in_decimal caller (small_caller caller is.known)).each refl
+
+pub no_call : (line : List ℕ) → fields line ≡ line ∷ [] → (caller : ℕ) (call : Call) → SpellsCall line caller call → ⊥
+no_call line whole caller call is = some_field (spelling call) (others_of _ _ _ _ (sym (fields_of_call line caller call is) ∙ whole))
+
+head_of : (x y : List ℕ) (xs ys : List (List ℕ)) → x ∷ xs ≡ y ∷ ys → x ≡ y
+head_of x y xs ys e = cc
+
+-- the two parts of the line
+pub parts_of_call : (line number command : List ℕ) → fields line ≡ number ∷ fields command → (caller : ℕ) (call : Call) → SpellsCall line caller call
+    → (number ≡ decimal caller) × Spells command call
+parts_of_call line number command cut caller call is =
+    let both = sym cut ∙ fields_of_call line caller call is in (
+      head_of _ _ _ _ both,
+      record { range = is.range; spelled = sym (joined_of_fields command) ∙ ap joined (others_of _ _ _ _ both) ∙ joined_of_fields (spelling call) },
+    )
+
+-- a line is that of one call by one caller
+pub one_spelled : (line : List ℕ) (caller other : ℕ) (call same : Call) → SpellsCall line caller call → SpellsCall line other same → (caller ≡ other) × (call ≡ same)
+one_spelled line caller other call same p q =
+    let parts = parts_of_call line (decimal caller) (spelling call) (fields_of_call line caller call p) other same q in (
+      decimal_injective caller other (small_caller caller p.known) (small_caller other q.known) parts.0,
+      one_call (spelling call) call same (record { range = p.range; spelled = refl }) parts.1,
+    )

@@ -1,0 +1,21 @@
+-- A call with its reply.
+use Rattle.std.proofs.Common.{◌≡◌, ℕ, List, [], ◌∷◌, ◌++◌, ap, ◌∙◌, append_assoc, decimal}
+use Rattle.esx_events.specs.declared.call.Call.{Call}
+use Rattle.esx_words.specs.Commands.{spelling}
+use Rattle.esx_session.specs.Sessions.{quoted}
+use Rattle.esx_session.specs.Reading.{Place, SpellsCall, TakesReply, TakesEntry}
+
+pub call_line_text : (line : List ℕ) (caller : ℕ) (call : Call) (more : List ℕ) → SpellsCall line caller call
+    → (line ++ 10 ∷ []) ++ more ≡ (decimal caller ++ 32 ∷ (spelling call ++ 10 ∷ [])) ++ more
+call_line_text line caller call more is = ap (λ t. (t ++ 10 ∷ []) ++ more) is.spelled ∙ ap (λ t. t ++ more) (append_assoc (decimal caller) (32 ∷ spelling call) (10 ∷ []))
+
+pub takes_entry : (line : List ℕ) (old new : Place) (caller : ℕ) (call : Call) (reply : List ℕ) → SpellsCall line caller call → TakesReply old new reply
+    → TakesEntry line old new (record { caller = caller; call = call; reply = reply })
+takes_entry line old new caller call reply is takes = record {
+  taken = takes.taken;
+  left = takes.left;
+  passed = takes.passed;
+  text = ap (λ t. (line ++ 10 ∷ []) ++ t) takes.text ∙ call_line_text line caller call (quoted reply) is;
+  range = record { caller = is.known; call = is.range; reply = takes.some; ascii = takes.ascii };
+  next = takes.next;
+}

@@ -1,0 +1,154 @@
+-- Where a text stops being a session.
+use Rattle.std.proofs.Common.{◌⊎◌, ◌≡◌, ◌≤◌, ◌+◌, ℕ, List, [], ◌∷◌, ◌++◌, length, take, drop, arith, refl, sym, ap, ◌∙◌, append_assoc, append-nil, length-append, inl, inr}
+use Rattle.std.proofs.lemmas.List.{take-append-le, take-append-drop}
+use Rattle.std.proofs.Math.Seq.{take-append_seam}
+use Rattle.std.specs.Str.Lines.{lines}
+use Rattle.esx_types.specs.Ranges.{IsConfig}
+use Rattle.esx_types.specs.declared.config.Config.{Config}
+use Rattle.esx_reading.specs.declared.fault.TextFault.{TextFault}
+use Rattle.esx_reading.specs.declared.fault.TextFault.TheVariants.{NotToml, BadKey, BadLine, NotText, Differs, Read, Write, OutOfMemory}
+use Rattle.esx_session.specs.declared.session.Entry.{Entry}
+use Rattle.esx_session.specs.Sessions.{ended, end_text, Tells, TellsNone, Begins, StopsAt, IsRefused}
+use Rattle.esx_session.specs.Reading.{Place, HasNoFeed, head_line, calls_text, TellsCalls, IsStuck, StopsCalls, LacksCalls, LacksHead, LacksSite, LacksOpening}
+use Rattle.esx_session.proofs.FeedLemmas.{known_stay, no_feed}
+use Rattle.esx_session.proofs.FrontLemmas.{same_line}
+use Rattle.esx_session.proofs.SessionLemmas.{site_line, no_feed_site, session_lines, same_site_line, behind_head}
+use Rattle.esx_session.proofs.CallsLemmas.{end_line}
+
+-- a session begins with each front of lines with which one begins
+begins_front : (front others : List (List ℕ)) → Begins (front ++ others) → Begins front
+begins_front front others b = (others ++ b.0, b.1, b.2, rw (sym (append_assoc front others b.0)) b.3)
+
+-- behind some lines the next cannot stand, or they are none of a session
+abbrev IsLost : List (List ℕ) → List (List ℕ) → Type 0
+IsLost front [] = TellsNone front
+IsLost front (line ∷ others) = Begins (front ++ line ∷ []) → ⊥
+
+stops_here : (n : ℕ) (told front others : List (List ℕ)) → told ≡ front ++ others → n ≡ length front + 1 → IsLost front others
+    → ((n ≤ length told) × (Begins (take n told) → ⊥)) ⊎ ((n ≡ length told + 1) × TellsNone told)
+stops_here n told front [] whole at lost =
+    let same : told ≡ front = whole ∙ append-nil front in
+    inr (omega (arith, at, ap length same), rw same lost)
+stops_here n told front (line ∷ others) whole at lost =
+    let one : told ≡ (front ++ line ∷ []) ++ others = whole ∙ sym (append_assoc front (line ∷ []) others) in
+    let count : n ≡ length (front ++ line ∷ []) = omega (arith, at, length-append front (line ∷ [])) in
+    inl (
+      omega (arith, count, ap length one, length-append (front ++ line ∷ []) others),
+      λ b. lost (rw (one, count, take-append_seam (front ++ line ∷ []) others) at b),
+    )
+
+pub stops_at : (n : ℕ) (told front others : List (List ℕ)) → told ≡ front ++ others → n ≡ length front + 1 → Begins front → IsLost front others → StopsAt n told
+stops_at n told front others whole at begins lost = record {
+  before = λ k less.
+      let small : k ≤ length front = omega (arith, less, at) in
+      begins_front (take k told) (drop k front) (rw (whole, take-append-le k front others small, take-append-drop k front) begins);
+  here = stops_here n told front others whole at lost;
+}
+
+-- a session by its first two lines and its calls
+pub tells_session : (site : Config) (told : List (List ℕ)) (entries : List Entry) → IsConfig site → TellsCalls told entries → Tells (head_line ∷ site_line site ∷ told) site entries
+tells_session site told entries range is = record {
+  range = record { opened = range; each = is.range };
+  same = ap (λ t. head_line ++ 10 ∷ t) (append_assoc (site_line site) (10 ∷ []) (ended told)) ∙ ap (λ t. head_line ++ 10 ∷ (site_line site ++ 10 ∷ t)) is.same ∙ sym (session_lines site entries);
+}
+
+-- the least session
+abbrev least_site : Config
+least_site = record { frames = 8; page = 16; slots = 0; tau = 0; high = 1; soft = 1; hard = 1; low = 1; nodes = 1 }
+
+least_is_config : IsConfig least_site
+least_is_config = record {
+  least_frames = omega arith;
+  most_frames = omega arith;
+  least_page = omega arith;
+  most_page = omega arith;
+  whole_page = refl;
+  most_slots = omega arith;
+  most_tau = omega arith;
+  least_low = omega arith;
+  low_hard = omega arith;
+  hard_soft = omega arith;
+  soft_high = omega arith;
+  most_high = omega arith;
+  least_nodes = omega arith;
+  most_nodes = omega arith;
+}
+
+no_calls : TellsCalls (end_line 0 ∷ []) []
+no_calls = record { range = tt; same = append-nil (end_text 0) }
+
+pub begins_nothing : Begins []
+begins_nothing = (head_line ∷ site_line least_site ∷ end_line 0 ∷ [], least_site, [], tells_session least_site (end_line 0 ∷ []) [] least_is_config no_calls)
+
+begins_head : Begins (head_line ∷ [])
+begins_head = (site_line least_site ∷ end_line 0 ∷ [], least_site, [], tells_session least_site (end_line 0 ∷ []) [] least_is_config no_calls)
+
+-- the first line is fixed
+head_of : (line : List ℕ) (others : List (List ℕ)) (site : Config) (entries : List Entry) → HasNoFeed line → Tells (line ∷ others) site entries → line ≡ head_line
+head_of line others site entries feed is =
+    let whole = sym (append_assoc line (10 ∷ []) (ended others)) ∙ is.same ∙ session_lines site entries in
+    (same_line line head_line (ended others) (site_line site ++ 10 ∷ calls_text entries) feed (no_feed head_line (known_stay head_line refl)) whole).0
+
+lost_head : (told : List (List ℕ)) → LacksHead told → IsLost [] told
+lost_head [] lacks = λ site entries is. let none : [] ≡ head_line ++ 10 ∷ (site_line site ++ 10 ∷ calls_text entries) = is.same ∙ session_lines site entries in cc
+lost_head (line ∷ others) lacks = λ b. lacks.1 (head_of line b.0 b.1 b.2 lacks.0 b.3)
+
+pub no_head : (told : List (List ℕ)) → LacksHead told → StopsAt 1 told
+no_head told lacks = stops_at 1 told [] told refl (omega arith) begins_nothing (lost_head told lacks)
+
+-- what stands behind the first line
+behind_first : (others : List (List ℕ)) (site : Config) (entries : List Entry) → Tells (head_line ∷ others) site entries → ended others ≡ site_line site ++ 10 ∷ calls_text entries
+behind_first others site entries is = behind_head (ended others) (site_line site ++ 10 ∷ calls_text entries) (is.same ∙ session_lines site entries)
+
+no_text : (text more : List ℕ) → [] ≡ text ++ 10 ∷ more → ⊥
+no_text [] more e = cc
+no_text (b ∷ text) more e = cc
+
+lost_site : (left : List (List ℕ)) → LacksSite left → IsLost (head_line ∷ []) left
+lost_site [] lacks = λ site entries is. no_text (site_line site) (calls_text entries) (behind_first [] site entries is)
+lost_site (line ∷ others) lacks = λ b.
+    let whole = sym (append_assoc line (10 ∷ []) (ended b.0)) ∙ behind_first (line ∷ b.0) b.1 b.2 b.3 in
+    let same = same_line line (site_line b.1) (ended b.0) (calls_text b.2) lacks.0 (no_feed_site b.1) whole in
+    lacks.1 b.1 (record { range = b.3.range.opened; spelled = same.0 })
+
+pub no_site : (told left : List (List ℕ)) → told ≡ head_line ∷ left → LacksSite left → StopsAt 2 told
+no_site told left whole lacks = stops_at 2 told (head_line ∷ []) left whole (omega arith) begins_head (lost_site left lacks)
+
+pub no_opening : (fault : TextFault) (text : List ℕ) → LacksOpening fault (lines text) → IsRefused fault text
+no_opening NotToml text h = absurd h
+no_opening (BadKey path) text h = absurd h
+no_opening (BadLine n) text (inl h) = rw h.0 (no_head (lines text) h.1)
+no_opening (BadLine n) text (inr h) = rw h.0 (no_site (lines text) h.1.0 h.1.1 h.1.2)
+no_opening NotText text h = absurd h
+no_opening (Differs k) text h = absurd h
+no_opening Read text h = absurd h
+no_opening Write text h = absurd h
+no_opening OutOfMemory text h = absurd h
+
+-- the calls of a session with these first two lines
+calls_of : (site other : Config) (told : List (List ℕ)) (entries : List Entry) → IsConfig site → Tells (head_line ∷ site_line site ∷ told) other entries → TellsCalls told entries
+calls_of site other told entries range is =
+    let whole = sym (append_assoc (site_line site) (10 ∷ []) (ended told)) ∙ behind_first (site_line site ∷ told) other entries is in
+    record { range = is.range.each; same = (same_site_line site other (ended told) (calls_text entries) range is.range.opened whole).1 }
+
+lost_calls : (site : Config) (front others : List (List ℕ)) → IsConfig site → IsStuck front others → IsLost (head_line ∷ site_line site ∷ front) others
+lost_calls site front [] range stuck = λ other entries is. stuck entries (calls_of site other front entries range is)
+lost_calls site front (line ∷ others) range stuck = λ b. stuck (b.0, b.2, calls_of site b.1 ((front ++ line ∷ []) ++ b.0) b.2 range b.3)
+
+stops_calls : (n m passed : ℕ) (site : Config) (told left : List (List ℕ)) → IsConfig site → told ≡ head_line ∷ site_line site ∷ left → passed ≡ 2 → n ≡ passed + m + 1
+    → StopsCalls m left → StopsAt n told
+stops_calls n m passed site told left range whole two at stops =
+    stops_at n told (head_line ∷ site_line site ∷ stops.front) stops.others (whole ∙ ap (λ t. head_line ∷ site_line site ∷ t) stops.whole) (omega (arith, two, at, stops.count))
+    (stops.begins.0, site, stops.begins.1, tells_session site (stops.front ++ stops.begins.0) stops.begins.1 range stops.begins.2)
+    (lost_calls site stops.front stops.others range stops.stuck)
+
+pub no_session : (fault : TextFault) (text : List ℕ) (site : Config) (at : Place) → IsConfig site → lines text ≡ head_line ∷ site_line site ∷ at.left → at.passed ≡ 2
+    → LacksCalls fault at → IsRefused fault text
+no_session NotToml text site at range whole two h = absurd h
+no_session (BadKey path) text site at range whole two h = absurd h
+no_session (BadLine n) text site at range whole two h = stops_calls n h.0 at.passed site (lines text) at.left range whole two h.1 h.2
+no_session NotText text site at range whole two h = absurd h
+no_session (Differs k) text site at range whole two h = absurd h
+no_session Read text site at range whole two h = absurd h
+no_session Write text site at range whole two h = absurd h
+no_session OutOfMemory text site at range whole two h = tt

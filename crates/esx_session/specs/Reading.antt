@@ -1,0 +1,146 @@
+-- What is read of a session, line by line.
+use Rattle.std.specs.Prelude.{ℕ, List, [], ◌∷◌, ◌++◌, ◌+◌, ◌≡◌, ◌<◌, ◌^◌, ◌⊎◌, codes, decimal, length, flat_map}
+use Rattle.std.specs.List.{AllByRecursion}
+use Rattle.std.specs.Str.{IsAscii}
+use Rattle.esx_types.specs.Ranges.{IsConfig}
+use Rattle.esx_types.specs.declared.config.Config.{Config}
+use Rattle.esx_types.specs.declared.config.TheConstants.{CALLERS}
+use Rattle.esx_events.specs.declared.call.Call.{Call}
+use Rattle.esx_reading.specs.Fields.{joined}
+use Rattle.esx_reading.specs.declared.fault.TextFault.{TextFault}
+use Rattle.esx_reading.specs.declared.fault.TextFault.TheVariants.{BadLine, OutOfMemory}
+use Rattle.esx_words.specs.Commands.{IsInRange, spelling}
+use Rattle.esx_session.specs.declared.session.Entry.{Entry}
+use Rattle.esx_session.specs.Sessions.{ended, site_words, quoted, entry_text, end_text, IsEntry, IsEnded}
+
+-- where a reader of lines is: how many it has passed, and those that are left
+pub record Place : Type 0 where
+  pub passed : ℕ
+  pub left : List (List ℕ)
+
+-- no line feed stands in the line
+abbrev pub HasNoFeed : List ℕ → Type 0
+HasNoFeed = AllByRecursion (λ b. b ≡ 10 → ⊥)
+
+-- each number of a site has at most 32 bits
+pub record IsSmall (site : Config) : Type 0 where
+  pub frames : site.frames < 2 ^ 32
+  pub page : site.page < 2 ^ 32
+  pub slots : site.slots < 2 ^ 32
+  pub tau : site.tau < 2 ^ 32
+  pub high : site.high < 2 ^ 32
+  pub soft : site.soft < 2 ^ 32
+  pub hard : site.hard < 2 ^ 32
+  pub low : site.low < 2 ^ 32
+  pub nodes : site.nodes < 2 ^ 32
+
+-- the line of a site
+pub record SpellsSite (line : List ℕ) (site : Config) : Type 0 where
+  pub range : IsConfig site
+  pub spelled : line ≡ joined (site_words site)
+
+-- the line of a call
+pub record SpellsCall (line : List ℕ) (caller : ℕ) (call : Call) : Type 0 where
+  pub known : caller < CALLERS
+  pub range : IsInRange call
+  pub spelled : line ≡ decimal caller ++ 32 ∷ spelling call
+
+-- the line of a reply's line
+pub record Quotes (line text : List ℕ) : Type 0 where
+  pub ascii : IsAscii text
+  pub quoted : line ≡ 61 ∷ 32 ∷ text
+
+abbrev pub QuotesNone : List ℕ → Type 0
+QuotesNone line = (text : List ℕ) → Quotes line text → ⊥
+
+-- the next line, if there is one, is none of a reply
+abbrev pub LeavesReply : List (List ℕ) → Type 0
+LeavesReply [] = Unit {0}
+LeavesReply (line ∷ lines) = HasNoFeed line × QuotesNone line
+
+-- the lines of a reply, and where the reader is behind them
+pub record TakesReply (old new : Place) (reply : List ℕ) : Type 0 where
+  pub taken : List (List ℕ)
+  pub left : old.left ≡ taken ++ new.left
+  pub passed : new.passed ≡ old.passed + length taken
+  pub text : ended taken ≡ quoted reply
+  pub some : IsEnded reply
+  pub ascii : IsAscii reply
+  pub next : LeavesReply new.left
+
+abbrev pub LacksReply : TextFault → Place → Type 0
+LacksReply (BadLine n) old = (n ≡ old.passed + 1) × LeavesReply old.left
+LacksReply OutOfMemory old = Unit {0}
+LacksReply _ old = ⊥
+
+-- the same behind the line of a call
+pub record TakesEntry (line : List ℕ) (old new : Place) (e : Entry) : Type 0 where
+  pub taken : List (List ℕ)
+  pub left : old.left ≡ taken ++ new.left
+  pub passed : new.passed ≡ old.passed + length taken
+  pub text : ended (line ∷ taken) ≡ entry_text e
+  pub range : IsEntry e
+  pub next : LeavesReply new.left
+
+-- a fault of a line, at its place in the text
+abbrev pub placed : TextFault → ℕ → TextFault
+placed (BadLine n) number = BadLine number
+placed fault number = fault
+
+abbrev pub SpellsNoCall : List ℕ → Type 0
+SpellsNoCall line = (caller : ℕ) (call : Call) → SpellsCall line caller call → ⊥
+
+-- the line is that of no call; or it is, and no reply follows
+abbrev pub LacksEntry : TextFault → List ℕ → Place → Type 0
+LacksEntry (BadLine n) line old = ((n ≡ old.passed) × SpellsNoCall line)
+    ⊎ ((n ≡ old.passed + 1) × ((caller : ℕ) × (call : Call) × SpellsCall line caller call) × LeavesReply old.left)
+LacksEntry OutOfMemory line old = Unit {0}
+LacksEntry _ line old = ⊥
+
+-- the calls of a session, and its end
+abbrev pub calls_text : List Entry → List ℕ
+calls_text entries = flat_map entry_text entries ++ end_text (length entries)
+
+pub record TellsCalls (told : List (List ℕ)) (entries : List Entry) : Type 0 where
+  pub range : AllByRecursion IsEntry entries
+  pub same : ended told ≡ calls_text entries
+
+abbrev pub BeginsCalls : List (List ℕ) → Type 0
+BeginsCalls told = (later : List (List ℕ)) × (entries : List Entry) × TellsCalls (told ++ later) entries
+
+-- behind some lines the next cannot stand, or they cannot end
+abbrev pub IsStuck : List (List ℕ) → List (List ℕ) → Type 0
+IsStuck front [] = (entries : List Entry) → TellsCalls front entries → ⊥
+IsStuck front (line ∷ lines) = BeginsCalls (front ++ line ∷ []) → ⊥
+
+-- the calls go on for so many lines, and no further
+pub record StopsCalls (n : ℕ) (told : List (List ℕ)) : Type 0 where
+  pub front : List (List ℕ)
+  pub others : List (List ℕ)
+  pub whole : told ≡ front ++ others
+  pub count : n ≡ length front
+  pub begins : BeginsCalls front
+  pub stuck : IsStuck front others
+
+abbrev pub LacksCalls : TextFault → Place → Type 0
+LacksCalls (BadLine n) old = (m : ℕ) × (n ≡ old.passed + m + 1) × StopsCalls m old.left
+LacksCalls OutOfMemory old = Unit {0}
+LacksCalls _ old = ⊥
+
+-- the first line
+abbrev pub head_line : List ℕ
+head_line = codes "esx session 1"
+
+-- the lines begin with the first of a session, or not
+abbrev pub LacksHead : List (List ℕ) → Type 0
+LacksHead [] = Unit {0}
+LacksHead (line ∷ lines) = HasNoFeed line × (line ≡ head_line → ⊥)
+
+abbrev pub LacksSite : List (List ℕ) → Type 0
+LacksSite [] = Unit {0}
+LacksSite (line ∷ lines) = HasNoFeed line × ((site : Config) → SpellsSite line site → ⊥)
+
+-- the first two lines of a session, and which of them is wrong
+abbrev pub LacksOpening : TextFault → List (List ℕ) → Type 0
+LacksOpening (BadLine n) told = ((n ≡ 1) × LacksHead told) ⊎ ((n ≡ 2) × ((lines : List (List ℕ)) × (told ≡ head_line ∷ lines) × LacksSite lines))
+LacksOpening _ told = ⊥

@@ -1,0 +1,62 @@
+//! The lines of a session, each alone.
+
+ghost use Rattle.std.specs.Prelude.{◌≡◌, ◌∷◌, ◌++◌, ◌<◌, ◌^◌, ◌↔◌, [], ℕ, List, codes, decimal, MatchOption, IfSome, IfNone, IfOk, IfErr, IsTrue};
+ghost use Rattle.esx_types.specs.declared.config.Config.{Config};
+ghost use Rattle.esx_types.specs.declared.config.TheConstants.{CALLERS};
+ghost use Rattle.esx_events.specs.declared.call.Call.{Call};
+ghost use Rattle.esx_reading.specs.Faults.{Refuses};
+ghost use Rattle.esx_session.specs.Reading.{SpellsCall, Quotes, QuotesNone};
+
+use esx_events::Call;
+use esx_reading::{TextFault, number_of};
+use esx_types::CALLERS;
+use esx_words::parse_command;
+use std::alloc::Global;
+
+/// The number of a caller.
+fn caller_of(text: &str) -> Option<u16>
+    ensures some { IfSome result (λ n. (n < CALLERS) × (text.now ≡ decimal n)) }
+    ensures none { IfNone result ((n : ℕ) → n < CALLERS → text.now ≡ decimal n → ⊥) }
+{
+    let number = number_of(text)?;
+    if number < CALLERS as u64 {
+        Some(number as u16)
+    } else {
+        None
+    }
+}
+
+/// Who called, and the call. `BadLine(1)` where the line is not that of a call.
+pub fn call_of(alloc: Global, line: &str) -> Result<(u16, Call), TextFault>
+    ensures found { IfOk result (λ p. SpellsCall line.now p.0 p.1) }
+    ensures only { IfErr result (λ e. Refuses e ((caller : ℕ) (call : Call) → SpellsCall line.now caller call → ⊥)) }
+{
+    let Some((number, command)) = line.split_once(' ') else {
+        return Err(TextFault::BadLine(1));
+    };
+    let Some(caller) = caller_of(number) else {
+        return Err(TextFault::BadLine(1));
+    };
+    match parse_command(alloc, command) {
+        Ok(call) => Ok((caller, call)),
+        Err(fault) => Err(fault),
+    }
+}
+
+/// What a line says of a reply.
+pub fn reply_of(line: &str) -> Option<&str>
+    ensures { MatchOption result (QuotesNone line.now) (λ text. Quotes line.now text.now) }
+{
+    let text = line.strip_prefix("= ")?;
+    if text.is_ascii() { Some(text) } else { None }
+}
+
+/// Whether the line is the last of a session of so many calls.
+pub fn is_end(line: &str, count: usize) -> bool
+    ensures { IsTrue result ↔ (line.now ≡ codes "end " ++ decimal count) }
+{
+    match line.strip_prefix("end ") {
+        Some(number) => number_of(number) == Some(count as u64),
+        None => false,
+    }
+}
