@@ -23,7 +23,7 @@ struct Row {
     output: &'static [u8],
 }
 
-const ROWS: [Row; 15] = [
+const ROWS: [Row; 16] = [
     // nothing is answered by nothing
     Row {
         input: b"",
@@ -79,9 +79,14 @@ const ROWS: [Row; 15] = [
         input: b"admit 0 1 9 10 1 0\nadmit 1 1 1 8 1 0\nstart 0\nstart 0\nstart 0\nstart 0\nstart 0\nstart 0\nstart 0\nstart 0\nstart 0\nstart 0\nstart 1\nstart 1\nstart 1\nstart 1\nstart 1\nstart 1\nstart 1\nstart 1\nread 0 0 0 1\nread 0 1 0 1\nread 0 2 0 1\nsum\n",
         output: b"ok memory 11/20 swap 8/8\nok memory 20/20 swap 8/8\nok frame 0 overhead 1/10 starting\nok frame 1 overhead 2/10 starting\nok frame 2 overhead 3/10 starting\nok frame 3 overhead 4/10 starting\nok frame 4 overhead 5/10 starting\nok frame 5 overhead 6/10 starting\nok frame 6 overhead 7/10 starting\nok frame 7 overhead 8/10 starting\nok frame 8 overhead 9/10 starting\nok frame 9 overhead 10/10 running\nok frame 10 overhead 1/8 starting\nok frame 11 overhead 2/8 starting\nok frame 12 overhead 3/8 starting\nok frame 13 overhead 4/8 starting\nok frame 14 overhead 5/8 starting\nok frame 15 overhead 6/8 starting\nok frame 16 overhead 7/8 starting\nok frame 17 overhead 8/8 running\nok 00\nok 00\nno 9 Short\noverhead 18 private 2 shared 0 free 0 low\n",
     },
+    // the session so far, which is no call
+    Row {
+        input: b"session\nadmit 0 2 6 1 1000 0\nstart 0\nsession\nmark a\nmarks\nsession\n",
+        output: b"esx session 1\nframes 20 page 16 slots 8 tau 75 levels 6 4 2 1 nodes 16777216\nend 0\nok memory 3/20 swap 4/8\nok frame 0 overhead 1/1 running\nesx session 1\nframes 20 page 16 slots 8 tau 75 levels 6 4 2 1 nodes 16777216\n0 admit 0 2 6 1 1000 0\n= ok memory 3/20 swap 4/8\n0 start 0\n= ok frame 0 overhead 1/1 running\nend 2\nok mark a at 2\nmarks 1\na 2\nesx session 1\nframes 20 page 16 slots 8 tau 75 levels 6 4 2 1 nodes 16777216\n0 admit 0 2 6 1 1000 0\n= ok memory 3/20 swap 4/8\n0 start 0\n= ok frame 0 overhead 1/1 running\n0 mark a\n= ok mark a at 2\n0 marks\n= marks 1\n= a 2\nend 4\n",
+    },
     // lines that are no command
     Row {
-        input: b"start 00\nREAD 0 0 0 1\nwrite 0 0 0 2A\nwrite 0 0 0 2\nread  0 0 0 1\n read 0 0 0 1\nread 0 0 0 1 \nread 32 0 0 1\nread 0 4294967296 0 1\nread 0 0 0 18446744073709551616\nsum sum\nundo\nundo -1\ngoto -1\nsession\nhelp\n\xc3\xa9\n",
+        input: b"start 00\nREAD 0 0 0 1\nwrite 0 0 0 2A\nwrite 0 0 0 2\nread  0 0 0 1\n read 0 0 0 1\nread 0 0 0 1 \nread 32 0 0 1\nread 0 4294967296 0 1\nread 0 0 0 18446744073709551616\nsum sum\nundo\nundo -1\ngoto -1\nsessions\nhelp\n\xc3\xa9\n",
         output: b"? line 1\n? line 2\n? line 3\n? line 4\n? line 5\n? line 6\n? line 7\n? line 8\n? line 9\n? line 10\n? line 11\n? line 12\n? line 13\n? line 14\n? line 15\n? line 16\n? line 17\n",
     },
     // lines with no answer and odd ends

@@ -1,8 +1,8 @@
 //! The list of marks.
 
 ghost use Rattle.std.specs.Prelude.{◌≡◌, ◌+◌, ◌++◌, OnOk, IsUtf8, flat_map, length, codes};
+ghost use Rattle.esx_events.specs.Names.{IsName};
 ghost use Rattle.esx_writing.specs.Writing.{Puts, sink_faults};
-ghost use Rattle.esx_replies.specs.Texts.{sum_text};
 ghost use Rattle.esx_replies.specs.Replies.{marks_head, mark_text, marks_text};
 
 use esx_events::NameRow;
@@ -10,7 +10,12 @@ use esx_types::{Sink, SinkFailed};
 use esx_writing::{AnswerBuffer, Piece, put_pieces};
 
 /// A name and its node.
-fn put_mark<W: Sink>(sink: &mut W, held: &mut AnswerBuffer, row: &NameRow) -> Result<(), SinkFailed>
+pub fn put_mark<W: Sink>(
+    sink: &mut W,
+    held: &mut AnswerBuffer,
+    row: &NameRow,
+) -> Result<(), SinkFailed>
+    ensures named { IsName row.now.name }
     ensures bytes { Puts (W.contents sink.old) held.old (W.contents sink.new) held.new (mark_text row.now) result }
     ensures utf8 { OnOk result (IsUtf8 (mark_text row.now)) }
     ensures failures { W.failures sink.new ≡ W.failures sink.old + sink_faults result }
@@ -46,7 +51,7 @@ fn put_mark_rows<W: Sink>(
 }
 
 /// How many marks there are.
-fn put_marks_head<W: Sink>(
+pub fn put_marks_head<W: Sink>(
     sink: &mut W,
     held: &mut AnswerBuffer,
     count: usize,

@@ -1,6 +1,7 @@
 //! What moves and marks answer.
 
 ghost use Rattle.std.specs.Prelude.{◌≡◌, ◌+◌, OnOk, IsUtf8};
+ghost use Rattle.esx_events.specs.Names.{IsName};
 ghost use Rattle.esx_writing.specs.Writing.{Puts, sink_faults};
 ghost use Rattle.esx_replies.specs.Texts.{stand_text, marked_text, pruned_text};
 
@@ -42,6 +43,7 @@ pub fn put_marked<W: Sink>(
     name: &Name,
     node: u32,
 ) -> Result<(), SinkFailed>
+    ensures named { IsName name.now }
     ensures bytes { Puts (W.contents sink.old) held.old (W.contents sink.new) held.new (marked_text name.now node) result }
     ensures utf8 { OnOk result (IsUtf8 (marked_text name.now node)) }
     ensures failures { W.failures sink.new ≡ W.failures sink.old + sink_faults result }

@@ -19,7 +19,7 @@ use std::marker::Brand;
 use std::sync::ledger::{Blank, Ledger};
 
 /// What is said, where the cursor made so many jumps.
-fn put_said<W: Sink>(
+pub fn put_said<W: Sink>(
     sink: &mut W,
     held: &mut AnswerBuffer,
     said: &Said,

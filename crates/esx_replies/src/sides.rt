@@ -22,7 +22,7 @@ fn put_number<W: Sink>(sink: &mut W, held: &mut AnswerBuffer, number: u64) -> Re
 }
 
 /// A tried event's number and what it answers.
-fn put_numbered<W: Sink>(
+pub fn put_numbered<W: Sink>(
     sink: &mut W,
     held: &mut AnswerBuffer,
     number: u64,
@@ -68,7 +68,7 @@ fn one_if_accepted(reply: &Result<Answer, Refusal>) -> u64
 }
 
 /// How many of the tried events were accepted.
-fn accepted(replies: &[Result<Answer, Refusal>]) -> u64
+pub fn accepted(replies: &[Result<Answer, Refusal>]) -> u64
     ensures { result ≡ accepted replies.now }
 {
     let mut count = 0;
@@ -79,7 +79,7 @@ fn accepted(replies: &[Result<Answer, Refusal>]) -> u64
 }
 
 /// How many were accepted, of how many.
-fn put_sides_head<W: Sink>(
+pub fn put_sides_head<W: Sink>(
     sink: &mut W,
     held: &mut AnswerBuffer,
     count: u64,
@@ -114,7 +114,11 @@ fn put_before_word<W: Sink>(sink: &mut W, held: &mut AnswerBuffer) -> Result<(),
 }
 
 /// The sum before them.
-fn put_before<W: Sink>(sink: &mut W, held: &mut AnswerBuffer, sum: Sum) -> Result<(), SinkFailed>
+pub fn put_before<W: Sink>(
+    sink: &mut W,
+    held: &mut AnswerBuffer,
+    sum: Sum,
+) -> Result<(), SinkFailed>
     ensures bytes { Puts (W.contents sink.old) held.old (W.contents sink.new) held.new (before_text sum) result }
     ensures utf8 { OnOk result (IsUtf8 (before_text sum)) }
     ensures failures { W.failures sink.new ≡ W.failures sink.old + sink_faults result }
@@ -135,7 +139,11 @@ fn put_after_word<W: Sink>(sink: &mut W, held: &mut AnswerBuffer) -> Result<(), 
 }
 
 /// The sum after them.
-fn put_after<W: Sink>(sink: &mut W, held: &mut AnswerBuffer, sum: Sum) -> Result<(), SinkFailed>
+pub fn put_after<W: Sink>(
+    sink: &mut W,
+    held: &mut AnswerBuffer,
+    sum: Sum,
+) -> Result<(), SinkFailed>
     ensures bytes { Puts (W.contents sink.old) held.old (W.contents sink.new) held.new (after_text sum) result }
     ensures utf8 { OnOk result (IsUtf8 (after_text sum)) }
     ensures failures { W.failures sink.new ≡ W.failures sink.old + sink_faults result }

@@ -12,7 +12,11 @@ use esx_types::{Sink, SinkFailed};
 use esx_writing::{AnswerBuffer, Piece, put_pieces};
 
 /// The line of a virtual machine.
-fn put_row<W: Sink>(sink: &mut W, held: &mut AnswerBuffer, row: &TableRow) -> Result<(), SinkFailed>
+pub fn put_row<W: Sink>(
+    sink: &mut W,
+    held: &mut AnswerBuffer,
+    row: &TableRow,
+) -> Result<(), SinkFailed>
     ensures bytes { Puts (W.contents sink.old) held.old (W.contents sink.new) held.new (row_text row.now) result }
     ensures utf8 { OnOk result (IsUtf8 (row_text row.now)) }
     ensures failures { W.failures sink.new ≡ W.failures sink.old + sink_faults result }
@@ -56,7 +60,7 @@ fn put_rows<W: Sink>(
 }
 
 /// The head of the table.
-fn put_head<W: Sink>(sink: &mut W, held: &mut AnswerBuffer) -> Result<(), SinkFailed>
+pub fn put_head<W: Sink>(sink: &mut W, held: &mut AnswerBuffer) -> Result<(), SinkFailed>
     ensures bytes { Puts (W.contents sink.old) held.old (W.contents sink.new) held.new (table_head) result }
     ensures utf8 { OnOk result (IsUtf8 (table_head)) }
     ensures failures { W.failures sink.new ≡ W.failures sink.old + sink_faults result }

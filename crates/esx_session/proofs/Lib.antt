@@ -1,3 +1,6 @@
+pub mod SignLemmas
+pub mod OneLineLemmas
+pub mod PuttingLemmas
 pub mod LineLemmas
 pub mod CallLemmas
 pub mod SiteLemmas

@@ -5,7 +5,9 @@ pub use Rattle.esx_events.specs.Lists
 pub use Rattle.esx_reading.specs.Faults
 pub use Rattle.esx_reading.specs.Fields
 pub use Rattle.esx_reading.specs.Written
+pub use Rattle.esx_writing.specs.Writing
 pub use Rattle.esx_words.specs.Commands
 pub use Rattle.esx_replies.specs.Replies
 pub mod Sessions
 pub mod Reading
+pub mod Printing

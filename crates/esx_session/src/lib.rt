@@ -6,8 +6,10 @@ pub mod laws;
 mod line;
 mod parse;
 mod place;
+mod printing;
 pub mod session;
 mod site;
 
 pub use parse::parse_session;
+pub use printing::{print_session, put_session, write_session};
 pub use session::{Entry, Session};

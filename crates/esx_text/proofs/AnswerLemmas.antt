@@ -1,5 +1,5 @@
 -- How one line is answered.
-use Rattle.std.proofs.Common.{◌≡◌, ℕ, Bool, true, false, List, arith, ◌↔◌, Option}
+use Rattle.std.proofs.Common.{◌≡◌, ℕ, Bool, true, false, List, arith, ◌↔◌, ◌<◌, length, Option}
 use Rattle.std.specs.Io.KnownBytes.{Appends}
 use Rattle.std.specs.Str.{IsUtf8}
 use Rattle.std.proofs.lemmas.Str.{IsUtf8-from_ascii}
@@ -30,6 +30,9 @@ asked_front n caller before after line call reply old new is r a w = (reply_text
 pub silent_as_kept : (kept : List ℕ) (long : Bool) (line : List ℕ) → Keeps kept long line → IsSilent line ↔ IsSilent kept
 silent_as_kept kept true line k = k.1
 silent_as_kept kept false line k = (λ s. rw k at s, λ s. rw k s)
+
+pub long_line : (kept : List ℕ) (long : Bool) (line : List ℕ) → long ≡ true → Keeps kept long line → 16384 < length line
+long_line kept long line is k = let k' = rw is at k in k'.0
 
 pub long_unasked : (kept : List ℕ) (long : Bool) (line : List ℕ) (call : Call) → long ≡ true → Keeps kept long line → IsAsked line call → ⊥
 long_unasked kept long line call is k a = let k' = rw is at k in omega (arith, k'.0, a.short)

@@ -19,7 +19,8 @@ use Rattle.esx_words.specs.Commands.{Spells, operand_words, operands, verb, verb
 use Rattle.esx_words.proofs.CommandLemmas.{one_call}
 use Rattle.esx_text.specs.Lines.{IsSilent, lines}
 use Rattle.esx_text.specs.Answers.{IsAnswered, AreAnswered, Serves}
-use Rattle.esx_text.specs.Answers.IsAnswered.{silent, asked, unknown}
+use Rattle.esx_text.specs.Answers.IsAnswered.{silent, asked, told, unknown}
+use Rattle.esx_text.proofs.SessionLemmas.{session_is_loud, session_spells_none}
 use Rattle.esx_text.proofs.OneSplit.{one_split}
 
 -- the first byte of a word of a command is a letter
@@ -101,13 +102,20 @@ one_line : (n caller : ℕ) (before : Session) (line text others : List ℕ) (af
     → IsAnswered n caller before line text after → IsAnswered n caller before line others last → (text ≡ others) × (after ≡ last)
 one_line n caller before line text others after last (silent s) (silent t) = (refl, refl)
 one_line n caller before line text others after last (silent s) (asked call is) = absurd (no_silent_call line s call is.command)
-one_line n caller before line text others after last (silent s) (unknown l none) = absurd (l s)
+one_line n caller before line text others after last (silent s) (told t) = absurd (session_is_loud line t s)
+one_line n caller before line text others after last (silent s) (unknown l m none) = absurd (l s)
 one_line n caller before line text others after last (asked call is) (silent s) = absurd (no_silent_call line s call is.command)
 one_line n caller before line text others after last (asked call is) (asked other are) = same_reply before caller call other (one_call line call other is.command are.command)
-one_line n caller before line text others after last (asked call is) (unknown l none) = absurd (none call is)
-one_line n caller before line text others after last (unknown l none) (silent s) = absurd (l s)
-one_line n caller before line text others after last (unknown l none) (asked call is) = absurd (none call is)
-one_line n caller before line text others after last (unknown l none) (unknown m nothing) = (refl, refl)
+one_line n caller before line text others after last (asked call is) (told t) = absurd (session_spells_none line t call is.command)
+one_line n caller before line text others after last (asked call is) (unknown l m none) = absurd (none call is)
+one_line n caller before line text others after last (told t) (silent s) = absurd (session_is_loud line t s)
+one_line n caller before line text others after last (told t) (asked call is) = absurd (session_spells_none line t call is.command)
+one_line n caller before line text others after last (told t) (told u) = (refl, refl)
+one_line n caller before line text others after last (told t) (unknown l m none) = absurd (m t)
+one_line n caller before line text others after last (unknown l m none) (silent s) = absurd (l s)
+one_line n caller before line text others after last (unknown l m none) (asked call is) = absurd (none call is)
+one_line n caller before line text others after last (unknown l m none) (told t) = absurd (m t)
+one_line n caller before line text others after last (unknown l m none) (unknown k j nothing) = (refl, refl)
 
 one_way : (n caller : ℕ) (before : Session) (ls : List (List ℕ)) (text others : List ℕ) (after last : Session)
     → AreAnswered n caller before ls text after → AreAnswered n caller before ls others last → (text ≡ others) × (after ≡ last)

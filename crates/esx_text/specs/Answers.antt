@@ -7,6 +7,7 @@ use Rattle.esx_text.specs.declared.fault.ServeFault.{ServeFault}
 use Rattle.esx_text.specs.declared.fault.ServeFault.TheVariants.{Read, Write, OutOfMemory}
 use Rattle.esx_words.specs.Commands.{Spells}
 use Rattle.esx_replies.specs.Replies.{reply_text}
+use Rattle.esx_session.specs.Sessions.{session_text, logged}
 use Rattle.esx_text.specs.Lines.{EndsIn, lines, line_of, IsSilent, Held, Holds}
 use Rattle.esx_writing.specs.Writing.{WritesFront}
 
@@ -14,6 +15,14 @@ use Rattle.esx_writing.specs.Writing.{WritesFront}
 pub record IsAsked (line : List ℕ) (call : Call) : Type 0 where
   pub short : length line ≤ 16384
   pub command : Spells line call
+
+-- the line that asks for the session so far
+abbrev pub session_line : List ℕ
+session_line = codes "session"
+
+-- what a session is told as
+abbrev pub told_text : Session → List ℕ
+told_text session = session_text session.site (map logged session.log)
 
 -- the answer to line n, where it is no command
 abbrev pub unknown_text : ℕ → List ℕ
@@ -23,7 +32,8 @@ unknown_text n = codes "? line " ++ (decimal n ++ 10 ∷ [])
 pub data IsAnswered (n caller : ℕ) (session : Session) (line : List ℕ) : List ℕ → Session → Type 0 where
   silent : IsSilent line → IsAnswered n caller session line [] session
   asked : (call : Call) → IsAsked line call → IsAnswered n caller session line (reply_text (next_reply session call)) (lined session caller call)
-  unknown : (IsSilent line → ⊥) → ((call : Call) → IsAsked line call → ⊥) → IsAnswered n caller session line (unknown_text n) session
+  told : line ≡ session_line → IsAnswered n caller session line (told_text session) session
+  unknown : (IsSilent line → ⊥) → (line ≡ session_line → ⊥) → ((call : Call) → IsAsked line call → ⊥) → IsAnswered n caller session line (unknown_text n) session
 
 -- The lines from number n on are answered by a text, and leave a session.
 abbrev pub AreAnswered : ℕ → ℕ → Session → List (List ℕ) → List ℕ → Session → Type 0

@@ -14,6 +14,10 @@ HasOneSplit text = (ended others : List (List ℕ)) (rest last : List ℕ) → E
 abbrev pub SpellsNoCall : List ℕ → Type 0
 SpellsNoCall text = IsSilent text → (call : Call) → Spells text call → ⊥
 
+-- the line that asks for the session is that of no call
+abbrev pub IsNoCall : List ℕ → Type 0
+IsNoCall line = (call : Call) → Spells line call → ⊥
+
 -- an input is served in one way from each session
 abbrev pub HasOneAnswer : List ℕ → Type 0
 HasOneAnswer input = (caller count other : ℕ) (before after last : Session) (text others : List ℕ)

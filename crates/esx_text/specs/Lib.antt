@@ -5,6 +5,7 @@ pub use Rattle.esx_reading.specs.Written
 pub use Rattle.esx_words.specs.Commands
 pub use Rattle.esx_replies.specs.Replies
 pub use Rattle.esx_writing.specs.Writing
+pub use Rattle.esx_session.specs.Sessions
 pub mod Lines
 pub mod Answers
 pub mod Laws

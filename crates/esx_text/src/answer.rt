@@ -4,13 +4,14 @@ ghost use Rattle.std.specs.Prelude.{◌≡◌, ◌+◌, [], ℕ, List, IfOk, OnO
 ghost use Rattle.esx_events.specs.declared.call.Call.{Call};
 ghost use Rattle.esx_model.specs.Console.{Session};
 ghost use Rattle.esx_text.specs.Lines.{Keeps, IsSilent};
-ghost use Rattle.esx_text.specs.Answers.{IsAsked, IsServed, write_faults};
+ghost use Rattle.esx_text.specs.Answers.{IsAsked, IsServed, session_line, write_faults};
 
 use crate::fault::ServeFault;
 use esx_console::Console;
 use esx_events::Call;
 use esx_reading::TextFault;
 use esx_replies::write_reply;
+use esx_session::write_session;
 use esx_types::Sink;
 use esx_words::parse_command;
 use esx_writing::{AnswerBuffer, Piece, write_pieces};
@@ -61,6 +62,26 @@ fn answer_call<W: Sink>(
     }
 }
 
+/// Writes the session so far. No memory is taken.
+fn answer_session<W: Sink>(
+    console: &Console,
+    writer: &mut W,
+    held: &mut AnswerBuffer,
+) -> Result<(), ServeFault>
+    requires { held.old ≡ [] }
+    ensures served { (n caller : ℕ) (line : List ℕ) → line ≡ session_line
+        → IsServed n caller console.now line console.now (W.contents writer.old) (W.contents writer.new) result }
+    ensures empty { OnOk result (held.new ≡ []) }
+    ensures failures { W.failures writer.new ≡ W.failures writer.old + write_faults result }
+    ensures flushes { W.flushes writer.new ≡ W.flushes writer.old }
+    ensures reads { IsErrOf result ServeFault.Read → ⊥ }
+{
+    match write_session(writer, held, &console.site(), console.log()) {
+        Ok(()) => Ok(()),
+        Err(_) => Err(ServeFault::Write),
+    }
+}
+
 /// Answers a line that is no command.
 fn answer_unknown<W: Sink>(
     writer: &mut W,
@@ -68,7 +89,7 @@ fn answer_unknown<W: Sink>(
     number: u64,
 ) -> Result<(), ServeFault>
     requires { held.old ≡ [] }
-    ensures served { (caller : ℕ) (session : Session) (line : List ℕ) → (IsSilent line → ⊥) → ((call : Call) → IsAsked line call → ⊥)
+    ensures served { (caller : ℕ) (session : Session) (line : List ℕ) → (IsSilent line → ⊥) → (line ≡ session_line → ⊥) → ((call : Call) → IsAsked line call → ⊥)
         → IsServed number caller session line session (W.contents writer.old) (W.contents writer.new) result }
     ensures empty { OnOk result (held.new ≡ []) }
     ensures failures { W.failures writer.new ≡ W.failures writer.old + write_faults result }
@@ -97,6 +118,13 @@ fn is_silent(line: &[u8]) -> bool
         [] => true,
         [first, ..] => *first == b'#',
     }
+}
+
+/// Whether a line asks for the session so far.
+fn asks_for_session(line: &[u8]) -> bool
+    ensures { IsTrue result ↔ line.now ≡ session_line }
+{
+    line == b"session".as_slice()
 }
 
 /// A line by its number from 1 on: all its bytes, or where it is too long a front of them.
@@ -129,6 +157,9 @@ pub fn answer_line<W: Sink>(
     }
     if asked.long {
         return answer_unknown(writer, held, asked.number);
+    }
+    if asks_for_session(asked.kept) {
+        return answer_session(console, writer, held);
     }
     let Ok(found) = call_of_line(alloc, asked.kept) else {
         return Err(ServeFault::OutOfMemory);

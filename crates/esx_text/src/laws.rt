@@ -2,7 +2,8 @@
 //! session before.
 
 ghost use Rattle.std.specs.Prelude.{ℕ, List};
-ghost use Rattle.esx_text.specs.Laws.{HasOneSplit, SpellsNoCall, HasOneAnswer};
+ghost use Rattle.esx_text.specs.Answers.{session_line};
+ghost use Rattle.esx_text.specs.Laws.{HasOneSplit, SpellsNoCall, IsNoCall, HasOneAnswer};
 
 /// A text has its lines in one way.
 pub fn one_split()
@@ -12,6 +13,11 @@ pub fn one_split()
 /// A line that is answered by nothing spells no call.
 pub fn no_silent_call()
     ensures { (text : List ℕ) → SpellsNoCall text }
+{}
+
+/// The line that asks for the session spells no call.
+pub fn session_is_no_call()
+    ensures { IsNoCall session_line }
 {}
 
 /// What is written for an input, and the session after it, are determined.

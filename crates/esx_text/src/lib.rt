@@ -6,9 +6,11 @@ mod fault;
 pub mod laws;
 mod line;
 mod service;
+mod telling;
 
 pub use esx_reading::TextFault;
 pub use esx_replies::print_reply;
 pub use esx_words::{parse_command, print_command};
 pub use fault::ServeFault;
 pub use service::{give_up, serve};
+pub use telling::print_session;

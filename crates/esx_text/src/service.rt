@@ -262,8 +262,8 @@ fn finish<W: Sink>(
 /// the number of lines.
 ///
 /// A carriage return directly before a line feed is no part of the line. An empty line, and one that
-/// begins with `#`, is answered by nothing; any other that is no command, or has more than 16,384
-/// bytes, by `? line N`. All memory but that of the calls is taken before the first read.
+/// begins with `#`, is answered by nothing; `session` by the session so far; any other that is no command, or
+/// has more than 16,384 bytes, by `? line N`. All memory but that of the calls is taken before the first read.
 pub fn serve<R: Source, W: Sink>(
     alloc: Global,
     console: &mut Console,

@@ -1,7 +1,8 @@
-use Rattle.std.proofs.Common.{[]}
+use Rattle.std.proofs.Common.{[], sym, ◌∙◌}
 use Rattle.esx_text.specs.Answers.IsAnswered.{silent}
 use Rattle.esx_writing.proofs.WritingLemmas.{appends_nothing}
-use Rattle.esx_text.proofs.AnswerLemmas.{silent_as_kept, long_unasked, kept_whole}
+use Rattle.esx_text.proofs.AnswerLemmas.{silent_as_kept, long_line, long_unasked, kept_whole}
+use Rattle.esx_text.proofs.SessionLemmas.{long_is_no_session}
 use Rattle.esx_text.proofs.answer.answer_line.Goals as goal
 
 pub returns-then-is_silent-clause-served : goal.returns-then-is_silent-clause-served
@@ -12,7 +13,13 @@ pub returns-then-asked-clause-served : goal.returns-then-asked-clause-served
 returns-then-asked-clause-served g c = λ line keeps.
     c.answer_unknown.ensures.served c.args.caller c.args.console.now line
     (λ s. let t = c.is_silent.ensures.1 ((silent_as_kept c.args.asked.now.kept.now c.args.asked.now.long line keeps).0 s) in cc)
+    (λ e. long_is_no_session line (long_line c.args.asked.now.kept.now c.args.asked.now.long line c.if-asked.true keeps) e)
     (λ call is. long_unasked c.args.asked.now.kept.now c.args.asked.now.long line call c.if-asked.true keeps is)
+
+pub returns-then-asks_for_session-clause-served : goal.returns-then-asks_for_session-clause-served
+returns-then-asks_for_session-clause-served g c = λ line keeps.
+    let e = kept_whole c.args.asked.now.kept.now c.args.asked.now.long line c.if-asked.false keeps in
+    c.answer_session.ensures.served c.args.asked.now.number c.args.caller line (e ∙ c.asks_for_session.ensures.0 c.if-asks_for_session.true)
 
 pub returns-in-Some-clause-served : goal.returns-in-Some-clause-served
 returns-in-Some-clause-served g c = λ line keeps.
@@ -24,4 +31,5 @@ returns-in-None-clause-served g c = λ line keeps.
     let e = kept_whole c.args.asked.now.kept.now c.args.asked.now.long line c.if-asked.false keeps in
     c.answer_unknown-in-None.ensures.served c.args.caller c.args.console.now line
     (λ s. let t = c.is_silent.ensures.1 ((silent_as_kept c.args.asked.now.kept.now c.args.asked.now.long line keeps).0 s) in cc)
+    (λ s. let t = c.asks_for_session.ensures.1 (sym e ∙ s) in cc)
     (λ call is. (rw c.in-None.is at c.in-Ok.ensures) call (rw e at is))

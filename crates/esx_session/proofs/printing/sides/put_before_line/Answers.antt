@@ -1,0 +1,17 @@
+use Rattle.esx_replies.specs.Replies.{before_text}
+use Rattle.esx_session.proofs.OneLineLemmas.{before_line}
+use Rattle.esx_session.proofs.PuttingLemmas.{sign_failed, signed, signed_utf8, line_begins}
+use Rattle.esx_session.proofs.printing.sides.put_before_line.Goals as goal
+
+pub returns-in_err-put_sign-clause-bytes : goal.returns-in_err-put_sign-clause-bytes
+returns-in_err-put_sign-clause-bytes g c =
+    sign_failed (g.W.Sink.contents c.args.sink.now) (g.W.Sink.contents c.put_sign.new.sink) c.args.held.now c.put_sign.new.held (before_text c.args.sum)
+    c.from_residual.result c.from_residual.ensures.0 (line_begins (before_text c.args.sum) (before_line c.args.sum)) c.in_err-put_sign.ensures.bytes
+
+pub returns-clause-bytes : goal.returns-clause-bytes
+returns-clause-bytes g c =
+    signed (g.W.Sink.contents c.args.sink.now) (g.W.Sink.contents c.put_sign.new.sink) (g.W.Sink.contents c.put_before.new.sink)
+    c.args.held.now c.put_sign.new.held c.put_before.new.held (before_text c.args.sum) c.put_before.result (before_line c.args.sum) c.in_ok-put_sign.ensures.bytes c.put_before.ensures.bytes
+
+pub returns-clause-utf8 : goal.returns-clause-utf8
+returns-clause-utf8 g c = signed_utf8 (before_text c.args.sum) c.put_before.result (before_line c.args.sum) c.in_ok-put_sign.ensures.utf8 c.put_before.ensures.utf8
