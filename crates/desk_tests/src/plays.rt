@@ -11,7 +11,7 @@ use crate::signs::first_byte;
 use esx_console::Console;
 use esx_desk::laws::whole_pass_has_a_console;
 use esx_desk::{Desk, Gate, Gauge, Pass, TryFault};
-use esx_events::{Call, Refusal, Reply, Said};
+use esx_events::{Call, Refusal, Said};
 use esx_types::Ids;
 use std::alloc::{AllocError, Global};
 use std::sync::Wait;
@@ -137,13 +137,9 @@ pub fn read_byte(desk: &Desk, pass: &mut Pass) -> Option<u8>
     requires { IsOf desk.now pass.old }
     ensures { IsOf desk.now pass.new }
 {
-    match desk.try_submit(pass, read(guest(0), 0, 1)) {
-        Ok(
-            Reply {
-                said: Said::Done { answer },
-                ..
-            },
-        ) => first_byte(&answer),
+    let reply = desk.try_submit(pass, read(guest(0), 0, 1)).ok()?;
+    match &reply.said {
+        Said::Done { answer } => first_byte(answer),
         _ => None,
     }
 }
