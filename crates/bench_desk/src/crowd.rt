@@ -12,6 +12,9 @@ use std::sync::Wait;
 use std::sync::atomic::{AtomicU64, Ordering};
 use std::thread::{self, Threads};
 
+/// How often a thread peeks in place of one call, since a peek takes so little.
+pub const PEEKS: u64 = 100;
+
 /// A desk for so many callers, and their passes.
 pub fn desk_for(alloc: Global, callers: usize) -> Result<(Desk, Vec<Pass>), Refusal>
     requires { (0 < callers) × (callers ≤ CALLERS) }
@@ -44,12 +47,12 @@ fn submit_all<R: Wait>(rt: &R, desk: &Desk, mut pass: Pass, count: u32) -> u64
     answered
 }
 
-// Peeks so often, and adds up the free frames.
+// Peeks `PEEKS` times for each of so many calls, and adds up the free frames.
 fn peek_all(desk: &Desk, mut pass: Pass, count: u32) -> u64
     requires { IsOf desk.now pass }
 {
     let mut free = 0u64;
-    for _turn in 0..count {
+    for _turn in 0..u64::from(count) * PEEKS {
         free = free.wrapping_add(u64::from(desk.peek(&mut pass).free));
     }
     free
@@ -85,7 +88,7 @@ pub fn submit_at_once<R: Threads + Wait + Sync>(
     thread::map_vec(rt, passes, &work)
 }
 
-/// Peeks so often in a thread for each pass. The free frames that each saw, added up.
+/// Peeks `PEEKS` times for each of so many calls, in a thread for each pass. The free frames that each saw, added up.
 pub fn peek_at_once<R: Threads + Sync>(
     rt: &R,
     desk: &Desk,

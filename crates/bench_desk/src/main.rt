@@ -1,5 +1,5 @@
 //! Times a desk: `bench_desk COUNT` asks a console so often, and then in each of 1, 2, 4 and 8 threads at one
-//! desk. It peeks as often in each, and then in one more thread for as long as the others ask.
+//! desk. It peeks 100 times as often in each, and then in one more thread for as long as the others ask.
 //!
 //! What was answered goes to standard output, and how many were made in a second to standard error.
 #![tactic(auto)]
@@ -10,7 +10,7 @@ mod crowd;
 mod site;
 
 use anyhow::{Context, Result, anyhow};
-use crowd::{desk_for, desk_with_one_more, peek_at_once, peek_beside, submit_at_once};
+use crowd::{PEEKS, desk_for, desk_with_one_more, peek_at_once, peek_beside, submit_at_once};
 use esx_events::Refusal;
 use esx_types::CALLERS;
 use site::{ask_console, opened};
@@ -67,9 +67,9 @@ fn time_peeks<R: Threads + Wait + Sync + Print + Clock>(
     let (desk, passes) = desk_for(alloc, threads).map_err(fault)?;
     let start = Instant::now(rt)?;
     let free = peek_at_once(rt, &desk, passes, count)?;
-    let peeks = rate(rt, u64::from(count) * threads as u64, start)?;
+    let rounds = rate(rt, u64::from(count) * threads as u64, start)?;
     println!(rt; "peeks {:?}", free.as_slice())?;
-    Ok(peeks)
+    Ok(rounds.saturating_mul(u128::from(PEEKS)))
 }
 
 fn time_peeks_beside<R: Threads + Wait + Sync + Clock>(
@@ -90,8 +90,8 @@ fn main(rt: HostRuntime) -> Result<()> {
     let word = env::args(&rt)?.nth(1).context("the count is missing")?;
     let count = word.parse::<u32>()?;
     let asked = time_console(&rt, rt.alloc(), count)?;
-    eprintln!(rt; "console: {asked} calls a second")?;
-    eprintln!(rt; "threads  submits/s    peeks/s  peeks/s while others submit")?;
+    eprintln!(rt; "a console alone: {asked} calls per second; at a desk, per second:")?;
+    eprintln!(rt; "threads    submits      peeks  peeks while others submit")?;
     for threads in [1, 2, 4, 8] {
         let submits = time_submits(&rt, rt.alloc(), threads, count)?;
         let peeks = time_peeks(&rt, rt.alloc(), threads, count)?;
