@@ -61,8 +61,7 @@ differs_here site entries done later e count split same other is =
     let again : replies_again site entries ≡ replies_told done ++ reply ∷ more =
     ap (replies_again site) (split ∙ sym (append_assoc done (e ∷ []) later)) ∙ (ap (map text_of) follow.log ∙ map-append text_of (made site (done ++ e ∷ [])).log follow.more)
     ∙ ap (λ v. v ++ more) (replies_more site done e ∙ ap (λ v. v ++ reply ∷ []) same) ∙ append_assoc (replies_told done) (reply ∷ []) more in
-    let long : length (replies_told done) ≡ count = length-map done (λ (x : Entry). x.reply) ∙ sym is in
-    (
+    let long : length (replies_told done) ≡ count = length-map done (λ (x : Entry). x.reply) ∙ sym is in (
       count,
       refl,
       rw (← long) (part_of (length (replies_told done)) _ _ _ _ told again (part_at_seam (replies_told done) (replies_told later) more e.reply reply (λ e. other (sym e)))),

@@ -109,8 +109,7 @@ flush_fails (Ok v) site entries a b c p w k = (replay_text site entries, [], sym
 flush_fails (Err Write) site entries a b c p w k = (w.0, w.1, w.2, keeps_on a b c _ w.3 k)
 flush_fails (Err OutOfMemory) site entries a b c p w k =
     let all = front site (take w.0 entries) (drop w.0 entries) in
-    let whole : replies_text site entries ≡ replies_text site (take w.0 entries) ++ all.rest = ap (replies_text site) (sym (take-append-drop w.0 entries)) ∙ all.text in
-    (
+    let whole : replies_text site entries ≡ replies_text site (take w.0 entries) ++ all.rest = ap (replies_text site) (sym (take-append-drop w.0 entries)) ∙ all.text in (
       replies_text site (take w.0 entries),
       all.rest ++ table_after site entries,
       ap (λ v. v ++ table_after site entries) whole ∙ append_assoc (replies_text site (take w.0 entries)) all.rest (table_after site entries),
