@@ -1,5 +1,5 @@
 -- What a check knows on its way, and at its end.
-use Rattle.std.proofs.Common.{◌≡◌, ◌≢◌, ℕ, suc, ◌+◌, List, [], ◌∷◌, ◌++◌, Option, Some, Bool, false, IsTrue, ◌↔◌, refl, sym, ◌∙◌, ap, arith, append_assoc, length, take, map}
+use Rattle.std.proofs.Common.{◌≡◌, ◌≢◌, ℕ, ◌+◌, List, [], ◌∷◌, ◌++◌, Some, Bool, false, IsTrue, ◌↔◌, refl, sym, ◌∙◌, ap, append_assoc, length, map}
 use Rattle.std.proofs.Math.Seq.{take-append_seam}
 use Rattle.std.proofs.lemmas.List.{map-append, length-map, length-append}
 use Rattle.std.specs.Prelude.{slice_get}
