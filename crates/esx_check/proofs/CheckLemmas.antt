@@ -1,5 +1,5 @@
 -- What a check knows on its way, and at its end.
-use Rattle.std.proofs.Common.{◌≡◌, ◌≢◌, ℕ, suc, ◌+◌, List, [], ◌∷◌, ◌++◌, Option, Some, Bool, false, IsTrue, ◌↔◌, refl, sym, ◌∙◌, ap, arith, append_assoc, length, take, map}
+use Rattle.std.proofs.Common.{◌≡◌, ◌≢◌, ℕ, ◌+◌, List, [], ◌∷◌, ◌++◌, Some, Bool, false, IsTrue, ◌↔◌, refl, sym, ◌∙◌, ap, append_assoc, length, map}
 use Rattle.std.proofs.Math.Seq.{take-append_seam}
 use Rattle.std.proofs.lemmas.List.{map-append, length-map, length-append}
 use Rattle.std.specs.Prelude.{slice_get}
@@ -61,8 +61,7 @@ differs_here site entries done later e count split same other is =
     let again : replies_again site entries ≡ replies_told done ++ reply ∷ more =
     ap (replies_again site) (split ∙ sym (append_assoc done (e ∷ []) later)) ∙ (ap (map text_of) follow.log ∙ map-append text_of (made site (done ++ e ∷ [])).log follow.more)
     ∙ ap (λ v. v ++ more) (replies_more site done e ∙ ap (λ v. v ++ reply ∷ []) same) ∙ append_assoc (replies_told done) (reply ∷ []) more in
-    let long : length (replies_told done) ≡ count = length-map done (λ (x : Entry). x.reply) ∙ sym is in
-    (
+    let long : length (replies_told done) ≡ count = length-map done (λ (x : Entry). x.reply) ∙ sym is in (
       count,
       refl,
       rw (← long) (part_of (length (replies_told done)) _ _ _ _ told again (part_at_seam (replies_told done) (replies_told later) more e.reply reply (λ e. other (sym e)))),

@@ -6,7 +6,7 @@ use Rattle.esx_types.specs.declared.config.Config.{Config}
 use Rattle.esx_events.specs.declared.call.Call.{Call}
 use Rattle.esx_events.specs.declared.call.Line.{Line}
 use Rattle.esx_model.specs.History.{History, opened}
-use Rattle.esx_model.specs.Console.{Session, history, history_from, after, reply_to, next_reply, lined, AreReplies, IsLegal}
+use Rattle.esx_model.specs.Console.{Session, history, history_from, after, next_reply, lined, AreReplies, IsLegal}
 use Rattle.esx_console.specs.Calls.{opened_session, lined_all}
 use Rattle.esx_session.specs.declared.session.Entry.{Entry}
 use Rattle.esx_session.specs.Sessions.{logged}

@@ -1,5 +1,5 @@
 -- What a replay wrote on its way, and at its end.
-use Rattle.std.proofs.Common.{◌≡◌, ℕ, List, [], ◌∷◌, ◌++◌, Option, Result, Ok, Err, refl, sym, ◌∙◌, ap, append_assoc, append-nil, length, take, drop, map, None, Some}
+use Rattle.std.proofs.Common.{◌≡◌, ℕ, List, [], ◌∷◌, ◌++◌, Option, Result, Ok, Err, sym, ◌∙◌, ap, append_assoc, append-nil, length, take, drop, None, Some}
 use Rattle.std.specs.List.{flat_map}
 use Rattle.std.specs.Result.{IfErr, IsErrAnd, OnOk}
 use Rattle.std.specs.Io.KnownBytes.{Appends, Keeps}
@@ -7,9 +7,8 @@ use Rattle.std.proofs.lemmas.Grind.{flat_map-append}
 use Rattle.std.proofs.Math.Seq.{take-append_seam, take-length}
 use Rattle.std.proofs.lemmas.List.{take-append-drop}
 use Rattle.esx_types.specs.declared.config.Config.{Config}
-use Rattle.esx_events.specs.declared.call.Line.{Line}
 use Rattle.esx_events.specs.declared.call.Call.TheVariants.{Table}
-use Rattle.esx_model.specs.Console.{Session, next_reply, lined}
+use Rattle.esx_model.specs.Console.{Session, next_reply}
 use Rattle.esx_replies.specs.Replies.{reply_text}
 use Rattle.esx_session.specs.declared.session.Entry.{Entry}
 use Rattle.esx_writing.specs.Writing.{WritesFront}
@@ -109,8 +108,7 @@ flush_fails (Ok v) site entries a b c p w k = (replay_text site entries, [], sym
 flush_fails (Err Write) site entries a b c p w k = (w.0, w.1, w.2, keeps_on a b c _ w.3 k)
 flush_fails (Err OutOfMemory) site entries a b c p w k =
     let all = front site (take w.0 entries) (drop w.0 entries) in
-    let whole : replies_text site entries ≡ replies_text site (take w.0 entries) ++ all.rest = ap (replies_text site) (sym (take-append-drop w.0 entries)) ∙ all.text in
-    (
+    let whole : replies_text site entries ≡ replies_text site (take w.0 entries) ++ all.rest = ap (replies_text site) (sym (take-append-drop w.0 entries)) ∙ all.text in (
       replies_text site (take w.0 entries),
       all.rest ++ table_after site entries,
       ap (λ v. v ++ table_after site entries) whole ∙ append_assoc (replies_text site (take w.0 entries)) all.rest (table_after site entries),

@@ -43,7 +43,10 @@ fn words(rt: HostRuntime) -> Result<(), Fail> {
     ];
     for (line, wanted) in &rows {
         let words = words_of(alloc, *line)?;
-        assert!(rt; asked_of_words(alloc, words.as_slice()) == *wanted, "{line}");
+        assert!(rt;
+            asked_of_words(alloc, words.as_slice()) == *wanted,
+            "{line}"
+        );
     }
     Ok(())
 }

@@ -1,7 +1,7 @@
 use Rattle.std.proofs.Common.{◌≡◌, inl, ap, sym, ◌∙◌, Some, codes, map, string_bytes, option_map}
-use Rattle.clap.specs.Words.{first_of, found_of, is_simple, rows_of, subcommand_of, subcommand_rows_of, takes}
+use Rattle.clap.specs.Words.{found_of, is_simple, subcommand_of, subcommand_rows_of, takes}
 use Rattle.clap.proofs.WalkLemmas.{first_value-rows}
-use Rattle.esx_plan.specs.Words.{asked_at, asked_by, asked_in, word_and_file}
+use Rattle.esx_plan.specs.Words.{asked_at, asked_by}
 use Rattle.esx_plan.proofs.WordLemmas.{asked_ok, asked_not, both_of, name_of, not_true}
 use Rattle.esx_plan.proofs.words.asked_of_words.Goals as goal
 
