@@ -139,11 +139,7 @@ fn put_after_word<W: Sink>(sink: &mut W, held: &mut AnswerBuffer) -> Result<(), 
 }
 
 /// The sum after them.
-pub fn put_after<W: Sink>(
-    sink: &mut W,
-    held: &mut AnswerBuffer,
-    sum: Sum,
-) -> Result<(), SinkFailed>
+pub fn put_after<W: Sink>(sink: &mut W, held: &mut AnswerBuffer, sum: Sum) -> Result<(), SinkFailed>
     ensures bytes { Puts (W.contents sink.old) held.old (W.contents sink.new) held.new (after_text sum) result }
     ensures utf8 { OnOk result (IsUtf8 (after_text sum)) }
     ensures failures { W.failures sink.new ≡ W.failures sink.old + sink_faults result }
