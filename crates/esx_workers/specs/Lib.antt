@@ -5,6 +5,8 @@ pub mod Swapping
 pub mod Policing
 pub mod Passed
 pub mod Visiting
+pub mod Workers
+pub mod Runs
 pub use Rattle.esx_door.specs.Own
 pub use Rattle.rand_pcg.specs.Lcg
 pub use Rattle.rand_pcg.specs.Pcg

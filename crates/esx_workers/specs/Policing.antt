@@ -4,7 +4,7 @@ use Rattle.esx_events.specs.declared.call.Call.{Call}
 use Rattle.esx_events.specs.declared.call.Call.TheVariants.{Do}
 use Rattle.esx_events.specs.declared.event.Event.TheVariants.{Rebalance, Sample}
 use Rattle.esx_workers.specs.declared.machine.Machine.{Machine}
-use Rattle.esx_workers.specs.declared.policy.PolicyWorker.{PolicyWorker}
+use Rattle.esx_workers.specs.declared.policing.PolicyWorker.{PolicyWorker}
 use Rattle.esx_workers.specs.Draws.{words_of, after_words}
 
 -- a new period of the machine, with words that are drawn

@@ -5,7 +5,7 @@ use Rattle.esx_events.specs.declared.call.Call.{Call}
 use Rattle.esx_events.specs.declared.call.Call.TheVariants.{Do}
 use Rattle.esx_events.specs.declared.event.Event.TheVariants.{Scan}
 use Rattle.esx_workers.specs.declared.machine.Machine.{Machine}
-use Rattle.esx_workers.specs.declared.sharer.SharerWorker.{SharerWorker}
+use Rattle.esx_workers.specs.declared.sharing.SharerWorker.{SharerWorker}
 use Rattle.esx_workers.specs.Draws.{word, after_word}
 use Rattle.esx_workers.specs.Machines.{drawn, after_drawn}
 

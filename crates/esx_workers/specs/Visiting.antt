@@ -13,9 +13,9 @@ use Rattle.esx_scenario.specs.declared.plan.TraceLine.{TraceLine}
 use Rattle.esx_scenario.specs.declared.plan.TraceLine.TheVariants.{Read, Write, Ask, Lend, TakeBack}
 use Rattle.esx_workers.specs.declared.end.How.{How}
 use Rattle.esx_workers.specs.declared.end.How.TheVariants.{Done, Turns}
-use Rattle.esx_workers.specs.declared.guest.GuestWorker.{GuestWorker}
-use Rattle.esx_workers.specs.declared.guest.Step.{Step}
-use Rattle.esx_workers.specs.declared.guest.Step.TheVariants as step
+use Rattle.esx_workers.specs.declared.visiting.GuestWorker.{GuestWorker}
+use Rattle.esx_workers.specs.declared.visiting.Step.{Step}
+use Rattle.esx_workers.specs.declared.visiting.Step.TheVariants as step
 use Rattle.esx_workers.specs.Draws.{word, after_word}
 use Rattle.esx_workers.specs.Passed.{is_wait}
 

@@ -3,17 +3,21 @@
 
 pub mod draws;
 pub mod end;
-pub mod guest;
 pub mod machine;
 pub mod passed;
-pub mod policy;
-pub mod sharer;
-pub mod swapper;
+pub mod policing;
+pub mod running;
+pub mod sharing;
+pub mod swapping;
+pub mod visiting;
+pub mod worker;
 
-pub use draws::{draw, draw_words};
+pub use draws::{draw, draw_word, draw_words};
 pub use end::{End, How};
-pub use guest::{GuestWorker, Step};
 pub use machine::Machine;
-pub use policy::PolicyWorker;
-pub use sharer::SharerWorker;
-pub use swapper::SwapperWorker;
+pub use policing::PolicyWorker;
+pub use running::run;
+pub use sharing::SharerWorker;
+pub use swapping::SwapperWorker;
+pub use visiting::{GuestWorker, Step};
+pub use worker::Worker;

@@ -3,6 +3,7 @@
 ghost use Rattle.std.specs.Prelude.{◌≡◌, ◌≢◌, ◌↔◌, ◌+◌, ◌-◌, ◌<◌, ◌^◌, if◌then◌else◌, Some, IsTrue};
 ghost use Rattle.esx_workers.specs.Passed.{is_access, is_wait, is_refused, is_passed, first_of};
 
+use crate::end::{End, How};
 use esx_events::{Call, Event, Refusal, Reply, Said};
 
 /// Is it a read or a write?
@@ -56,5 +57,15 @@ impl Tally {
         let first = self.first.unwrap_or(reply.jumps);
         self.first = Some(first);
         reply.jumps != first
+    }
+
+    /// The end of a worker.
+    pub fn end(&self, how: How) -> End
+        ensures { result ≡ record { how = how; passed = self.now.passed } }
+    {
+        End {
+            how,
+            passed: self.passed,
+        }
     }
 }
