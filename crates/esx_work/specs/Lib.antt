@@ -1,0 +1,4 @@
+pub mod Doors
+pub mod Growth
+pub use Rattle.esx_door.specs.Own
+pub use Rattle.esx_desk.specs.Told

@@ -1,0 +1,6 @@
+//! Workers over a console that threads share.
+#![tactic(auto)]
+
+pub mod door;
+
+pub use door::{ConsoleDoor, DeskDoor};
