@@ -1,0 +1,100 @@
+-- A console may cross threads, and threads may share a desk. This is stated layer by layer: a search through all of a console ends at its limit.
+use denote.Param.Send.{IsSend, IsSync, sendable}
+use Rattle.std.proofs.Crossing as below
+use Rattle.std.proofs.alloc.Global.TheSendSync as Global
+use Rattle.esx_index.specs.contracts.free.FreeIndex as FreeIndex
+use Rattle.esx_index.proofs.free.FreeIndex.TheLaws.TheKnot as Knot
+use Rattle.esx_tables.specs.contracts.vm_table.VmTable as VmTable
+use Rattle.esx_tables.specs.contracts.tables.SiteTables as SiteTables
+use Rattle.esx_tables.specs.contracts.change.Change as Change
+use Rattle.esx_events.specs.contracts.event.Event as Event
+use Rattle.esx_events.specs.contracts.event.Answer as Answer
+use Rattle.esx_events.specs.contracts.event.Refusal as Refusal
+use Rattle.esx_events.specs.contracts.call.Call as Call
+use Rattle.esx_events.specs.contracts.call.Said as Said
+use Rattle.esx_events.specs.contracts.call.Line as Line
+use Rattle.atomic_table.proofs.badge.Badge.TheSendSync as Badge
+use Rattle.atomic_table.proofs.send_lease.SendLease.TheSendSync as SendLease
+use Rattle.atomic_table.proofs.shared.Shared.TheSendSync as Shared
+use Rattle.esx_console.specs.contracts.console.Console as Console
+use Rattle.esx_lock.specs.contracts.pass.Pass as Pass
+use Rattle.esx_desk.specs.contracts.legal.LegalConsole as LegalConsole
+use Rattle.esx_desk.specs.contracts.desk.Desk as Desk
+
+index_send : IsSend FreeIndex.the_row
+index_send = search (Knot.crosses, sendable, below.crosses) depth 60 fits 8000
+
+index_sync : IsSync FreeIndex.the_row
+index_sync = search (Knot.crosses, sendable, below.crosses) depth 60 fits 8000
+
+vm_send : IsSend VmTable.the_row
+vm_send = search (sendable, below.crosses) depth 60 fits 8000
+
+vm_sync : IsSync VmTable.the_row
+vm_sync = search (sendable, below.crosses) depth 60 fits 8000
+
+tables_send : IsSend SiteTables.the_row
+tables_send = search (index_send, vm_send, sendable, below.crosses) depth 60 fits 8000
+
+tables_sync : IsSync SiteTables.the_row
+tables_sync = search (index_sync, vm_sync, sendable, below.crosses) depth 60 fits 8000
+
+change_send : IsSend Change.the_row
+change_send = search (vm_send, sendable, below.crosses) depth 60 fits 8000
+
+change_sync : IsSync Change.the_row
+change_sync = search (vm_sync, sendable, below.crosses) depth 60 fits 8000
+
+event_send : IsSend (Event.the_field).row
+event_send = search (sendable, below.crosses) depth 60 fits 8000
+
+event_sync : IsSync (Event.the_field).row
+event_sync = search (sendable, below.crosses) depth 60 fits 8000
+
+call_send : IsSend (Call.the_field).row
+call_send = search (event_send, sendable, below.crosses) depth 60 fits 8000
+
+call_sync : IsSync (Call.the_field).row
+call_sync = search (event_sync, sendable, below.crosses) depth 60 fits 8000
+
+answer_send : IsSend (Answer.the_field).row
+answer_send = search (sendable, below.crosses) depth 60 fits 8000
+
+answer_sync : IsSync (Answer.the_field).row
+answer_sync = search (sendable, below.crosses) depth 60 fits 8000
+
+refusal_send : IsSend (Refusal.the_field).row
+refusal_send = search (sendable, below.crosses) depth 60 fits 8000
+
+refusal_sync : IsSync (Refusal.the_field).row
+refusal_sync = search (sendable, below.crosses) depth 60 fits 8000
+
+said_send : IsSend (Said.the_field).row
+said_send = search (answer_send, refusal_send, sendable, below.crosses) depth 60 fits 8000
+
+said_sync : IsSync (Said.the_field).row
+said_sync = search (answer_sync, refusal_sync, sendable, below.crosses) depth 60 fits 8000
+
+line_send : IsSend Line.the_row
+line_send = search (call_send, said_send, sendable, below.crosses) depth 60 fits 8000
+
+line_sync : IsSync Line.the_row
+line_sync = search (call_sync, said_sync, sendable, below.crosses) depth 60 fits 8000
+
+pub console_send : IsSend Console.the_row
+console_send = search (tables_send, change_send, line_send, sendable, below.crosses) depth 60 fits 8000
+
+pub console_sync : IsSync Console.the_row
+console_sync = search (tables_sync, change_sync, line_sync, sendable, below.crosses) depth 60 fits 8000
+
+legal_send : IsSend LegalConsole.the_row
+legal_send = search (console_send, sendable, below.crosses) depth 60 fits 8000
+
+pub desk_sync : IsSync Desk.the_row
+desk_sync = search (legal_send, Shared.the_sync, SendLease.the_sync, sendable, below.crosses) depth 60 fits 8000
+
+pub pass_send : IsSend Pass.the_row
+pass_send = search (Badge.the_send, sendable, below.crosses) depth 60 fits 8000
+
+-- for a function that starts threads at a desk
+pub ruleset crosses = (console_send, console_sync, desk_sync, pass_send, Global.the_send, Global.the_sync, below.crosses, sendable)
