@@ -1,6 +1,9 @@
 -- Events that are accepted in turn, or refused at one.
-use Rattle.std.proofs.Common.{◌≡◌, ◌⊎◌, inl, inr, ℕ, zero, suc, ◌+◌, ◌-◌, ◌<◌, List, [], ◌∷◌, ◌++◌, length, take, drop, map, replicate, get_or, append_assoc, append-nil, Result, Ok, Err, refl, sym, ap, ◌∙◌, subst, arith}
+use Rattle.std.proofs.Common.{◌≡◌, ◌⊎◌, inl, inr, ℕ, zero, suc, ◌+◌, ◌-◌, ◌<◌, List, [], ◌∷◌, ◌++◌, length, take, drop, map, replicate, get_or, append_assoc, append-nil, Result, Ok, Err, IfErr, refl, sym, ap, ◌∙◌, subst, arith}
+use Rattle.std.specs.Prelude.{IsErrAnd}
+use Rattle.std.specs.Borrow.{Bor}
 use Rattle.std.specs.List.{flat_map}
+use Rattle.std.proofs.lemmas.List.Folds.{flat_map-map}
 use Rattle.std.proofs.lemmas.List.{flat_map_more, take_more, take-append-drop}
 use Rattle.std.proofs.lemmas.Grind.{flat_map-append}
 use Rattle.esx_events.specs.declared.call.Call.TheVariants.{Do}
@@ -11,6 +14,7 @@ use Rattle.esx_events.specs.declared.event.Event.{Event}
 use Rattle.esx_events.specs.declared.event.Refusal.{Refusal}
 use Rattle.esx_model.specs.History.{History, do_event}
 use Rattle.esx_model.specs.Console.{Session, history, outcome, event_outcome, next_reply, lined}
+use Rattle.esx_scenario.specs.declared.plan.Guest.{Guest}
 use Rattle.esx_opening.specs.Openings.{IsAccepted, AreAccepted, IsRefusedAt}
 
 -- what is said to an event is an answer or a refusal
@@ -62,11 +66,11 @@ refused_more xs ys s r at = record {
 
 replicate_more : {A : Type 0} (n : ℕ) (x : A) → replicate n x ++ x ∷ [] ≡ replicate (suc n) x
 replicate_more zero x = refl
-replicate_more (suc n) x = ap (λ l. x ∷ l) (replicate_more n x)
+replicate_more {A = A} (suc n) x = ap (λ (l : List A). x ∷ l) (replicate_more n x)
 
 replicate_parts : {A : Type 0} (m n : ℕ) (x : A) → replicate m x ++ replicate n x ≡ replicate (m + n) x
-replicate_parts zero n x = ap (λ (k : ℕ). replicate k x) (omega arith)
-replicate_parts (suc m) n x = ap (λ l. x ∷ l) (replicate_parts m n x) ∙ ap (λ (k : ℕ). replicate k x) (omega arith)
+replicate_parts zero n x = let e : n ≡ 0 + n = omega arith in ap (λ (k : ℕ). replicate k x) e
+replicate_parts {A = A} (suc m) n x = let e : suc (m + n) ≡ suc m + n = omega arith in ap (λ (l : List A). x ∷ l) (replicate_parts m n x) ∙ ap (λ (k : ℕ). replicate k x) e
 
 -- one event over and over
 pub again_accepted : (e : Event) (i : ℕ) (s t u : Session) → AreAccepted (replicate i e) s t → AreAccepted (e ∷ []) t u → AreAccepted (replicate (i + 1) e) s u
@@ -85,12 +89,21 @@ module _ {A : Type 0} (f : A → List Event) where
   one_after : (xs : List A) (i : ℕ) (d : A) → i < length xs → flat_map f (take i xs) ++ f (get_or xs i d) ≡ flat_map f (take (i + 1) xs)
   one_after xs i d lt = flat_map_more f [] (take i xs) (get_or xs i d) ∙ ap (flat_map f) (sym (take_more xs i d lt))
 
-  pub each_accepted : (xs : List A) (i : ℕ) (d : A) (s t u : Session) → i < length xs → AreAccepted (flat_map f (take i xs)) s t → AreAccepted (f (get_or xs i d)) t u → AreAccepted (flat_map f (take (i + 1) xs)) s u
-  each_accepted xs i d s t u lt g h = subst (λ (l : List Event). AreAccepted l s u) (one_after xs i d lt) (accepted_on (flat_map f (take i xs)) (f (get_or xs i d)) s t u g h)
+  pub each_accepted : (xs : List A) (i : ℕ) (x : A) (s t u : Session) → i < length xs → x ≡ get_or xs i x → AreAccepted (flat_map f (take i xs)) s t → AreAccepted (f x) t u → AreAccepted (flat_map f (take (i + 1) xs)) s u
+  each_accepted xs i x s t u lt is g h = subst (λ (l : List Event). AreAccepted l s u) (one_after xs i x lt) (accepted_on (flat_map f (take i xs)) (f (get_or xs i x)) s t u g (subst (λ (y : A). AreAccepted (f y) t u) is h))
 
-  pub each_refused : (xs : List A) (i : ℕ) (d : A) (s t : Session) (r : Refusal) → i < length xs → AreAccepted (flat_map f (take i xs)) s t → IsRefusedAt (f (get_or xs i d)) t r → IsRefusedAt (flat_map f xs) s r
-  each_refused xs i d s t r lt g at =
+  pub each_refused : (xs : List A) (i : ℕ) (x : A) (s t : Session) (r : Refusal) → i < length xs → x ≡ get_or xs i x → AreAccepted (flat_map f (take i xs)) s t → IsRefusedAt (f x) t r → IsRefusedAt (flat_map f xs) s r
+  each_refused xs i x s t r lt is g at =
       let rest : List Event = flat_map f (drop (i + 1) xs) in
       let whole : flat_map f (take (i + 1) xs) ++ rest ≡ flat_map f xs = sym (flat_map-append f (take (i + 1) xs) (drop (i + 1) xs)) ∙ ap (flat_map f) (take-append-drop (i + 1) xs) in
-      subst (λ (l : List Event). IsRefusedAt l s r) (ap (λ (l : List Event). l ++ rest) (one_after xs i d lt) ∙ whole)
-      (refused_more (flat_map f (take i xs) ++ f (get_or xs i d)) rest s r (refused_on (flat_map f (take i xs)) (f (get_or xs i d)) s t r g at))
+      subst (λ (l : List Event). IsRefusedAt l s r) (ap (λ (l : List Event). l ++ rest) (one_after xs i x lt) ∙ whole)
+      (refused_more (flat_map f (take i xs) ++ f (get_or xs i x)) rest s r (refused_on (flat_map f (take i xs)) (f (get_or xs i x)) s t r g (subst (λ (y : A). IsRefusedAt (f y) t r) is at)))
+
+-- an error that is handed on
+pub handed_on : {T E : Type 0} (r : Result T E) (x : E) (P : E → Type 0) → IsErrAnd r (λ y. y ≡ x) → P x → IfErr r P
+handed_on (Ok a) x P same p = tt
+handed_on (Err e) x P same p = subst P (sym same) p
+
+-- the machines behind references
+pub behind : (f : Guest → List Event) (refs : List (Bor Guest)) (guests : List Guest) → map (λ g. g.now) refs ≡ guests → flat_map (λ g. f g.now) refs ≡ flat_map f guests
+behind f refs guests e = sym (flat_map-map f (λ (g : Bor Guest). g.now) refs) ∙ ap (flat_map f) e
