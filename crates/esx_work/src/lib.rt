@@ -2,5 +2,6 @@
 #![tactic(auto)]
 
 pub mod door;
+pub mod run;
 
 pub use door::{ConsoleDoor, DeskDoor};
