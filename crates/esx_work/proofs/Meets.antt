@@ -1,7 +1,7 @@
 -- What threads give back, and what their passes know together.
 use Rattle.std.proofs.Common.{◌≡◌, ◌⊎◌, ◌<◌, ◌≤◌, ℕ, zero, suc, ◌+◌, ◌||◌, Bool, true, false, List, [], ◌∷◌, ◌++◌, length, length-append, append_assoc, append-nil, slice_get, slice_index, get_or, remove, Option, Some, None, Result, Ok, Err, IfOk, refl, sym, ap, ◌∙◌, subst, inl, inr, ⊎_elim, arith}
 use Rattle.std.specs.Option.{option_to_list}
-use Rattle.std.proofs.lemmas.Option.{slice_get_cases, slice_get_within, slice_get-get_or}
+use Rattle.std.proofs.lemmas.Option.{slice_get_cases, slice_get_within, slice_get-get_or, slice_get_read}
 use Rattle.std.proofs.lemmas.List.{append_cancel_left}
 use native.Mathlib.Decide.{ℕ_discrete}
 use mathlib.Core.Logic.{dite}
@@ -170,3 +170,26 @@ module _ {A : Type 0} where
   pub one_less : (xs ys : List A) → ys ≡ remove xs 0 → 0 < length xs → length ys + 1 ≡ length xs
   one_less [] ys e some = absurd (omega arith)
   one_less (x ∷ xs) ys e some = let same : length ys ≡ length xs = ap length e in omega arith
+
+module _ {A : Type 0} where
+  -- what is left after the first was taken
+  pub left_on : (all xs ys : List A) (i n : ℕ) → ys ≡ remove xs 0 → length xs + i ≡ n → i < n → ((j : ℕ) (p : A) → slice_get xs j ≡ Some p → slice_get all (i + j) ≡ Some p)
+      → (length ys + (i + 1) ≡ n) × ((j : ℕ) (p : A) → slice_get ys j ≡ Some p → slice_get all (i + 1 + j) ≡ Some p)
+  left_on all xs ys i n e many lt left =
+      let few : length ys + 1 ≡ length xs = one_less xs ys e (omega arith) in (
+        omega arith,
+        (λ j p at. let more : i + suc j ≡ i + 1 + j = omega arith in subst (λ (k : ℕ). slice_get all k ≡ Some p) more (left (suc j) p (get_without_first xs j p (ap (λ (l : List A). slice_get l j) (sym e) ∙ at)))),
+      )
+
+  pub first_left : (all xs : List A) (i n : ℕ) (x : A) → length xs + i ≡ n → i < n → ((j : ℕ) (p : A) → slice_get xs j ≡ Some p → slice_get all (i + j) ≡ Some p) → x ≡ get_or xs 0 x → slice_get all i ≡ Some x
+  first_left all xs i n x many lt left is =
+      let some : 0 < length xs = omega arith in
+      let none : i + 0 ≡ i = omega arith in
+      subst (λ (k : ℕ). slice_get all k ≡ Some x) none (left 0 x (slice_get_read xs (length xs) 0 x refl some is))
+
+  -- one more at the end
+  pub end_on : (Q : ℕ → A → Type 0) (xs ys : List A) (x : A) (i : ℕ) → ys ≡ xs ++ x ∷ [] → length xs ≡ i → Q i x → ((j : ℕ) (y : A) → slice_get xs j ≡ Some y → Q j y) → (j : ℕ) (y : A) → slice_get ys j ≡ Some y → Q j y
+  end_on Q xs ys x i e many here before j y at = ⊎_elim
+      (λ (c : slice_get xs j ≡ Some y). before j y c)
+      (λ (c : (j ≡ length xs) × (x ≡ y)). let same : i ≡ j = sym many ∙ sym c.0 in subst (λ (z : A). Q j z) c.1 (subst (λ (k : ℕ). Q k x) same here))
+      (end_cases xs x y j (ap (λ (l : List A). slice_get l j) (sym e) ∙ at))
