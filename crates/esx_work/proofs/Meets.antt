@@ -193,3 +193,60 @@ module _ {A : Type 0} where
       (λ (c : slice_get xs j ≡ Some y). before j y c)
       (λ (c : (j ≡ length xs) × (x ≡ y)). let same : i ≡ j = sym many ∙ sym c.0 in subst (λ (z : A). Q j z) c.1 (subst (λ (k : ℕ). Q k x) same here))
       (end_cases xs x y j (ap (λ (l : List A). slice_get l j) (sym e) ∙ at))
+
+-- the threads of passes that a desk opened with, which are the tasks'
+module _ {T G : Type 0} (pass : T → Known) (gate : T → G) (worker : T → Worker) (turns : T → ℕ) (is_open : G → Type 0) (desk : LockView) (n : ℕ) (opened : Session) (passes : List Known) (tasks : List T)
+    (are : AreOpened desk.table n opened.site opened.log passes) (made : (i : ℕ) (t : T) → slice_get tasks i ≡ Some t → slice_get passes i ≡ Some (pass t)) where
+  pub all_can : desk.callers ≡ n → length tasks ≡ n → (k : ℕ) (d : T) → k < length tasks → CanRun desk (pass (get_or tasks k d))
+  all_can e len k d lt = can_run desk n opened.site opened.log k (pass (get_or tasks k d)) e (are k (pass (get_or tasks k d)) (made k (get_or tasks k d) (slice_get-get_or tasks k d lt))) (subst (λ (m : ℕ). k < m) len lt)
+
+  module _ (all : List Finished) (many : length all ≡ length tasks) (each : (i : ℕ) (t : T) (f : Finished) → slice_get tasks i ≡ Some t → slice_get all i ≡ Some f → Ran (is_open (gate t)) desk (pass t) (worker t) (turns t) f) where
+    task_at : (i : ℕ) → i < length all → (t : T) × (slice_get tasks i ≡ Some t)
+    task_at i lt = ⊎_elim
+        (λ (t : (x : T) × (i < length tasks) × (slice_get tasks i ≡ Some x) × (get_or tasks i x ≡ x)). (t.0, t.2))
+        (λ (t : (length tasks ≤ i) × (slice_get tasks i ≡ None)). let past : length tasks ≤ i = t.0 in absurd (omega arith))
+        (slice_get_cases tasks i).1
+
+    pub all_returned : AreReturned desk opened all
+    all_returned i f at = let t = task_at i (slice_get_within all i f at) in returned_as (is_open (gate t.0)) desk n opened i (pass t.0) (worker t.0) (turns t.0) f (are i (pass t.0) (made i t.0 t.1)) (each i t.0 f t.1 at)
+
+    finished_at : (i : ℕ) → i < length all → (f : Finished) × (slice_get all i ≡ Some f)
+    finished_at i lt = ⊎_elim
+        (λ (t : (x : Finished) × (i < length all) × (slice_get all i ≡ Some x) × (get_or all i x ≡ x)). (t.0, t.2))
+        (λ (t : (length all ≤ i) × (slice_get all i ≡ None)). let past : length all ≤ i = t.0 in absurd (omega arith))
+        (slice_get_cases all i).1
+
+    -- what a caller's lines are, where its worker was not ended by want of memory
+    run_at : (k : ℕ) (e : End) (t : T) (f : Finished) → slice_get tasks k ≡ Some t → slice_get all k ≡ Some f → f.ended ≡ Ok e → (later : List Line) → AreOwn opened k f later → IsRun (is_open (gate t)) k (worker t) (turns t) e (lines_of k later)
+    run_at k e t f at there ended later own =
+        let r = each k t f at there in
+        let o = are k (pass t) (made k t at) in
+        let grown : opened.log ++ r.later ≡ f.pass.view.seen = ap (λ (l : List Line). l ++ r.later) (sym o.1.1) ∙ r.grown in
+        let same : own.0 ≡ r.later = append_cancel_left opened.log own.0 r.later (own.1 ∙ sym grown) in
+        let run : IsRun (is_open (gate t)) k (worker t) (turns t) e (lines_of k r.later) =
+        if_ok_at (λ end. IsRun (is_open (gate t)) k (worker t) (turns t) end (lines_of k r.later)) f.ended e ended (r.done k (one_least desk.table n opened.site opened.log k (pass t) o)) in
+        subst (IsRun (is_open (gate t)) k (worker t) (turns t) e) (sym (own.2 ∙ ap (lines_of k) same)) run
+
+    -- the console that the desk closes with
+    pub runs_on : (workers : List Worker) (gates : List G) (most : ℕ) (ends : List End) (p : Known) (closed : Session) → desk.callers ≡ n → length tasks ≡ n
+        → ((i : ℕ) (t : T) → slice_get tasks i ≡ Some t → (slice_get gates i ≡ Some (gate t)) × (slice_get workers i ≡ Some (worker t)) × (turns t ≡ most))
+        → length ends ≡ length all → AllEnded all ends → Knows desk opened all 0 p → closed.site ≡ p.view.site → closed.log ≡ p.view.seen
+        → RunsOn opened n (λ k e lines. (w : Worker) (y : G) → slice_get workers k ≡ Some w → slice_get gates k ≡ Some y → IsRun (is_open y) k w most e lines) ends closed
+    runs_on workers gates most ends p closed callers len at_place ended_many ended known site log = record {
+      site = site ∙ known.site;
+      later = known.later;
+      log = known.grown ∙ sym log;
+      below = subst (λ (m : ℕ). Callers (λ k. k < m) known.later) callers known.below;
+      runs = λ k e at w y w_at y_at.
+          let within : k < length ends = slice_get_within ends k e at in
+          let lt : k < length all = omega arith in
+          let below : k < desk.callers = omega arith in
+          let t = task_at k lt in
+          let f = finished_at k lt in
+          let place = at_place k t.0 t.1 in
+          let same_gate : gate t.0 ≡ y = some_same (gate t.0) y (sym place.0 ∙ y_at) in
+          let same_worker : worker t.0 ≡ w = some_same (worker t.0) w (sym place.1 ∙ w_at) in
+          let run = run_at k e t.0 f.0 t.1 f.1 (ended k f.0 e f.1 at) known.later (known.runs k f.0 (known.covers k (omega arith) below) f.1) in
+          subst (λ (m : ℕ). IsRun (is_open y) k w m e (lines_of k known.later)) place.2
+          (subst (λ (v : Worker). IsRun (is_open y) k v (turns t.0) e (lines_of k known.later)) same_worker (subst (λ (z : G). IsRun (is_open z) k (worker t.0) (turns t.0) e (lines_of k known.later)) same_gate run));
+    }

@@ -33,3 +33,27 @@ pub fn run_all<'a, R: Threads + Wait + Sync, G: Gate + Send + Drop>(
     { run_one(rt, alloc, desk, task) };
     thread::map_vec(rt, tasks, &work)
 }
+
+/// Runs a worker as each caller of a desk over an opened console, with the gate at its place, and closes the desk.
+/// The log goes on with the lines of these workers' runs, and no other line.
+pub fn run_workers<'a, R: Threads + Wait + Sync, G: Gate + Send + Drop>(
+    rt: &R,
+    alloc: Global,
+    console: Console,
+    workers: Vec<Worker<'a>>,
+    gates: Vec<G>,
+    turns: u32,
+) -> Result<(Console, Vec<End>), AllocError>
+    requires callers { (0 < length workers.items) × (length workers.items ≤ CALLERS) }
+    requires gates { length gates.items ≡ length workers.items }
+    ensures ends { IfOk result (λ r. length r.1.items ≡ length workers.entry.items) }
+    ensures runs { IfOk result (λ r. RunsOn console (length workers.entry.items) (λ k e lines. (w : _) (gate : _) → slice_get workers.entry.items k ≡ Some w → slice_get gates.items k ≡ Some gate → IsRun (G.is_open gate) k w turns e lines) r.1.items r.0) }
+{
+    let opened = Snapshot::of(&console);
+    let (desk, passes) = Desk::over(alloc, console, workers.len())?;
+    let tasks = tasks_of(alloc, passes, gates, workers, turns)?;
+    let finished = run_all(rt, alloc, &desk, tasks)?;
+    let ends = ends_of(alloc, &finished)?;
+    let pass = meet_all(&desk, &opened, finished);
+    Ok((desk.close(pass), ends))
+}
