@@ -1,6 +1,6 @@
 -- The workers of a scenario.
 use Rattle.std.proofs.Common.{◌≡◌, ◌∙◌, ◌<◌, ◌≤◌, ◌+◌, ℕ, zero, suc, List, [], ◌∷◌, ◌++◌, length, map, take, get_or, slice_get, Option, Some, None, All, filter, refl, sym, ap, subst, ⊎_elim, arith}
-use Rattle.std.proofs.lemmas.List.{map-append, take_more, length-map}
+use Rattle.std.proofs.lemmas.List.{map-append, take_all, take_more, length-map}
 use Rattle.std.proofs.lemmas.List.Elements.{All-append, All-filter, All-map}
 use Rattle.std.proofs.Math.ListN.{get_or-map}
 use Rattle.std.proofs.lemmas.Option.{slice_get-map, slice_get_read, slice_get_cases, slice_get_within}
@@ -32,6 +32,14 @@ machine_more refs i x ms ms' m lt is e told so_far =
     let wanted : Bor Guest → ℕ × ℕ = λ g. wanted_of g.now in
     ap (map told_of) e ∙ (map-append told_of ms (m ∷ []) ∙ (ap (λ (l : List (ℕ × ℕ)). l ++ told_of m ∷ []) so_far ∙ (ap (λ (t : ℕ × ℕ). map wanted (take i refs) ++ t ∷ []) (told ∙ ap wanted is)
     ∙ (sym (map-append wanted (take i refs) (get_or refs i x ∷ [])) ∙ ap (map wanted) (sym (take_more refs i x lt))))))
+
+wanted_behind : (refs : List (Bor Guest)) → map (λ g. wanted_of g.now) refs ≡ map wanted_of (map (λ g. g.now) refs)
+wanted_behind [] = refl
+wanted_behind (x ∷ xs) = ap (λ (l : List (ℕ × ℕ)). wanted_of x.now ∷ l) (wanted_behind xs)
+
+-- the machines are all there
+pub machines_all : (refs : List (Bor Guest)) (i : ℕ) (ms : List Machine) → length refs ≤ i → map told_of ms ≡ map (λ g. wanted_of g.now) (take i refs) → AreMachines (map (λ g. g.now) refs) ms
+machines_all refs i ms past so_far = so_far ∙ (ap (λ (l : List (Bor Guest)). map (λ (g : Bor Guest). wanted_of g.now) l) (take_all i refs past) ∙ wanted_behind refs)
 
 -- a guest at its place is the worker at its place
 pub guest_works : (s : Settings) (gs : List Guest) (ms : List Machine) (i : ℕ) (w : Worker) → IsGuestAt s.seed gs i w → IsWorker s gs ms i w

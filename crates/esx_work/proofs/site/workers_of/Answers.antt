@@ -1,4 +1,4 @@
-use Rattle.std.proofs.Common.{◌≡◌, ◌∙◌, ◌+◌, ℕ, List, map, ap, sym, length, length-append, refl, arith}
+use Rattle.std.proofs.Common.{◌≡◌, ◌∙◌, ◌+◌, ℕ, List, Some, map, ap, sym, slice_get, length, length-append, refl, arith}
 use Rattle.std.proofs.lemmas.List.{length-map}
 use Rattle.std.specs.Borrow.{Bor}
 use Rattle.esx_scenario.specs.declared.plan.Guest.{Guest}
@@ -21,7 +21,7 @@ returns c =
     let three : length c.push-3.new.self.items ≡ n + 2 + 1 = ap length c.in_ok-push-3.ensures.items ∙ (length-append c.push-2.new.self.items _ ∙ ap (λ (k : ℕ). k + 1) (two ∙ two_is)) in
     let three_is : n + 2 + 1 ≡ n + 3 = omega arith in
     let Q : ℕ → Worker → Type 0 = λ i w. IsWorker c.args.settings gs c.args.machines.now i w in
-    let guests = (λ (i : ℕ) (w : Worker) at. guest_works c.args.settings gs c.args.machines.now i w (c.in_ok-workers.ensures.each i w at)) in record {
+    let guests : (i : ℕ) (w : Worker) → slice_get c.in_ok-workers.workers.items i ≡ Some w → Q i w = (λ i w at. guest_works c.args.settings gs c.args.machines.now i w (c.in_ok-workers.ensures.each i w at)) in record {
       many = three ∙ three_is;
       each = end_on Q c.push-2.new.self.items c.push-3.new.self.items _ (n + 2) c.in_ok-push-3.ensures.items (two ∙ two_is) (ap (λ (k : ℕ). k + 2) many, refl, refl, refl, refl, c.generator-3.ensures)
           (end_on Q c.push.new.self.items c.push-2.new.self.items _ (n + 1) c.in_ok-push-2.ensures.items one (ap (λ (k : ℕ). k + 1) many, refl, c.generator-2.ensures)
