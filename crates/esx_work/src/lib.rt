@@ -5,6 +5,8 @@ pub mod crew;
 pub mod door;
 pub mod run;
 pub mod site;
+#[cfg(test)]
+mod tests;
 
 pub use door::{ConsoleDoor, DeskDoor};
 pub use esx_door::{Door, Gate, Open};

@@ -116,12 +116,5 @@ pub fn run_site<R: Threads + Wait + Sync, G: Gate + Send + Drop>(
     let machines = machines_of(alloc, &guests)?;
     let settings = scenario.settings();
     let workers = workers_of(alloc, settings, &guests, &machines)?;
-    Ok(run_workers(
-        rt,
-        alloc,
-        console,
-        workers,
-        gates,
-        settings.turns,
-    )?)
+    Ok(run_workers(rt, alloc, console, workers, gates, settings.turns)?)
 }

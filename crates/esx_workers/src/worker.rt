@@ -4,10 +4,10 @@ ghost use Rattle.std.specs.Prelude.{◌≡◌, IfOk, OnOk};
 ghost use Rattle.esx_workers.specs.Workers.{asks, asked, hears, rest};
 
 use crate::end::How;
-use crate::visiting::GuestWorker;
 use crate::policing::PolicyWorker;
 use crate::sharing::SharerWorker;
 use crate::swapping::SwapperWorker;
+use crate::visiting::GuestWorker;
 use esx_events::{Call, Reply};
 use std::alloc::{AllocError, Global};
 

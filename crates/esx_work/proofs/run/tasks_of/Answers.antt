@@ -21,10 +21,10 @@ loop-preserved g c =
       gates.1,
       workers.1,
       end_on (λ (j : ℕ) (t : Task g.row.G.Denot). (slice_get c.args.passes.items j ≡ Some t.pass) × (slice_get c.args.gates.items j ≡ Some t.gate) × (slice_get c.args.workers.items j ≡ Some t.worker) × (t.turns ≡ c.args.turns))
-      c.loop.tasks.items c.push.new.self.items _ i items inv.3 (
-        first_left c.args.passes.items c.loop.passes.items i n c.remove.result inv.0 lt inv.4 c.remove.ensures.value,
-        first_left c.args.gates.items c.loop.gates.items i n c.remove-in-loop.result inv.1 lt inv.5 c.remove-in-loop.ensures.value,
-        first_left c.args.workers.items c.loop.workers.items i n c.remove-in-loop-2.result inv.2 lt inv.6 c.remove-in-loop-2.ensures.value,
-        refl,
-      ) inv.7,
+          c.loop.tasks.items c.push.new.self.items _ i items inv.3 (
+            first_left c.args.passes.items c.loop.passes.items i n c.remove.result inv.0 lt inv.4 c.remove.ensures.value,
+            first_left c.args.gates.items c.loop.gates.items i n c.remove-in-loop.result inv.1 lt inv.5 c.remove-in-loop.ensures.value,
+            first_left c.args.workers.items c.loop.workers.items i n c.remove-in-loop-2.result inv.2 lt inv.6 c.remove-in-loop-2.ensures.value,
+            refl,
+          ) inv.7,
     )

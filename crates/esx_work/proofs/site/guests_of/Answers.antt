@@ -14,5 +14,5 @@ loop-place-preserved c =
     let items = c.in_ok-push.ensures.items in (
       ap length items ∙ (length-append c.loop-place.workers.items _ ∙ ap (λ (k : ℕ). k + 1) c.loop-place.invariant.0),
       end_on (λ (j : ℕ) (w : Worker). IsGuestAt c.args.seed (map (λ (g : Bor Guest). g.now) refs) j w) c.loop-place.workers.items c.push.new.self.items _ c.loop-place.place items c.loop-place.invariant.0
-      (x.now, guest_at refs c.loop-place.place x c.loop-place-test.true c.index-guests-place.is, refl, c.as_slice.ensures, refl, refl, c.generator.ensures) c.loop-place.invariant.1,
+          (x.now, guest_at refs c.loop-place.place x c.loop-place-test.true c.index-guests-place.is, refl, c.as_slice.ensures, refl, refl, c.generator.ensures) c.loop-place.invariant.1,
     )

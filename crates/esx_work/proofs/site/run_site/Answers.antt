@@ -39,9 +39,9 @@ returns-clause-runs g c =
       c.in_ok-console.console,
       c.in_ok-console.ensures.ok,
       runs_for c.in_ok-console.console (length staff) (length p.guests + 3)
-      (λ (k : ℕ) (e : End) (lines : List Line). (w : Worker) (y : g.row.G.Denot) → slice_get staff k ≡ Some w → slice_get gates k ≡ Some y → IsRun (g.G.Gate.is_open y) k w settings.turns e lines)
-      (λ (k : ℕ) (e : End) (lines : List Line). (y : g.row.G.Denot) → slice_get gates k ≡ Some y → IsRunOf p (g.G.Gate.is_open y) k e lines)
-      ends c.in_ok-run_workers.field-0.0 many
-      (run_of g.G.Gate.is_open p settings c.settings-settings.ensures (map (λ (g : Bor Guest). g.now) refs) order c.deref-3.result.now are staff c.in_ok-workers.ensures.each gates ends c.in_ok-run_workers.ensures.ends)
-      c.in_ok-run_workers.ensures.runs,
+          (λ (k : ℕ) (e : End) (lines : List Line). (w : Worker) (y : g.row.G.Denot) → slice_get staff k ≡ Some w → slice_get gates k ≡ Some y → IsRun (g.G.Gate.is_open y) k w settings.turns e lines)
+          (λ (k : ℕ) (e : End) (lines : List Line). (y : g.row.G.Denot) → slice_get gates k ≡ Some y → IsRunOf p (g.G.Gate.is_open y) k e lines)
+          ends c.in_ok-run_workers.field-0.0 many
+          (run_of g.G.Gate.is_open p settings c.settings-settings.ensures (map (λ (g : Bor Guest). g.now) refs) order c.deref-3.result.now are staff c.in_ok-workers.ensures.each gates ends c.in_ok-run_workers.ensures.ends)
+          c.in_ok-run_workers.ensures.runs,
     )

@@ -21,12 +21,12 @@ loop-turn-preserved g c =
       g.met.D.Door.leads_on c.args.door.now c.loop-turn.door c.submit.new.self inv.1 c.submit.ensures.leads,
       c.submit.ensures.caller ∙ inv.2,
       running_more _ _ _ _ _ _ _ _ inv.3 call reply _
-      (subst (λ (k : ℕ). lines_of k (g.D.Door.seen c.submit.new.self) ≡ lines_of k (g.D.Door.seen c.loop-turn.door) ++ line k call reply ∷ []) inv.2 c.in_ok-reply.ensures.ok)
-      asks_it c.hear.new.self c.hear-in-loop-turn.new.self.first c.hear-in-loop-turn.new.self.passed
-      (c.hear.ensures ∙ ap (λ (v : Worker). hears v reply) c.in_ok-call.ensures.asked)
-      c.if-hear.ensures.first
-      (c.if-hear.ensures.passed ∙ ap (λ (b : Bool). c.loop-turn.tally.passed + cond (is_passed b reply.said) 1 0) c.is_access-access.ensures)
-      (not_other false _ _ refl c.if-hear.ensures.jumped),
+          (subst (λ (k : ℕ). lines_of k (g.D.Door.seen c.submit.new.self) ≡ lines_of k (g.D.Door.seen c.loop-turn.door) ++ line k call reply ∷ []) inv.2 c.in_ok-reply.ensures.ok)
+          asks_it c.hear.new.self c.hear-in-loop-turn.new.self.first c.hear-in-loop-turn.new.self.passed
+          (c.hear.ensures ∙ ap (λ (v : Worker). hears v reply) c.in_ok-call.ensures.asked)
+          c.if-hear.ensures.first
+          (c.if-hear.ensures.passed ∙ ap (λ (b : Bool). c.loop-turn.tally.passed + cond (is_passed b reply.said) 1 0) c.is_access-access.ensures)
+          (not_other false _ _ refl c.if-hear.ensures.jumped),
       (λ o. (c.pass_through.ensures (inv.4 o)).1),
     )
 
