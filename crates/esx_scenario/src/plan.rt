@@ -89,7 +89,8 @@ impl Scenario {
 
     /// The virtual machines, in the order of the text.
     pub fn guests(&self) -> &[Guest]
-        ensures { result.now ≡ self.now.guests }
+        ensures same { result.now ≡ self.now.guests }
+        ensures good { IsPlan self.now }
     {
         self.guests.as_slice()
     }

@@ -1,0 +1,2 @@
+pub mod HowMany
+pub mod InTurn

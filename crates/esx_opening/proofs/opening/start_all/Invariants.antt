@@ -1,0 +1,7 @@
+use Rattle.std.proofs.Common.{take}
+use Rattle.std.specs.List.{flat_map}
+use Rattle.esx_opening.specs.Openings.{AreAccepted, starts_of}
+use Rattle.esx_opening.proofs.opening.start_all.Given as goal
+
+abbrev pub invariant-loop-guest : goal.invariant-loop-guest
+invariant-loop-guest l = AreAccepted (flat_map (λ g. starts_of g.now) (take l.guest-index l.guests)) l.initial.console l.console

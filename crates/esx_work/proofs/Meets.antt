@@ -1,0 +1,252 @@
+-- What threads give back, and what their passes know together.
+use Rattle.std.proofs.Common.{◌≡◌, ◌⊎◌, ◌<◌, ◌≤◌, ℕ, zero, suc, ◌+◌, ◌||◌, Bool, true, false, List, [], ◌∷◌, ◌++◌, length, length-append, append_assoc, append-nil, slice_get, slice_index, get_or, remove, Option, Some, None, Result, Ok, Err, IfOk, refl, sym, ap, ◌∙◌, subst, inl, inr, ⊎_elim, arith}
+use Rattle.std.specs.Option.{option_to_list}
+use Rattle.std.proofs.lemmas.Option.{slice_get_cases, slice_get_within, slice_get-get_or, slice_get_read}
+use Rattle.std.proofs.lemmas.List.{append_cancel_left}
+use native.Mathlib.Decide.{ℕ_discrete}
+use mathlib.Core.Logic.{dite}
+use Rattle.atomic_table.specs.Seated.{TableId}
+use Rattle.esx_types.specs.declared.ids.Ids.{Ids}
+use Rattle.esx_types.specs.declared.config.Config.{Config}
+use Rattle.esx_events.specs.declared.call.Line.{Line}
+use Rattle.esx_types.specs.Ids.{has, IsLeast}
+use Rattle.esx_model.specs.Console.{Session}
+use Rattle.esx_lock.specs.Logs.{Callers, OthersOf}
+use Rattle.esx_lock.specs.Passes.{LockView, Known, Meet, IsOpened, AreOpened}
+use Rattle.esx_desk.specs.Told.{IsOf}
+use Rattle.esx_work.specs.declared.run.Finished.{Finished}
+use Rattle.esx_workers.specs.declared.end.End.{End}
+use Rattle.esx_workers.specs.declared.worker.Worker.{Worker}
+use Rattle.esx_workers.specs.Runs.{IsRun, Ended}
+use Rattle.esx_door.specs.Own.{lines_of}
+use Rattle.esx_work.specs.Doors.{IsReady, Leads}
+use Rattle.esx_work.specs.Growth.{callers_joined}
+use Rattle.esx_work.specs.Runs.{CanRun, Ran, AllEnded, IsReturned, AreReturned, AreOwn, Knows, RunsOn}
+use Rattle.esx_work.proofs.Owns.{lines_append, lines_of_others, least_same, below_others}
+
+module _ {A E : Type 0} where
+  pub if_ok_map : (P Q : A → Type 0) → ((a : A) → P a → Q a) → (r : Result A E) → IfOk r P → IfOk r Q
+  if_ok_map P Q f (Ok a) p = f a p
+  if_ok_map P Q f (Err e) p = tt
+
+  pub if_ok_at : (P : A → Type 0) (r : Result A E) (a : A) → r ≡ Ok a → IfOk r P → P a
+  if_ok_at P r a e p = subst (λ (x : Result A E). IfOk x P) e p
+
+-- one worker, through its door
+pub one_ran : (let_through : Type 0) (desk desk' : LockView) (p : Known) (f : Finished) (k j : ℕ) (w : Worker) (turns : ℕ) → IsReady desk p k → IsReady desk' f.pass j → Leads desk desk' p f.pass
+    → IfOk f.ended (λ end. Ended let_through k w turns end (lines_of k p.view.seen) (lines_of k f.pass.view.seen)) → Ran let_through desk p w turns f
+one_ran let_through desk desk' p f k j w turns ready ready' leads sent =
+    let later : List Line = leads.grown.0 in record {
+      is_of = subst (λ (d : LockView). IsOf d f.pass) leads.desk_same ready'.0;
+      same = leads.same;
+      later = later;
+      grown = leads.grown.1;
+      below = leads.grown.2;
+      done = λ i least. let e : k ≡ i = least_same p.view.ids k i ready.1 least in subst (λ (c : ℕ). IfOk f.ended (λ end. IsRun let_through c w turns end (lines_of c later))) e
+          (if_ok_map (λ end. Ended let_through k w turns end (lines_of k p.view.seen) (lines_of k f.pass.view.seen)) (λ end. IsRun let_through k w turns end (lines_of k later))
+          (λ end s. subst (IsRun let_through k w turns end) (sym (append_cancel_left (lines_of k p.view.seen) (lines_of k later) s.lines (sym (lines_append k p.view.seen later) ∙ (ap (lines_of k) leads.grown.1 ∙ s.more)))) s.run)
+          f.ended sent);
+    }
+
+none_below : (p : Known) (i : ℕ) → ((k : ℕ) → has p.view.ids k ≡ true → k ≡ i) → (j : ℕ) → j < i → (b : Bool) → b ≡ has p.view.ids j → has p.view.ids j ≡ false
+none_below p i alone j lt true e = let same : j ≡ i = alone j (sym e) in absurd (omega arith)
+none_below p i alone j lt false e = sym e
+
+-- the one caller of a pass is its least
+pub one_least : (table : TableId) (n : ℕ) (site : Config) (log : List Line) (i : ℕ) (p : Known) → IsOpened table n site log i p → IsLeast p.view.ids i
+one_least table n site log i p o = (o.2, λ j lt. none_below p i o.3 j lt (has p.view.ids j) refl)
+
+-- a pass as the desk opened with it, and what its thread gave back
+pub returned_as : (let_through : Type 0) (desk : LockView) (n : ℕ) (opened : Session) (i : ℕ) (p : Known) (w : Worker) (turns : ℕ) (f : Finished) → IsOpened desk.table n opened.site opened.log i p → Ran let_through desk p w turns f
+    → IsReturned desk opened i f
+returned_as let_through desk n opened i p w turns f o r = record {
+  is_of = r.is_of;
+  site = r.same.0 ∙ o.1.0;
+  own = ap (λ (s : Ids). has s i) r.same.1 ∙ o.2;
+  alone = λ k t. o.3 k (ap (λ (s : Ids). has s k) (sym r.same.1) ∙ t);
+  later = r.later;
+  grown = ap (λ (l : List Line). l ++ r.later) (sym o.1.1) ∙ r.grown;
+  below = r.below;
+}
+
+pub can_run : (desk : LockView) (n : ℕ) (site : Config) (log : List Line) (i : ℕ) (p : Known) → desk.callers ≡ n → IsOpened desk.table n site log i p → i < n → CanRun desk p
+can_run desk n site log i p e o lt = record {
+  is_of = (o.0, o.1.2, o.1.3 ∙ sym e);
+  below = λ k t. subst (λ (c : ℕ). c < desk.callers) (sym (o.3 k t)) (subst (λ (m : ℕ). i < m) (sym e) lt);
+}
+
+some_same : {A : Type 0} (x y : A) → Some x ≡ Some y → x ≡ y
+some_same x y e = cc e
+
+own_lines : (desk : LockView) (opened : Session) (all : List Finished) (i : ℕ) (f : Finished) → slice_get all i ≡ Some f → (r : IsReturned desk opened i f) → (k : ℕ) (g : Finished) → k ≡ i → slice_get all k ≡ Some g → AreOwn opened k g r.later
+own_lines desk opened all i f at r k g same there =
+    let is : f ≡ g = some_same f g (sym at ∙ (ap (slice_get all) (sym same) ∙ there)) in
+    (r.later, subst (λ (h : Finished). opened.log ++ r.later ≡ h.pass.view.seen) is r.grown, refl)
+
+-- the first pass that is met
+pub knows_one : (desk : LockView) (opened : Session) (all : List Finished) (i : ℕ) (f : Finished) → i + 1 ≡ desk.callers → slice_get all i ≡ Some f → IsReturned desk opened i f → Knows desk opened all i f.pass
+knows_one desk opened all i f last at r = record {
+  is_of = r.is_of;
+  site = r.site;
+  later = r.later;
+  grown = r.grown;
+  below = r.below;
+  covers = λ k le lt. let same : i ≡ k = omega arith in subst (λ (c : ℕ). has f.pass.view.ids c ≡ true) same r.own;
+  runs = λ k g t there. own_lines desk opened all i f at r k g (r.alone k t) there;
+}
+
+either_true : (a b : Bool) → (a || b) ≡ true → (a ≡ true) ⊎ (b ≡ true)
+either_true true b e = inl refl
+either_true false b e = inr e
+
+left_true : (a b : Bool) → a ≡ true → (a || b) ≡ true
+left_true a b e = ap (λ (c : Bool). c || b) e
+
+right_true : (a b : Bool) → b ≡ true → (a || b) ≡ true
+right_true true b e = refl
+right_true false b e = e
+
+-- one more pass is met
+pub knows_more : (desk : LockView) (opened : Session) (all : List Finished) (i : ℕ) (p q : Known) (f : Finished) → Knows desk opened all (i + 1) p → slice_get all i ≡ Some f → IsReturned desk opened i f
+    → IsOf desk q → q.view.site ≡ p.view.site → ((k : ℕ) → has q.view.ids k ≡ (has p.view.ids k || has f.pass.view.ids k)) → Meet p.view f.pass.view q.view.seen → Knows desk opened all i q
+knows_more desk opened all i p q f known there r is_of site ids meet =
+    let n : ℕ = p.view.callers in
+    let new : List Line = meet.1.0 in
+    let later : List Line = known.later ++ new in
+    let grown : opened.log ++ later ≡ q.view.seen = sym (append_assoc opened.log known.later new) ∙ (ap (λ (l : List Line). l ++ new) known.grown ∙ meet.1.1) in
+    let other : opened.log ++ (r.later ++ meet.2.0) ≡ q.view.seen = sym (append_assoc opened.log r.later meet.2.0) ∙ (ap (λ (l : List Line). l ++ meet.2.0) r.grown ∙ meet.2.1) in
+    let same : later ≡ r.later ++ meet.2.0 = append_cancel_left opened.log later (r.later ++ meet.2.0) (grown ∙ sym other) in
+    let lines : (k : ℕ) (xs ys : List Line) (s : Ids) → has s k ≡ true → OthersOf n s ys → lines_of k (xs ++ ys) ≡ lines_of k xs =
+    λ k xs ys s own o. lines_append k xs ys ∙ (ap (λ (l : List Line). lines_of k xs ++ l) (lines_of_others k n s ys own o) ∙ append-nil (lines_of k xs)) in record {
+      is_of = is_of;
+      site = site ∙ known.site;
+      later = later;
+      grown = grown;
+      below = callers_joined (λ k. k < desk.callers) known.later new known.below (subst (λ (m : ℕ). Callers (λ k. k < m) new) known.is_of.2 (below_others n p.view.ids new meet.1.2));
+      covers = λ k le lt. ids k ∙ dite (ℕ_discrete i k)
+          (λ e. right_true (has p.view.ids k) (has f.pass.view.ids k) (subst (λ (c : ℕ). has f.pass.view.ids c ≡ true) e r.own))
+          (λ ne. left_true (has p.view.ids k) (has f.pass.view.ids k) (known.covers k (omega arith) lt));
+      runs = λ k g t at. ⊎_elim
+          (λ (own : has p.view.ids k ≡ true). let a = known.runs k g own at in (a.0, a.1, lines k known.later new p.view.ids own meet.1.2 ∙ a.2))
+          (λ (own : has f.pass.view.ids k ≡ true). let a = own_lines desk opened all i f there r k g (r.alone k own) at in (a.0, a.1, ap (lines_of k) same ∙ (lines k r.later meet.2.0 f.pass.view.ids own meet.2.2 ∙ a.2)))
+          (either_true (has p.view.ids k) (has f.pass.view.ids k) (sym (ids k) ∙ t));
+    }
+
+module _ {A : Type 0} where
+  front_get : (xs : List A) (z x : A) (i : ℕ) → slice_get xs i ≡ Some x → slice_get (xs ++ z ∷ []) i ≡ Some x
+  front_get [] z x i e = absurd (cc e)
+  front_get (y ∷ xs) z x zero e = e
+  front_get (y ∷ xs) z x (suc i) e = front_get xs z x i e
+
+  end_get : (xs : List A) (z : A) → slice_get (xs ++ z ∷ []) (length xs) ≡ Some z
+  end_get [] z = refl
+  end_get (y ∷ xs) z = end_get xs z
+
+  pub popped : (xs ys : List A) (o : Option A) (z : A) → xs ≡ ys ++ option_to_list o → o ≡ Some z → xs ≡ ys ++ z ∷ []
+  popped xs ys o z e is = e ∙ ap (λ (q : Option A). ys ++ option_to_list q) is
+
+  pub popped_length : (xs ys : List A) (z : A) → xs ≡ ys ++ z ∷ [] → length xs ≡ length ys + 1
+  popped_length xs ys z e = ap length e ∙ length-append ys (z ∷ [])
+
+-- the threads before the last, and the last
+pub front_of : (all xs ys : List Finished) (z : Finished) → xs ≡ ys ++ z ∷ [] → ((j : ℕ) (f : Finished) → slice_get xs j ≡ Some f → slice_get all j ≡ Some f) → (j : ℕ) (f : Finished) → slice_get ys j ≡ Some f → slice_get all j ≡ Some f
+front_of all xs ys z e begins j f at = begins j f (ap (λ (l : List Finished). slice_get l j) e ∙ front_get ys z f j at)
+
+pub last_of : (all xs ys : List Finished) (z : Finished) → xs ≡ ys ++ z ∷ [] → ((j : ℕ) (f : Finished) → slice_get xs j ≡ Some f → slice_get all j ≡ Some f) → slice_get all (length ys) ≡ Some z
+last_of all xs ys z e begins = begins (length ys) z (ap (λ (l : List Finished). slice_get l (length ys)) e ∙ end_get ys z)
+
+module _ {A : Type 0} where
+  end_cases : (xs : List A) (x y : A) (j : ℕ) → slice_get (xs ++ x ∷ []) j ≡ Some y → (slice_get xs j ≡ Some y) ⊎ ((j ≡ length xs) × (x ≡ y))
+  end_cases [] x y zero e = inr (refl, cc e)
+  end_cases [] x y (suc j) e = absurd (cc e)
+  end_cases (z ∷ zs) x y zero e = inl e
+  end_cases (z ∷ zs) x y (suc j) e = ⊎_elim (λ (t : slice_get zs j ≡ Some y). inl t) (λ (t : (j ≡ length zs) × (x ≡ y)). inr (ap suc t.0, t.1)) (end_cases zs x y j e)
+
+  -- without the first element
+  pub get_without_first : (xs : List A) (j : ℕ) (y : A) → slice_get (remove xs 0) j ≡ Some y → slice_get xs (suc j) ≡ Some y
+  get_without_first [] j y e = e
+  get_without_first (x ∷ xs) j y e = e
+
+  pub one_less : (xs ys : List A) → ys ≡ remove xs 0 → 0 < length xs → length ys + 1 ≡ length xs
+  one_less [] ys e some = absurd (omega arith)
+  one_less (x ∷ xs) ys e some = let same : length ys ≡ length xs = ap length e in omega arith
+
+module _ {A : Type 0} where
+  -- what is left after the first was taken
+  pub left_on : (all xs ys : List A) (i n : ℕ) → ys ≡ remove xs 0 → length xs + i ≡ n → i < n → ((j : ℕ) (p : A) → slice_get xs j ≡ Some p → slice_get all (i + j) ≡ Some p)
+      → (length ys + (i + 1) ≡ n) × ((j : ℕ) (p : A) → slice_get ys j ≡ Some p → slice_get all (i + 1 + j) ≡ Some p)
+  left_on all xs ys i n e many lt left =
+      let few : length ys + 1 ≡ length xs = one_less xs ys e (omega arith) in (
+        omega arith,
+        (λ j p at. let more : i + suc j ≡ i + 1 + j = omega arith in subst (λ (k : ℕ). slice_get all k ≡ Some p) more (left (suc j) p (get_without_first xs j p (ap (λ (l : List A). slice_get l j) (sym e) ∙ at)))),
+      )
+
+  pub first_left : (all xs : List A) (i n : ℕ) (x : A) → length xs + i ≡ n → i < n → ((j : ℕ) (p : A) → slice_get xs j ≡ Some p → slice_get all (i + j) ≡ Some p) → x ≡ get_or xs 0 x → slice_get all i ≡ Some x
+  first_left all xs i n x many lt left is =
+      let some : 0 < length xs = omega arith in
+      let none : i + 0 ≡ i = omega arith in
+      subst (λ (k : ℕ). slice_get all k ≡ Some x) none (left 0 x (slice_get_read xs (length xs) 0 x refl some is))
+
+  -- one more at the end
+  pub end_on : (Q : ℕ → A → Type 0) (xs ys : List A) (x : A) (i : ℕ) → ys ≡ xs ++ x ∷ [] → length xs ≡ i → Q i x → ((j : ℕ) (y : A) → slice_get xs j ≡ Some y → Q j y) → (j : ℕ) (y : A) → slice_get ys j ≡ Some y → Q j y
+  end_on Q xs ys x i e many here before j y at = ⊎_elim
+      (λ (c : slice_get xs j ≡ Some y). before j y c)
+      (λ (c : (j ≡ length xs) × (x ≡ y)). let same : i ≡ j = sym many ∙ sym c.0 in subst (λ (z : A). Q j z) c.1 (subst (λ (k : ℕ). Q k x) same here))
+      (end_cases xs x y j (ap (λ (l : List A). slice_get l j) (sym e) ∙ at))
+
+-- the threads of passes that a desk opened with, which are the tasks'
+module _ {T G : Type 0} (pass : T → Known) (gate : T → G) (worker : T → Worker) (turns : T → ℕ) (is_open : G → Type 0) (desk : LockView) (n : ℕ) (opened : Session) (passes : List Known) (tasks : List T)
+    (are : AreOpened desk.table n opened.site opened.log passes) (made : (i : ℕ) (t : T) → slice_get tasks i ≡ Some t → slice_get passes i ≡ Some (pass t)) where
+  pub all_can : desk.callers ≡ n → length tasks ≡ n → (k : ℕ) (d : T) → k < length tasks → CanRun desk (pass (get_or tasks k d))
+  all_can e len k d lt = can_run desk n opened.site opened.log k (pass (get_or tasks k d)) e (are k (pass (get_or tasks k d)) (made k (get_or tasks k d) (slice_get-get_or tasks k d lt))) (subst (λ (m : ℕ). k < m) len lt)
+
+  module _ (all : List Finished) (many : length all ≡ length tasks) (each : (i : ℕ) (t : T) (f : Finished) → slice_get tasks i ≡ Some t → slice_get all i ≡ Some f → Ran (is_open (gate t)) desk (pass t) (worker t) (turns t) f) where
+    task_at : (i : ℕ) → i < length all → (t : T) × (slice_get tasks i ≡ Some t)
+    task_at i lt = ⊎_elim
+        (λ (t : (x : T) × (i < length tasks) × (slice_get tasks i ≡ Some x) × (get_or tasks i x ≡ x)). (t.0, t.2))
+        (λ (t : (length tasks ≤ i) × (slice_get tasks i ≡ None)). let past : length tasks ≤ i = t.0 in absurd (omega arith))
+        (slice_get_cases tasks i).1
+
+    pub all_returned : AreReturned desk opened all
+    all_returned i f at = let t = task_at i (slice_get_within all i f at) in returned_as (is_open (gate t.0)) desk n opened i (pass t.0) (worker t.0) (turns t.0) f (are i (pass t.0) (made i t.0 t.1)) (each i t.0 f t.1 at)
+
+    finished_at : (i : ℕ) → i < length all → (f : Finished) × (slice_get all i ≡ Some f)
+    finished_at i lt = ⊎_elim
+        (λ (t : (x : Finished) × (i < length all) × (slice_get all i ≡ Some x) × (get_or all i x ≡ x)). (t.0, t.2))
+        (λ (t : (length all ≤ i) × (slice_get all i ≡ None)). let past : length all ≤ i = t.0 in absurd (omega arith))
+        (slice_get_cases all i).1
+
+    -- what a caller's lines are, where its worker was not ended by want of memory
+    run_at : (k : ℕ) (e : End) (t : T) (f : Finished) → slice_get tasks k ≡ Some t → slice_get all k ≡ Some f → f.ended ≡ Ok e → (later : List Line) → AreOwn opened k f later → IsRun (is_open (gate t)) k (worker t) (turns t) e (lines_of k later)
+    run_at k e t f at there ended later own =
+        let r = each k t f at there in
+        let o = are k (pass t) (made k t at) in
+        let grown : opened.log ++ r.later ≡ f.pass.view.seen = ap (λ (l : List Line). l ++ r.later) (sym o.1.1) ∙ r.grown in
+        let same : own.0 ≡ r.later = append_cancel_left opened.log own.0 r.later (own.1 ∙ sym grown) in
+        let run : IsRun (is_open (gate t)) k (worker t) (turns t) e (lines_of k r.later) =
+        if_ok_at (λ end. IsRun (is_open (gate t)) k (worker t) (turns t) end (lines_of k r.later)) f.ended e ended (r.done k (one_least desk.table n opened.site opened.log k (pass t) o)) in
+        subst (IsRun (is_open (gate t)) k (worker t) (turns t) e) (sym (own.2 ∙ ap (lines_of k) same)) run
+
+    -- the console that the desk closes with
+    pub runs_on : (workers : List Worker) (gates : List G) (most : ℕ) (ends : List End) (p : Known) (closed : Session) → desk.callers ≡ n → length tasks ≡ n
+        → ((i : ℕ) (t : T) → slice_get tasks i ≡ Some t → (slice_get gates i ≡ Some (gate t)) × (slice_get workers i ≡ Some (worker t)) × (turns t ≡ most))
+        → length ends ≡ length all → AllEnded all ends → Knows desk opened all 0 p → closed.site ≡ p.view.site → closed.log ≡ p.view.seen
+        → RunsOn opened n (λ k e lines. (w : Worker) (y : G) → slice_get workers k ≡ Some w → slice_get gates k ≡ Some y → IsRun (is_open y) k w most e lines) ends closed
+    runs_on workers gates most ends p closed callers len at_place ended_many ended known site log = record {
+      site = site ∙ known.site;
+      later = known.later;
+      log = known.grown ∙ sym log;
+      below = subst (λ (m : ℕ). Callers (λ k. k < m) known.later) callers known.below;
+      runs = λ k e at w y w_at y_at.
+          let within : k < length ends = slice_get_within ends k e at in
+          let lt : k < length all = omega arith in
+          let below : k < desk.callers = omega arith in
+          let t = task_at k lt in
+          let f = finished_at k lt in
+          let place = at_place k t.0 t.1 in
+          let same_gate : gate t.0 ≡ y = some_same (gate t.0) y (sym place.0 ∙ y_at) in
+          let same_worker : worker t.0 ≡ w = some_same (worker t.0) w (sym place.1 ∙ w_at) in
+          let run = run_at k e t.0 f.0 t.1 f.1 (ended k f.0 e f.1 at) known.later (known.runs k f.0 (known.covers k (omega arith) below) f.1) in
+          subst (λ (m : ℕ). IsRun (is_open y) k w m e (lines_of k known.later)) place.2
+          (subst (λ (v : Worker). IsRun (is_open y) k v (turns t.0) e (lines_of k known.later)) same_worker (subst (λ (z : G). IsRun (is_open z) k (worker t.0) (turns t.0) e (lines_of k known.later)) same_gate run));
+    }

@@ -1,0 +1,9 @@
+use Rattle.esx_work.proofs.Meets.{one_ran}
+use Rattle.esx_work.proofs.run.run_one.Goals as goal
+
+pub returns : goal.returns
+returns g c =
+    let sent = c.run-ended.ensures in
+    let caller = c.caller-caller.result in
+    let door = c.run-ended.new.door in
+    one_ran _ c.args.desk.now door.desk.now c.args.task.pass (record { pass = door.pass; ended = c.run-ended.result }) caller door.caller c.args.task.worker c.args.task.turns (c.requires.is_of, c.caller-caller.ensures, c.requires.below caller c.caller-caller.ensures.0) sent.again sent.leads sent.ok

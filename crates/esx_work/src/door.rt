@@ -1,0 +1,66 @@
+//! Doors to a desk and to a console.
+
+use esx_console::Console;
+use esx_desk::{Desk, Pass};
+use esx_door::Door;
+use esx_events::{Call, Reply};
+use std::alloc::AllocError;
+use std::sync::Wait;
+
+/// A pass of a desk, as the least of its callers.
+#[derive(Drop)]
+pub struct DeskDoor<'a, R> {
+    pub rt: &'a R,
+    pub desk: &'a Desk,
+    pub pass: Pass,
+    pub caller: u16,
+}
+
+impl<'a, R: Wait> Door for DeskDoor<'a, R> {
+    ghost use Rattle.esx_work.specs.Doors.{IsReady, Leads};
+    ghost use Rattle.esx_work.specs.Growth.{leads_self, leads_on};
+
+    ghost can_submit = { λ d. IsReady d.desk.now d.pass d.caller };
+
+    ghost caller = { λ d. d.caller };
+
+    ghost seen = { λ d. d.pass.view.seen };
+
+    ghost leads = { λ d e. Leads d.desk.now e.desk.now d.pass e.pass };
+
+    fn submit(&mut self, call: Call) -> Result<Reply, AllocError> {
+        self.desk.submit(self.rt, &mut self.pass, call)
+    }
+
+    ghost leads_self = { λ d. leads_self d.desk.now d.pass };
+
+    ghost leads_on = { λ d e f one two. leads_on d.desk.now e.desk.now f.desk.now d.pass e.pass f.pass one two };
+}
+
+/// A console under a caller's number.
+#[derive(Drop)]
+pub struct ConsoleDoor {
+    pub console: Console,
+    pub caller: u16,
+}
+
+impl Door for ConsoleDoor {
+    ghost use Rattle.std.specs.Prelude.{◌≡◌};
+    ghost use Rattle.esx_work.specs.Growth.{IsSite, site_self, site_on};
+
+    ghost can_submit = { λ d. Unit {0} };
+
+    ghost caller = { λ d. d.caller };
+
+    ghost seen = { λ d. d.console.log };
+
+    ghost leads = { λ d e. IsSite d.console e.console };
+
+    fn submit(&mut self, call: Call) -> Result<Reply, AllocError> {
+        self.console.call(self.caller, call)
+    }
+
+    ghost leads_self = { λ d. site_self d.console };
+
+    ghost leads_on = { λ d e f one two. site_on d.console e.console f.console one two };
+}

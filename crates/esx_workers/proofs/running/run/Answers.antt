@@ -1,0 +1,82 @@
+use Rattle.std.proofs.Common.{◌≡◌, ◌∙◌, ◌+◌, ◌<◌, ◌≤◌, ◌++◌, ◌∷◌, [], ℕ, Bool, true, false, true≢false, Some, cond, inl, inr, sym, ap, refl, subst, arith}
+use Rattle.esx_events.specs.declared.call.Call.{Call}
+use Rattle.esx_door.specs.Own.{line, lines_of}
+use Rattle.esx_workers.specs.declared.worker.Worker.{Worker}
+use Rattle.esx_workers.specs.Passed.{is_passed}
+use Rattle.esx_workers.specs.Workers.{asks, hears, rest}
+use Rattle.esx_workers.proofs.Going.{on_err, not_other, rest_asked, running_none, broken, ended_rest, running_more, ended_rewound}
+use Rattle.esx_workers.proofs.running.run.Goals as goal
+
+pub loop-turn-init : goal.loop-turn-init
+loop-turn-init g c = (c.requires, g.met.D.Door.leads_self c.args.door.now, refl, running_none _ _ _, λ o. o)
+
+pub loop-turn-preserved : goal.loop-turn-preserved
+loop-turn-preserved g c =
+    let inv = c.loop-turn.invariant in
+    let call = c.in-Some.call in
+    let reply = c.in_ok-reply.reply in
+    let w : Worker = c.loop-turn.worker in
+    let asks_it : asks w ≡ Some call = sym c.in_ok-call.ensures.call ∙ c.in-Some.is in (
+      c.submit.ensures.again,
+      g.met.D.Door.leads_on c.args.door.now c.loop-turn.door c.submit.new.self inv.1 c.submit.ensures.leads,
+      c.submit.ensures.caller ∙ inv.2,
+      running_more _ _ _ _ _ _ _ _ inv.3 call reply _
+          (subst (λ (k : ℕ). lines_of k (g.D.Door.seen c.submit.new.self) ≡ lines_of k (g.D.Door.seen c.loop-turn.door) ++ line k call reply ∷ []) inv.2 c.in_ok-reply.ensures.ok)
+          asks_it c.hear.new.self c.hear-in-loop-turn.new.self.first c.hear-in-loop-turn.new.self.passed
+          (c.hear.ensures ∙ ap (λ (v : Worker). hears v reply) c.in_ok-call.ensures.asked)
+          c.if-hear.ensures.first
+          (c.if-hear.ensures.passed ∙ ap (λ (b : Bool). c.loop-turn.tally.passed + cond (is_passed b reply.said) 1 0) c.is_access-access.ensures)
+          (not_other false _ _ refl c.if-hear.ensures.jumped),
+      (λ o. (c.pass_through.ensures (inv.4 o)).1),
+    )
+
+pub returns-in_err-call-clause-err : goal.returns-in_err-call-clause-err
+returns-in_err-call-clause-err g c =
+    let lt : c.loop-turn.turn < c.args.turns = c.loop-turn-test.true in
+    let le : c.loop-turn.turn ≤ c.args.turns = omega arith in
+    on_err _ (broken _ _ _ _ _ _ _ _ c.loop-turn.invariant.3 c.args.turns _ le refl) c.from_residual.result
+
+pub returns-in_default-clause-ok : goal.returns-in_default-clause-ok
+returns-in_default-clause-ok g c =
+    let lt : c.loop-turn.turn < c.args.turns = c.loop-turn-test.true in
+    let le : c.loop-turn.turn ≤ c.args.turns = omega arith in
+    ended_rest _ _ _ _ _ _ _ _ c.loop-turn.invariant.3 _ c.args.turns c.end.result c.rest.result le c.end.ensures
+    (c.rest.ensures ∙ (ap rest c.in_ok-call.ensures.asked ∙ rest_asked c.loop-turn.worker))
+    (λ _. inl (sym c.in_ok-call.ensures.call ∙ c.in_default.is))
+
+pub returns-then-not-pass_through-clause-ok : goal.returns-then-not-pass_through-clause-ok
+returns-then-not-pass_through-clause-ok g c =
+    let lt : c.loop-turn.turn < c.args.turns = c.loop-turn-test.true in
+    let le : c.loop-turn.turn ≤ c.args.turns = omega arith in
+    ended_rest _ _ _ _ _ _ _ _ c.loop-turn.invariant.3 _ c.args.turns c.end-then-not-pass_through.result c.rest-then-not-pass_through.result le c.end-then-not-pass_through.ensures
+    (c.rest-then-not-pass_through.ensures ∙ (ap rest c.in_ok-call.ensures.asked ∙ rest_asked c.loop-turn.worker))
+    (λ o. absurd (true≢false (sym (c.pass_through.ensures (c.loop-turn.invariant.4 o)).0 ∙ c.if-not-pass_through.true)))
+
+pub returns-in_err-reply-clause-err : goal.returns-in_err-reply-clause-err
+returns-in_err-reply-clause-err g c =
+    let lt : c.loop-turn.turn < c.args.turns = c.loop-turn-test.true in
+    let le : c.loop-turn.turn ≤ c.args.turns = omega arith in
+    on_err _ (broken _ _ _ _ _ _ _ _ c.loop-turn.invariant.3 c.args.turns _ le
+    (subst (λ (k : ℕ). lines_of k (g.D.Door.seen c.submit.new.self) ≡ lines_of k (g.D.Door.seen c.loop-turn.door)) c.loop-turn.invariant.2 c.in_err-reply.ensures.err)) c.from_residual-in_err-reply.result
+
+pub returns-then-hear-clause-ok : goal.returns-then-hear-clause-ok
+returns-then-hear-clause-ok g c =
+    let inv = c.loop-turn.invariant in
+    let call = c.in-Some.call in
+    let reply = c.in_ok-reply.reply in
+    let w : Worker = c.loop-turn.worker in
+    let asks_it : asks w ≡ Some call = sym c.in_ok-call.ensures.call ∙ c.in-Some.is in
+    let lt : c.loop-turn.turn < c.args.turns = c.loop-turn-test.true in
+    let le : c.loop-turn.turn + 1 ≤ c.args.turns = omega arith in
+    ended_rewound _ _ _ _ _ _ _ _ inv.3 call reply _
+    (subst (λ (k : ℕ). lines_of k (g.D.Door.seen c.submit.new.self) ≡ lines_of k (g.D.Door.seen c.loop-turn.door) ++ line k call reply ∷ []) inv.2 c.in_ok-reply.ensures.ok)
+    asks_it _ c.args.turns c.hear-in-loop-turn.new.self.passed c.end-then-hear.result le c.end-then-hear.ensures
+    (c.if-hear.ensures.passed ∙ ap (λ (b : Bool). c.loop-turn.tally.passed + cond (is_passed b reply.said) 1 0) c.is_access-access.ensures)
+    (c.if-hear.ensures.jumped.0 refl)
+
+pub returns-clause-ok : goal.returns-clause-ok
+returns-clause-ok g c =
+    let above : c.loop-turn.turn ≤ c.args.turns = c.loop-turn.auto.turn-end in
+    let below : c.args.turns ≤ c.loop-turn.turn = c.loop-turn-test.false in
+    let end : c.loop-turn.turn ≡ c.args.turns = omega arith in
+    ended_rest _ _ _ _ _ _ _ _ c.loop-turn.invariant.3 _ c.args.turns c.end-2.result c.rest-2.result above c.end-2.ensures c.rest-2.ensures (λ _. inr end)

@@ -1,0 +1,13 @@
+pub mod Draws
+pub mod Machines
+pub mod Sharing
+pub mod Swapping
+pub mod Policing
+pub mod Passed
+pub mod Visiting
+pub mod Workers
+pub mod Runs
+pub mod Starts
+pub use Rattle.esx_door.specs.Own
+pub use Rattle.rand_pcg.specs.Lcg
+pub use Rattle.rand_pcg.specs.Pcg

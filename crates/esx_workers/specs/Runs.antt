@@ -1,0 +1,88 @@
+-- The lines of a worker's run, and why it ended.
+use Rattle.std.specs.Prelude.{◌≡◌, ◌≢◌, ◌⊎◌, ℕ, ◌<◌, ◌≤◌, List, [], ◌∷◌, ◌++◌, length, count_by, Option, Some, None, Result, Ok, IfOk, OnErr}
+use Rattle.esx_events.specs.declared.call.Reply.{Reply}
+use Rattle.esx_events.specs.declared.call.Line.{Line}
+use Rattle.esx_workers.specs.declared.end.How.{How}
+use Rattle.esx_workers.specs.declared.end.How.TheVariants.{Rewound}
+use Rattle.esx_workers.specs.declared.end.End.{End}
+use Rattle.esx_workers.specs.declared.worker.Worker.{Worker}
+use Rattle.esx_workers.specs.Passed.{is_passed_over}
+use Rattle.esx_workers.specs.Workers.{asks, asked, hears, rest}
+
+-- the worker after the reply to its next call
+abbrev pub goes_on : Worker → Reply → Worker
+goes_on w reply = hears (asked w) reply
+
+-- the worker after the replies of these lines
+unfoldable pub worker_after : Worker → List Line → Worker
+worker_after w [] = w
+worker_after w (x ∷ xs) = worker_after (goes_on w x.reply) xs
+
+-- each line is the caller's, with the call that its worker asks next
+unfoldable pub AreAsked : ℕ → Worker → List Line → Type 0
+AreAsked k w [] = Unit {0}
+AreAsked k w (x ∷ xs) = (x.caller ≡ k) × (asks w ≡ Some x.call) × AreAsked k (goes_on w x.reply) xs
+
+-- each line's reply was given after so many jumps
+unfoldable pub AreAfter : ℕ → List Line → Type 0
+AreAfter jumps [] = Unit {0}
+AreAfter jumps (x ∷ xs) = (x.reply.jumps ≡ jumps) × AreAfter jumps xs
+
+-- the cursor has not jumped between the replies
+abbrev pub IsStraight : List Line → Type 0
+IsStraight lines = (jumps : ℕ) × AreAfter jumps lines
+
+-- it has jumped before the last of them, and not before
+pub record IsRewound (lines : List Line) : Type 0 where
+  pub before : List Line
+  pub last : Line
+  pub are : lines ≡ before ++ last ∷ []
+  pub some : 0 < length before
+  pub jumps : ℕ
+  pub straight : AreAfter jumps before
+  pub jumped : last.reply.jumps ≢ jumps
+
+-- Why it ended. Where the cursor has jumped, that is why; else it rests.
+abbrev pub Why : Worker → List Line → How → Type 0
+Why w lines how = (IsRewound lines × (how ≡ Rewound)) ⊎ (IsStraight lines × (how ≡ rest (worker_after w lines)))
+
+-- nothing is left to ask, or it had no turns left
+abbrev pub IsOut : Worker → ℕ → List Line → Type 0
+IsOut w turns lines = (asks (worker_after w lines) ≡ None) ⊎ (length lines ≡ turns)
+
+-- The lines of a worker's run: what it asks, call after call, and in no more turns than it has. Where it was let through each time, and no jump ended it, nothing was left to ask, or it had no turns left.
+pub record IsRun (let_through : Type 0) (k : ℕ) (w : Worker) (turns : ℕ) (end : End) (lines : List Line) : Type 0 where
+  pub are : AreAsked k w lines
+  pub most : length lines ≤ turns
+  pub passed : end.passed ≡ count_by is_passed_over lines
+  pub why : Why w lines end.how
+  pub all : let_through → end.how ≢ Rewound → IsOut w turns lines
+
+-- the caller's lines after its worker's run
+pub record Ended (let_through : Type 0) (k : ℕ) (w : Worker) (turns : ℕ) (end : End) (before after : List Line) : Type 0 where
+  pub lines : List Line
+  pub more : after ≡ before ++ lines
+  pub run : IsRun let_through k w turns end lines
+
+-- the caller's lines where memory was wanting
+pub record Broken (k : ℕ) (w : Worker) (turns : ℕ) (before after : List Line) : Type 0 where
+  pub lines : List Line
+  pub more : after ≡ before ++ lines
+  pub are : AreAsked k w lines
+  pub most : length lines ≤ turns
+  pub straight : IsStraight lines
+
+-- the jumps of the first reply, if there was one
+abbrev pub Since : Option ℕ → List Line → Type 0
+Since None lines = lines ≡ []
+Since (Some jumps) lines = (0 < length lines) × AreAfter jumps lines
+
+-- the caller's lines while its worker runs
+pub record Running (k : ℕ) (w now : Worker) (first : Option ℕ) (passed turn : ℕ) (before after : List Line) : Type 0 where
+  pub lines : List Line
+  pub more : after ≡ before ++ lines
+  pub are : AreAsked k w lines
+  pub now_is : now ≡ worker_after w lines
+  pub many : length lines ≡ turn
+  pub passed_are : passed ≡ count_by is_passed_over lines
+  pub since : Since first lines
