@@ -3,3 +3,4 @@ pub mod AgainLemmas
 pub mod CheckLemmas
 pub mod LawLemmas
 pub mod ReplayLemmas
+pub mod NameLemmas

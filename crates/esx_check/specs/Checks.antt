@@ -1,6 +1,12 @@
 -- What a check of a session comes to.
-use Rattle.std.specs.Prelude.{ℕ, List, [], ◌∷◌, ◌++◌, ◌+◌, ◌≡◌, ◌≢◌, codes, decimal, length, take, map, slice_get}
+use Rattle.std.specs.Prelude.{ℕ, List, [], ◌∷◌, ◌++◌, ◌+◌, ◌<◌, ◌≡◌, ◌≢◌, codes, decimal, length, take, map, slice_get}
+use Rattle.std.specs.List.{AllByRecursion}
+use Rattle.esx_types.specs.Ranges.{IsConfig}
 use Rattle.esx_types.specs.declared.config.Config.{Config}
+use Rattle.esx_types.specs.declared.config.TheConstants.{CALLERS}
+use Rattle.esx_events.specs.declared.call.Line.{Line}
+use Rattle.esx_model.specs.Console.{Session}
+use Rattle.esx_words.specs.Commands.{IsInRange}
 use Rattle.esx_session.specs.declared.session.Entry.{Entry}
 use Rattle.esx_check.specs.declared.check.Checked.{Checked}
 use Rattle.esx_check.specs.declared.check.Checked.TheVariants.{Same, Differs}
@@ -24,3 +30,13 @@ Checks site entries (Differs number) = (at : ℕ) × (number ≡ at + 1) × Part
 abbrev pub checked_text : Checked → List ℕ
 checked_text (Same count) = codes "same " ++ (decimal count ++ 10 ∷ [])
 checked_text (Differs number) = codes "differs " ++ (decimal number ++ 10 ∷ [])
+
+-- a line of a log that a session can have: its caller, and the numbers, names and bytes of its call
+pub record IsAsked (line : Line) : Type 0 where
+  pub caller : line.caller < CALLERS
+  pub call : IsInRange line.call
+
+-- a log that can be printed and read again
+pub record IsPrintable (s : Session) : Type 0 where
+  pub opened : IsConfig s.site
+  pub each : AllByRecursion IsAsked s.log

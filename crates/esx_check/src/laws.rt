@@ -1,16 +1,16 @@
 //! Laws of checks. A function here does nothing: its contract is the law.
 
 ghost use Rattle.std.specs.Prelude.{◌≡◌, List, length, map};
-ghost use Rattle.std.specs.List.{AllByRecursion};
 ghost use Rattle.esx_types.specs.declared.config.Config.{Config};
 ghost use Rattle.esx_model.specs.Console.{Session, IsLegal};
 ghost use Rattle.esx_session.specs.declared.session.Entry.{Entry};
-ghost use Rattle.esx_session.specs.Sessions.{logged, session_text, Reads, IsSession, HasNoReturn};
+ghost use Rattle.esx_session.specs.Sessions.{logged, session_text, Reads};
 ghost use Rattle.esx_check.specs.declared.check.Checked.{Checked};
 ghost use Rattle.esx_check.specs.declared.check.Checked.TheVariants.{Same};
 ghost use Rattle.esx_check.specs.Again.{made};
-ghost use Rattle.esx_check.specs.Checks.{Checks};
+ghost use Rattle.esx_check.specs.Checks.{Checks, IsPrintable};
 
+use esx_replies::laws::told_reply;
 use esx_session::laws::{one_session, read_as_printed};
 
 /// A check comes to one thing.
@@ -24,12 +24,12 @@ pub fn told_log_is_same()
 {}
 
 /// Whatever session is read of what is printed of a legal log, it is the same when it is gone through again.
-/// The log has to be one that can be printed.
+/// The site, the callers and the calls are in the ranges that a session can have; of the replies nothing is asked.
 pub fn printed_log_is_same()
-    ensures { (s : Session) (site : Config) (entries : List Entry) (checked : Checked) → IsLegal s
-        → IsSession s.site (map logged s.log) → AllByRecursion HasNoReturn (map logged s.log)
+    ensures { (s : Session) (site : Config) (entries : List Entry) (checked : Checked) → IsLegal s → IsPrintable s
         → Reads (session_text s.site (map logged s.log)) site entries → Checks site entries checked → checked ≡ Same (length s.log) }
 {
+    told_reply();
     one_session();
     read_as_printed();
     told_log_is_same();

@@ -13,6 +13,7 @@ ghost use Rattle.esx_desk.specs.declared.desk.TryFault.TheVariants as faults;
 
 use crate::legal::LegalConsole;
 use esx_console::Console;
+use esx_door::{Gate, Open};
 use esx_events::{Call, Refusal, Reply};
 use esx_lock::{Busy, Gauge, OwnLock, Pass};
 use esx_types::{CALLERS, Config, Ids};
@@ -32,21 +33,6 @@ impl Model for Desk {
     ghost Value = { LockView };
 
     ghost view = { λ d. d.lock };
-}
-
-/// What a caller passes on its way. `false` is giving up.
-pub trait Gate {
-    fn pass_through(&mut self, turn: u32) -> bool;
-}
-
-/// A gate that is always open.
-#[derive(Drop)]
-pub struct Open;
-
-impl Gate for Open {
-    fn pass_through(&mut self, _turn: u32) -> bool {
-        true
-    }
 }
 
 /// Why a call was not made: there was no memory, or another pass was faster, with the word that was read

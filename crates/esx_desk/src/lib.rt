@@ -7,5 +7,6 @@ pub mod desk;
 pub mod laws;
 mod legal;
 
-pub use desk::{Desk, Gate, Open, TryFault};
+pub use desk::{Desk, TryFault};
+pub use esx_door::{Gate, Open};
 pub use esx_lock::{Gauge, Pass};

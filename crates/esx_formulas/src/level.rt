@@ -1,8 +1,7 @@
-//! How scarce frames are.
+//! What a site's levels are made from: thresholds, a margin, how deep a level is.
 
-ghost use Rattle.std.specs.Prelude.{◌≡◌, ◌+◌, ◌<◌, ◌≤◌};
-ghost use Rattle.esx_types.specs.Ranges.{IsConfig};
-ghost use Rattle.esx_formulas.specs.Level.{threshold, margin, depth, deepest, raised, next_level};
+ghost use Rattle.std.specs.Prelude.{◌≡◌, ◌≤◌};
+ghost use Rattle.esx_formulas.specs.Level.{threshold, margin, depth};
 
 use esx_types::{Config, Level};
 
@@ -33,68 +32,4 @@ pub fn margin(config: &Config) -> u32
     ensures { result ≡ margin config.now }
 {
     (config.frames / 200).max(1)
-}
-
-/// The deepest level whose threshold the free frames are below.
-fn deepest(config: &Config, free: u32) -> Level
-    requires { IsConfig config.now }
-    ensures { result ≡ deepest config.now free }
-{
-    if free < threshold(config.frames, config.low, 1) {
-        Level::Low
-    } else if free < threshold(config.frames, config.hard, 2) {
-        Level::Hard
-    } else if free < threshold(config.frames, config.soft, 3) {
-        Level::Soft
-    } else {
-        Level::High
-    }
-}
-
-/// The level above, where enough frames are free.
-fn raised(config: &Config, free: u32, level: Level) -> Level
-    requires { IsConfig config.now }
-    ensures { result ≡ raised config.now free level }
-{
-    let margin = margin(config);
-    match level {
-        Level::High => Level::High,
-        Level::Soft => {
-            if threshold(config.frames, config.high, 4) + margin <= free {
-                Level::High
-            } else {
-                Level::Soft
-            }
-        }
-        Level::Hard => {
-            if threshold(config.frames, config.soft, 3) + margin <= free {
-                Level::Soft
-            } else {
-                Level::Hard
-            }
-        }
-        Level::Low => {
-            if threshold(config.frames, config.hard, 2) + margin <= free {
-                Level::Hard
-            } else {
-                Level::Low
-            }
-        }
-    }
-}
-
-/// The level after one more event, where `free` frames are free now. It falls to the deepest level whose
-/// threshold `free` is below, any number of levels at once; it rises one level at a time, and only where
-/// `free` is at least the margin above the threshold of the level that it rises to.
-#[tactic(auto, unfolding(crate::specs::Level::next_level))]
-pub fn next_level(config: &Config, level: Level, free: u32) -> Level
-    requires { IsConfig config.now }
-    ensures { result ≡ next_level config.now level free }
-{
-    let deepest = deepest(config, free);
-    if depth(level) < depth(deepest) {
-        deepest
-    } else {
-        raised(config, free, level)
-    }
 }

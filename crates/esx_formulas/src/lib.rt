@@ -1,5 +1,6 @@
 //! The formulas that touch no site: the key of a content, averages of sampled activity, the taxed ratio,
-//! targets and the level. Here are their definitions, plain bodies that follow them, and their laws.
+//! targets and the level. Here are their definitions, plain bodies that follow them (of the level, of what it
+//! is made from), and their laws.
 #![tactic(auto)]
 
 pub mod activity;

@@ -1,5 +1,5 @@
 use crate::activity::{active_share, fast_average, slow_average, touched_share};
-use crate::level::next_level;
+use crate::level::{depth, margin, threshold};
 use crate::targets::targets;
 use crate::{Estimate, Period, Row, are_rows, content_key, least_ratio};
 use esx_types::{Config, Level, Rows, VmId};
@@ -42,22 +42,29 @@ fn a_period_knows_its_pages(rt: HostRuntime) -> Result<(), Fail> {
 }
 
 #[test]
-fn a_level_falls_at_once_and_rises_by_one(rt: HostRuntime) -> Result<(), Fail> {
-    let site = Config {
-        frames: 1000,
-        page: 16,
-        slots: 8,
-        tau: 75,
-        high: 6,
-        soft: 4,
-        hard: 2,
-        low: 1,
-        nodes: 16777216,
-    };
-    let site = site.check()?;
-    assert_eq!(rt; next_level(&site, Level::High, 9), Level::Low);
-    assert_eq!(rt; next_level(&site, Level::Low, 24), Level::Low);
-    assert_eq!(rt; next_level(&site, Level::Low, 65), Level::Hard);
+fn a_threshold_is_no_less_than_its_rank(rt: HostRuntime) {
+    assert_eq!(rt; threshold(1000, 6, 4), 60);
+    assert_eq!(rt; threshold(49, 6, 4), 4);
+    assert_eq!(rt; depth(Level::High), 0);
+    assert_eq!(rt; depth(Level::Low), 3);
+}
+
+#[test]
+fn a_margin_is_no_less_than_one(rt: HostRuntime) -> Result<(), Fail> {
+    for (frames, expected) in [(1000, 5), (8, 1)] {
+        let site = Config {
+            frames,
+            page: 16,
+            slots: 8,
+            tau: 75,
+            high: 6,
+            soft: 4,
+            hard: 2,
+            low: 1,
+            nodes: 16777216,
+        };
+        assert_eq!(rt; margin(&site.check()?), expected);
+    }
     Ok(())
 }
 

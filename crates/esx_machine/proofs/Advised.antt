@@ -28,9 +28,9 @@ use Rattle.esx_model.specs.event.Access.{is_blocked, write_frame}
 use Rattle.esx_model.specs.event.Paging.{has_more, is_above_min}
 use Rattle.esx_model.specs.sound.Sound.{IsSound}
 use Rattle.esx_tables.specs.Readings.{row_at}
-use Rattle.esx_plans.proofs.Refining.{row_there, page_row, standing_shown}
-use Rattle.esx_plans.proofs.Found.{frame_found}
-use Rattle.esx_plans.proofs.Ratios.{rows_shown}
+use Rattle.esx_refinement.proofs.Refining.{row_there, page_row, standing_shown}
+use Rattle.esx_refinement.proofs.Found.{frame_found}
+use Rattle.esx_refinement.proofs.Ratios.{rows_shown}
 use Rattle.esx_machine.specs.Machine.{Kept, Shows}
 use Rattle.esx_machine.specs.Questions.{written_frame, can_go, is_above, target_rows, help_from, advice_from}
 use Rattle.esx_machine.proofs.Framed.{IsAt, private_at, shared_at}

@@ -23,9 +23,10 @@ use Rattle.esx_model.proofs.Callers.{every_event_sound, free_rows}
 use Rattle.esx_tables.specs.declared.change.Change.{Change}
 use Rattle.esx_tables.specs.Changes.{exchanged}
 use Rattle.esx_tables.proofs.Back.{exchanged_back}
-use Rattle.esx_plans.specs.plan.Planned.{Planned, Makes, Refines}
+use Rattle.esx_changes.specs.Planned.{Planned}
+use Rattle.esx_refinement.specs.Refinement.{Makes, Refines}
 use Rattle.esx_plans.specs.plan.Event.{ArePlannable, plan_of}
-use Rattle.esx_plans.proofs.refines.Event.{plannable, plan_refines}
+use Rattle.esx_refinement.proofs.refines.Event.{plannable, plan_refines}
 use Rattle.esx_machine.specs.Machine.{Kept, IsKept, Shows, Back, Trades, Accepts, Refuses}
 
 -- what plans rest on

@@ -26,7 +26,7 @@ use Rattle.esx_model.specs.Tables.{raw_place, vm_table, tables_of, read_place, r
 use Rattle.esx_model.specs.sound.Sound.{IsSound}
 use Rattle.esx_model.proofs.Callers.{book_read}
 use Rattle.esx_tables.specs.Readings.{row_at}
-use Rattle.esx_plans.proofs.Refining.{row_there, page_row}
+use Rattle.esx_refinement.proofs.Refining.{row_there, page_row}
 use Rattle.esx_machine.specs.Machine.{Kept, IsKept, book_in}
 use Rattle.esx_machine.specs.Questions.{is_hinted, state_of, page_from}
 use Rattle.esx_machine.proofs.Framed.{IsAt, shared_at, hinted_at}

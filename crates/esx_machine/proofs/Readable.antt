@@ -1,38 +1,26 @@
 -- What the tables of every sound site have on which questions rest.
-use Rattle.std.proofs.Common.{◌≡◌, ℕ, map, refl, sym, ◌∙◌, subst, arith, Option, Some, None}
+use Rattle.std.proofs.Common.{◌≡◌, refl, sym, ◌∙◌, subst, arith, Option, Some, None}
 use Rattle.std.specs.Option.{option_map}
 use Rattle.std.proofs.lemmas.List.{length-map}
-use Rattle.std.proofs.lemmas.List.Sums.{count_by-le-length}
 use Rattle.esx_types.specs.declared.config.Config.{Config}
-use Rattle.esx_formulas.specs.declared.activity.Period.{Period}
-use Rattle.esx_formulas.specs.Average.{is_touched}
-use Rattle.esx_model.specs.declared.book.Mark.{Mark}
 use Rattle.esx_model.specs.declared.book.VmRow.{VmRow}
 use Rattle.esx_model.specs.declared.scene.Vm.{Vm}
 use Rattle.esx_model.specs.declared.scene.Site.{Site}
 use Rattle.esx_model.specs.Site.{vm_at}
-use Rattle.esx_model.specs.Show.{period_row}
 use Rattle.esx_model.specs.Tables.{vm_table, tables_of}
-use Rattle.esx_model.specs.sound.Machines.{IsVm, IsPeriodOrNone}
+use Rattle.esx_model.specs.sound.Machines.{IsVm}
 use Rattle.esx_model.specs.sound.Sound.{IsSound}
-use Rattle.esx_plans.proofs.Refining.{row_there}
+use Rattle.esx_refinement.proofs.Refining.{row_there}
+use Rattle.esx_refinement.proofs.refines.Rebalancing.{told_fits}
 use Rattle.esx_machine.specs.Machine.{Kept, IsKept}
-use Rattle.esx_machine.specs.Questions.{CanTell, IsReadable, AreReadable}
-
-can_tell : (most : ℕ) (o : Option Period) → IsPeriodOrNone most o → CanTell (option_map period_row o)
-can_tell most None h = tt
-can_tell most (Some p) h =
-    let mark : ℕ → Mark = λ page. record { page = page; touched = is_touched p page } in
-    let same = length-map p.pages mark in
-    let touched = count_by-le-length (λ (m : Mark). m.touched) (map mark p.pages) in
-    record { touched = touched; least_pages = omega (arith, same, h.least_pages); most_pages = omega (arith, same, h.most_pages) }
+use Rattle.esx_machine.specs.Questions.{IsReadable, AreReadable}
 
 row_readable : (c : Config) (v : Vm) → IsVm c v → IsReadable (vm_table v)
 row_readable c v fine = record {
   least_shares = fine.good.least_shares;
   most_shares = fine.good.most_shares;
   most_target = (let low = fine.most_target in let max = fine.good.most_max in omega arith);
-  period = can_tell v.spec.max v.period fine.period;
+  period = told_fits v.spec.max v.period fine.period;
 }
 
 -- the machine of a row

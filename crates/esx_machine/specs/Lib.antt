@@ -8,3 +8,4 @@ pub use Rattle.esx_tables.specs.Changes
 pub use Rattle.esx_plans.specs.plan.Balloon
 pub mod Machine
 pub mod Questions
+pub mod Advising

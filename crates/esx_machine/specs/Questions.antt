@@ -18,32 +18,26 @@ use Rattle.esx_events.specs.declared.call.TableRow.{TableRow}
 use Rattle.esx_events.specs.declared.event.Refusal.{Refusal}
 use Rattle.esx_events.specs.declared.event.Refusal.TheVariants.{NoVm, OutOfRange}
 use Rattle.esx_formulas.specs.declared.targets.Row.{Row}
-use Rattle.esx_formulas.specs.Estimates.{IsEstimate}
 use Rattle.esx_formulas.specs.Ratio.{Claim, claim}
 use Rattle.esx_formulas.specs.Targets.{sooner, first_claim}
-use Rattle.esx_model.specs.declared.book.PeriodRow.{PeriodRow}
 use Rattle.esx_model.specs.declared.book.VmRow.{VmRow}
 use Rattle.esx_model.specs.declared.tables.Tables.{Tables}
 use Rattle.esx_model.specs.Tables.{standing_of}
-use Rattle.esx_model.specs.Readings.{period_so_far, state_in, table_row}
+use Rattle.esx_model.specs.Readings.{state_in, table_row}
 use Rattle.esx_model.specs.Advice.{help_by}
 use Rattle.esx_model.specs.event.Access.{is_blocked}
 use Rattle.esx_model.specs.event.Outcome.{unless, page_gate}
 use Rattle.esx_model.specs.event.Paging.{has_more}
 use Rattle.esx_tables.specs.Readings.{row_at}
+use Rattle.esx_changes.specs.Activity.{IsTold}
 use Rattle.esx_plans.specs.plan.Ratios.{numbered, ratio_row}
-
--- an open period has some sampled pages, at most a hundred
-abbrev pub CanTell : Option PeriodRow → Type 0
-CanTell None = Unit {0}
-CanTell (Some p) = IsEstimate (period_so_far p)
 
 -- a machine's numbers are in their ranges
 pub record IsReadable (v : VmRow) : Type 0 where
   pub least_shares : 1 ≤ v.spec.shares
   pub most_shares : v.spec.shares ≤ 1048576
   pub most_target : v.target ≤ 65536
-  pub period : CanTell v.period
+  pub period : IsTold v.period
 
 pub record AreReadable (t : Tables) : Type 0 where
   pub vms : length t.vms ≡ VM_NUMBERS

@@ -1,6 +1,6 @@
 //! What lets a write to a page go on. It takes no memory, and looks at each machine once.
 
-ghost use Rattle.std.specs.Prelude.{◌≡◌, ◌≤◌, ◌<◌, Some, is_some, option_map};
+ghost use Rattle.std.specs.Prelude.{◌≡◌, ◌≤◌, ◌<◌, Some, is_some};
 ghost use Rattle.std.specs.List.{list_any};
 ghost use Rattle.std.specs.Option.{ForSome};
 ghost use Rattle.esx_types.specs.declared.config.TheConstants.{VM_NUMBERS};
@@ -12,7 +12,7 @@ ghost use Rattle.esx_model.specs.event.Access.{is_blocked};
 ghost use Rattle.esx_tables.specs.Readings.{row_at};
 ghost use Rattle.esx_machine.specs.Questions.{IsReadable, AreReadable, written_frame, can_go, is_above, target_row, target_rows, claim_of, claim_step, vm_step, help_from, advice_from};
 
-use crate::reading::active;
+use esx_changes::activity::active;
 use esx_events::{Help, Refusal};
 use esx_formulas::Row;
 use esx_formulas::ratio::comes_no_later_at;

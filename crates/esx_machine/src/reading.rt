@@ -1,54 +1,20 @@
 //! What questions read of one machine's row and one frame's.
 
-ghost use Rattle.std.specs.Prelude.{◌≡◌, ◌≤◌};
+ghost use Rattle.std.specs.Prelude.{◌≡◌};
 ghost use Rattle.esx_types.specs.Frames.{frame_at};
 ghost use Rattle.esx_types.specs.Listings.{listing_at};
-ghost use Rattle.esx_formulas.specs.Estimates.{IsEstimate};
-ghost use Rattle.esx_model.specs.Readings.{active_now, activity_in, activity_of, period_so_far, state_in};
+ghost use Rattle.esx_model.specs.Readings.{activity_in, activity_of, state_in};
 ghost use Rattle.esx_tables.specs.Readings.{row_at};
-ghost use Rattle.esx_machine.specs.Questions.{CanTell, AreReadable, is_hinted, state_of, page_from};
+ghost use Rattle.esx_changes.specs.Activity.{IsTold};
+ghost use Rattle.esx_machine.specs.Questions.{AreReadable, is_hinted, state_of, page_from};
 
+use esx_changes::activity::{active, sampled, touched};
 use esx_events::{Activity, PageState, Refusal};
-use esx_model::PeriodRow;
 use esx_tables::{SiteTables, VmTable};
 use esx_types::{FrameRow, Listing, MapRow, VmId};
 
-/// How many of the sampled pages of a period were touched.
-fn touched(period: &PeriodRow) -> u32
-    requires { IsEstimate (period_so_far period.now) }
-    ensures { result ≡ (period_so_far period.now).touched }
-{
-    period
-        .marks
-        .as_slice()
-        .iter()
-        .filter(|mark| mark.touched)
-        .count() as u32
-}
-
-/// How many pages a period samples.
-fn sampled(period: &PeriodRow) -> u32
-    requires { IsEstimate (period_so_far period.now) }
-    ensures { result ≡ (period_so_far period.now).pages }
-{
-    period.marks.len() as u32
-}
-
-/// The share of a machine's memory that counts as in use.
-pub fn active(vm: &VmTable) -> u32
-    requires { CanTell vm.now.period }
-    ensures value { result ≡ active_now vm.now }
-    ensures most { result ≤ 65536 }
-{
-    let averages = vm.averages();
-    match vm.period() {
-        None => averages.active(None),
-        Some(period) => averages.active(Some((touched(period), sampled(period)))),
-    }
-}
-
 fn activity_in(vm: &VmTable) -> Activity
-    requires { CanTell vm.now.period }
+    requires { IsTold vm.now.period }
     ensures { result ≡ activity_in vm.now vm.now.period }
 {
     let averages = vm.averages();

@@ -4,16 +4,17 @@ ghost use Rattle.std.specs.Prelude.{◌≡◌, ◌<◌, ◌++◌, Some, IfOk, On
 ghost use Rattle.esx_types.specs.declared.config.TheConstants.{VM_NUMBERS};
 ghost use Rattle.esx_model.specs.declared.book.VmRow.{VmRow};
 ghost use Rattle.esx_model.specs.Readings.{table_row, table_from};
-ghost use Rattle.esx_machine.specs.Questions.{CanTell, IsReadable, AreReadable, line_of};
+ghost use Rattle.esx_changes.specs.Activity.{IsTold};
+ghost use Rattle.esx_machine.specs.Questions.{IsReadable, AreReadable, line_of};
 
-use crate::reading::active;
+use esx_changes::activity::active;
 use esx_events::TableRow;
 use esx_tables::{SiteTables, VmTable};
 use esx_types::{Rows, VM_NUMBERS, VmId};
 use std::alloc::{AllocError, Global};
 
 fn table_row(vm: VmId, row: &VmTable) -> TableRow
-    requires { CanTell row.now.period }
+    requires { IsTold row.now.period }
     ensures { result ≡ table_row vm row.now }
 {
     let standing = row.standing();

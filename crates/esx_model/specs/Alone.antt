@@ -1,5 +1,5 @@
 -- What the reads of one guest would answer if nobody else were there.
-use Rattle.std.specs.Prelude.{◌≡◌, ℕ, ◌==◌, Bool, true, false, List, [], ◌∷◌, length, take, drop, if◌then◌else◌}
+use Rattle.std.specs.Prelude.{◌≡◌, ℕ, ◌==◌, ◌&&◌, Bool, true, false, List, [], ◌∷◌, length, take, drop, if◌then◌else◌}
 use Rattle.esx_types.specs.declared.config.Config.{Config}
 use Rattle.esx_events.specs.declared.event.Event.{Event}
 use Rattle.esx_events.specs.declared.event.Event.TheVariants.{Read, Write, Lend}
@@ -28,7 +28,7 @@ alone c trace = reads_from trace (λ page. zeros c)
 unfoldable pub is_written_first : Config → ℕ → List Event → Bool
 is_written_first c page [] = true
 is_written_first c page (Read n q at len ∷ later) = if q == page then false else is_written_first c page later
-is_written_first c page (Write n q at new ∷ later) = if q == page then (if length new == c.page then true else is_written_first c page later) else is_written_first c page later
+is_written_first c page (Write n q at new ∷ later) = if q == page then (if (at == 0) && (length new == c.page) then true else is_written_first c page later) else is_written_first c page later
 is_written_first c page (e ∷ later) = is_written_first c page later
 
 -- what a trace lends is not read before it is written whole

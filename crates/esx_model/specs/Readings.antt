@@ -1,5 +1,5 @@
 -- What questions read from the tables.
-use Rattle.std.specs.Prelude.{◌≡◌, ℕ, ◌+◌, ◌*◌, Bool, ◌&&◌, ◌==◌, nat_le, List, [], ◌∷◌, length, Option, Some, None, option_map, slice_index_or, count_by, sum_by, if◌then◌else◌, Result, Ok, Err}
+use Rattle.std.specs.Prelude.{◌≡◌, ℕ, ◌+◌, Bool, ◌&&◌, ◌==◌, nat_le, List, [], ◌∷◌, length, Option, Some, None, option_map, slice_index_or, count_by, sum_by, if◌then◌else◌, Result, Ok, Err}
 use Rattle.std.specs.List.{list_any}
 use Rattle.esx_events.specs.declared.event.Refusal.{Refusal}
 use Rattle.esx_events.specs.declared.event.Refusal.TheVariants.{NoVm, OutOfRange}
@@ -20,7 +20,6 @@ use Rattle.esx_model.specs.declared.book.VmRow.{VmRow}
 use Rattle.esx_model.specs.declared.book.PeriodRow.{PeriodRow}
 use Rattle.esx_formulas.specs.declared.activity.Estimate.{Estimate}
 use Rattle.esx_formulas.specs.Average.{active_share}
-use Rattle.esx_formulas.specs.Level.{depth}
 
 -- how many frames are of each kind, and the level
 unfoldable pub sum_of : Book → Sum
@@ -117,10 +116,6 @@ pub record Gauge : Type 0 where
 
 abbrev pub gauge_of : Book → Gauge
 gauge_of b = record { free = count_by is_free b.frames; level = b.level }
-
--- the same as one number, with 1 more where the lock is held
-abbrev pub gauge_word : Gauge → ℕ → ℕ
-gauge_word g held = 8 * g.free + 2 * depth g.level + held
 
 -- what may still be reclaimed: pages in frames, and frames that hold pages
 abbrev pub debt : Book → ℕ

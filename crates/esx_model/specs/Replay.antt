@@ -1,5 +1,5 @@
 -- Whole paths: the scene that a path leads to.
-use Rattle.std.specs.Prelude.{◌≡◌, ◌≢◌, ℕ, ◌+◌, List, [], ◌∷◌, None, replicate, Result, Ok, Err}
+use Rattle.std.specs.Prelude.{ℕ, ◌+◌, List, [], ◌∷◌, None, replicate, Result, Ok, Err}
 use Rattle.esx_types.specs.declared.config.Config.{Config}
 use Rattle.esx_types.specs.declared.config.TheConstants.{VM_NUMBERS}
 use Rattle.esx_types.specs.declared.level.Level.{Level}
@@ -7,7 +7,6 @@ use Rattle.esx_types.specs.declared.level.Level.TheVariants.{High}
 use Rattle.esx_events.specs.declared.event.Event.{Event}
 use Rattle.esx_events.specs.declared.event.Answer.{Answer}
 use Rattle.esx_events.specs.declared.event.Refusal.{Refusal}
-use Rattle.esx_events.specs.declared.event.Refusal.TheVariants.{OutOfMemory}
 use Rattle.esx_model.specs.declared.scene.Scene.{Scene}
 use Rattle.esx_model.specs.declared.book.Book.{Book}
 use Rattle.esx_model.specs.Site.{free_count}
@@ -61,8 +60,3 @@ frees_from c (e ∷ es) t = frees_after c es (next c t e) (λ u. frees_from c es
 -- the free frames after each event from the opening on
 abbrev pub frees : Config → List Event → List ℕ
 frees c es = frees_from c es (opening c)
-
--- what a call that makes one event may give
-abbrev pub Steps : Result Answer Refusal → Scene → Scene → Result (Answer × Scene) Refusal → Type 0
-Steps (Ok a) old new d = d ≡ Ok (a, new)
-Steps (Err e) old new d = (new ≡ old) × (e ≢ OutOfMemory → d ≡ Err e)

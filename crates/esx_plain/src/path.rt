@@ -10,7 +10,7 @@ ghost use Rattle.esx_plain.specs.Runs.{Steps, Runs, Replays, fault_at};
 use crate::fault::PlainFault;
 use crate::show::shown;
 use esx_events::{Answer, Event, Refusal};
-use esx_formulas::level::next_level;
+use esx_level::Thresholds;
 use esx_model::{Book, Scene, Site, Vm};
 use esx_steps::{free_count, step};
 use esx_types::{Config, Level, Rows, VM_NUMBERS};
@@ -56,7 +56,7 @@ fn next(
     let Scene { site, level } = scene;
     let (answer, site) = step(alloc, config, site, level, event)?;
     let free = free_count(&site, config.frames) as u32;
-    let level = next_level(config, level, free);
+    let level = Thresholds::of(*config).next(level, free);
     Ok((answer, Scene { site, level }))
 }
 

@@ -1,6 +1,7 @@
 use super::*;
 use esx_events::{Boxed, Event, Refusal};
-use esx_types::{Bytes, Config, FrameRow, Level, Rows, VmId, VmSpec};
+use esx_model::{Book, VmRow};
+use esx_types::{Bytes, Config, FrameRow, Level, MapRow, Rows, SlotRow, VmId, VmSpec};
 use std::alloc::{AllocError, Global};
 use std::rt::HostRuntime;
 
@@ -122,4 +123,144 @@ fn the_first_refusal_ends_a_path(rt: HostRuntime) {
         let fault = replay(rt.alloc(), &SITE, &path).err();
         assert_eq!(rt; fault, Some(PlainFault::Refused { at: 2, refusal }));
     }
+}
+
+/// A small site, where frames are soon scarce.
+const FEW: Config = Config {
+    frames: 8,
+    page: 16,
+    slots: 8,
+    tau: 75,
+    high: 6,
+    soft: 4,
+    hard: 2,
+    low: 1,
+    nodes: 16777216,
+};
+
+fn read(vm: VmId, page: u32) -> Event {
+    let (at, len) = (0, 1);
+    Event::Read { vm, page, at, len }
+}
+
+fn first_row(book: &Book) -> Option<&VmRow> {
+    match book.vms.as_slice() {
+        [Some(row), ..] => Some(row),
+        _ => None,
+    }
+}
+
+/// One overhead frame, and then a page of zeros.
+fn is_first_read(frames: &[FrameRow]) -> bool {
+    match frames {
+        [FrameRow::Overhead, FrameRow::Private { bytes }, others @ ..] => {
+            bytes.as_slice() == [0; 16].as_slice()
+                && others.iter().all(|row| matches!(row, FrameRow::Free))
+        }
+        _ => false,
+    }
+}
+
+#[test]
+fn a_page_comes_to_the_least_frame(rt: HostRuntime) {
+    let vm = VmId::new(0).expect(&rt, "a number");
+    let path = [
+        Event::Admit { vm, spec: SPEC },
+        Event::Start { vm },
+        read(vm, 0),
+        read(vm, 4),
+    ];
+    let book = replay(rt.alloc(), &SITE, &path[..3]).expect(&rt, "a book");
+    assert!(rt; is_first_read(book.frames.as_slice()));
+    let row = first_row(&book).expect(&rt, "a machine");
+    let here = MapRow::Here { frame: 1 };
+    let none = MapRow::Untouched;
+    assert_eq!(rt; row.pages.as_slice(), [here, none, none, none].as_slice());
+    let fault = replay(rt.alloc(), &SITE, &path).err();
+    let refusal = Refusal::OutOfRange;
+    assert_eq!(rt; fault, Some(PlainFault::Refused { at: 3, refusal }));
+}
+
+#[test]
+fn a_page_that_was_lent_pops_the_balloon(rt: HostRuntime) {
+    let vm = VmId::new(0).expect(&rt, "a number");
+    let spec = VmSpec {
+        min: 2,
+        max: 6,
+        overhead: 1,
+        shares: 1000,
+        balloon_max: 4,
+    };
+    let path = [
+        Event::Admit { vm, spec },
+        Event::Start { vm },
+        read(vm, 0),
+        read(vm, 1),
+        read(vm, 2),
+        read(vm, 3),
+        read(vm, 4),
+        Event::Rebalance,
+        Event::Lend { vm, page: 4 },
+        Event::Lend { vm, page: 3 },
+        read(vm, 4),
+        Event::Ask { vm },
+    ];
+    let book = replay(rt.alloc(), &FEW, &path[..11]).expect(&rt, "a book");
+    let row = first_row(&book).expect(&rt, "a machine");
+    assert_eq!(rt; (row.due, row.epoch, row.target), (true, 0, 2));
+    let lent = MapRow::Lent { epoch: 0 };
+    assert_eq!(rt; row.pages.as_slice().get(3), Some(&lent));
+    let book = replay(rt.alloc(), &FEW, &path).expect(&rt, "a book");
+    let row = first_row(&book).expect(&rt, "a machine");
+    assert_eq!(rt; (row.due, row.epoch, row.target), (false, 1, 2));
+    assert_eq!(rt; row.pages.as_slice().get(3), Some(&MapRow::Untouched));
+}
+
+fn are_three_held(slots: &[SlotRow]) -> bool {
+    match slots {
+        [
+            SlotRow::Held { .. },
+            SlotRow::Held { .. },
+            SlotRow::Held { .. },
+            others @ ..,
+        ] => others.iter().all(|row| matches!(row, SlotRow::Free)),
+        _ => false,
+    }
+}
+
+#[test]
+fn pages_go_to_the_least_slots(rt: HostRuntime) {
+    let vm = VmId::new(0).expect(&rt, "a number");
+    let spec = VmSpec {
+        min: 2,
+        max: 5,
+        overhead: 1,
+        shares: 1000,
+        balloon_max: 0,
+    };
+    let path = [
+        Event::Admit { vm, spec },
+        Event::Start { vm },
+        read(vm, 0),
+        read(vm, 1),
+        read(vm, 2),
+        read(vm, 3),
+        read(vm, 4),
+        Event::Rebalance,
+        Event::SwapOut { vm, word: 7 },
+        Event::SwapOut { vm, word: 7 },
+        Event::SwapOut { vm, word: 7 },
+    ];
+    let book = replay(rt.alloc(), &FEW, &path).expect(&rt, "a book");
+    let row = first_row(&book).expect(&rt, "a machine");
+    let expected = [
+        MapRow::Here { frame: 1 },
+        MapRow::Out { slot: 2 },
+        MapRow::Out { slot: 0 },
+        MapRow::Here { frame: 4 },
+        MapRow::Out { slot: 1 },
+    ];
+    assert_eq!(rt; row.pages.as_slice(), expected.as_slice());
+    assert!(rt; are_three_held(book.slots.as_slice()));
+    assert_eq!(rt; book.level, Level::High);
 }

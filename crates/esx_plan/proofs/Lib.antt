@@ -1,3 +1,5 @@
 pub mod OutgoingLemmas
 pub mod WordLemmas
 pub mod SessionLemmas
+pub mod EndLemmas
+pub mod RunLemmas

@@ -7,6 +7,11 @@ use Rattle.esx_reading.specs.Whole.{GivesWhole}
 use Rattle.esx_scenario.specs.Plans.{Plan}
 use Rattle.esx_scenario.specs.Scenarios.{IsScenario, IsRefused}
 
+-- the bytes that were left are a text, and it is that scenario
+pub record IsScenarioOf (old new : Option (List ℕ)) (text : List ℕ) (plan : Plan) : Type 0 where
+  pub given : GivesWhole old new text
+  pub scenario : IsScenario text plan
+
 -- the bytes that were left are a text, and it is a scenario of that site
 pub record IsSiteOf (old new : Option (List ℕ)) (text : List ℕ) (config : Config) : Type 0 where
   pub given : GivesWhole old new text

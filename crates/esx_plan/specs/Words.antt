@@ -3,29 +3,31 @@ use Rattle.std.specs.Prelude.{List, Option, Some, None, codes, option_map, if◌
 use Rattle.std.specs.Str.{bytes_eq}
 use Rattle.clap.specs.Words.{App, Row, Text, first_of, new_app, new_rule, subcommand_of, with_rule, with_subcommand}
 use Rattle.esx_plan.specs.declared.words.Asked.{Asked}
-use Rattle.esx_plan.specs.declared.words.Asked.TheVariants.{Console, Replay, Check}
+use Rattle.esx_plan.specs.declared.words.Asked.TheVariants.{Console, Run, Replay, Check}
 
 -- a word, and at most one file behind it
 abbrev pub with_file : Text → App
 with_file word = with_rule (new_app word) (new_rule (codes "file"))
 
--- nothing, or one of the three words and at most one file
+-- nothing, or one of the four words and at most one file
 abbrev pub program_app : App
 program_app =
-    with_subcommand (with_subcommand (with_subcommand (new_app (codes "esxplan")) (with_file (codes "console")).top) (with_file (codes "replay")).top)
-    (with_file (codes "check")).top
+    with_subcommand (with_subcommand (with_subcommand (with_subcommand (new_app (codes "esxplan")) (with_file (codes "console")).top) (with_file (codes "replay")).top)
+    (with_file (codes "check")).top) (with_file (codes "run")).top
 
 -- the word that asks for it, and the file
 abbrev pub word_and_file : Asked → Text × Option Text
 word_and_file (Console file) = (codes "console", option_map (λ f. f.now) file)
+word_and_file (Run file) = (codes "run", Some file.now)
 word_and_file (Replay file) = (codes "replay", Some file.now)
 word_and_file (Check file) = (codes "check", Some file.now)
 
 -- what a word and the file behind it ask for: a console needs no file
 abbrev pub asked_by : Text → Option Text → Option (Text × Option Text)
 asked_by word file =
-    if bytes_eq word (codes "replay") then option_map (λ f. (codes "replay", Some f)) file
-    else (if bytes_eq word (codes "check") then option_map (λ f. (codes "check", Some f)) file else Some (codes "console", file))
+    if bytes_eq word (codes "run") then option_map (λ f. (codes "run", Some f)) file
+    else (if bytes_eq word (codes "replay") then option_map (λ f. (codes "replay", Some f)) file
+    else (if bytes_eq word (codes "check") then option_map (λ f. (codes "check", Some f)) file else Some (codes "console", file)))
 
 -- what a word and what stands behind it ask for; without a word it is a console
 abbrev pub asked_at : Option (Text × List Row) → Option (Text × Option Text)

@@ -1,11 +1,15 @@
-//! The program: a console over the standard streams.
+//! The program: a console over the standard streams, sessions gone through again, and runs of scenarios.
 #![tactic(auto)]
 
 ghost use Rattle.std.specs.Prelude.{IfOk};
 ghost use Rattle.esx_types.specs.Ranges.{IsConfig};
 
+mod ends;
+mod gates;
 mod opening;
 mod outgoing;
+mod progress;
+mod running;
 mod session;
 mod site;
 mod streams;
@@ -13,17 +17,22 @@ mod words;
 
 use esx_check::OutputFault;
 use esx_reading::TextFault;
+use esx_scenario::Scenario;
 use esx_session::Session;
 use esx_text::ServeFault;
 use esx_types::Config;
-use opening::site_of_reader;
+use opening::{scenario_of_reader, site_of_reader};
+use progress::{Progress, Watched};
+use running::{RunFault, run_to};
 use session::{check_to, replay_to, session_of_reader, status_of_check};
 use std::alloc::AllocGlobal;
 use std::env::{self, Env};
 use std::fs;
-use std::io::{self, ErrorKind, Input, Print};
+use std::io::{self, ErrorKind, Input, IsTerminal, Print, Stderr};
 use std::process::ExitCode;
 use std::rt::Files;
+use std::sync::Wait;
+use std::thread::Threads;
 use streams::serve_streams;
 use thiserror::Error;
 use words::{Asked, WordsFault, asked_of_words};
@@ -52,6 +61,8 @@ enum Failure {
     Serve(ServeFault),
     #[error("{0}")]
     Output(OutputFault),
+    #[error("{0}")]
+    Run(RunFault),
 }
 
 impl Failure {
@@ -70,6 +81,8 @@ impl Failure {
             Failure::Serve(ServeFault::OutOfMemory) => 3,
             Failure::Output(OutputFault::Write) => 1,
             Failure::Output(OutputFault::OutOfMemory) => 3,
+            Failure::Run(RunFault::Refused(_) | RunFault::Write) => 1,
+            Failure::Run(RunFault::OutOfMemory) => 3,
         }
     }
 }
@@ -112,6 +125,11 @@ fn site_of_file<R: Files + AllocGlobal>(rt: &R, path: &str) -> Result<Config, Te
     site_of_reader(rt.alloc(), opened(rt, path)?)
 }
 
+/// The scenario in a file.
+fn scenario_of_file<R: Files + AllocGlobal>(rt: &R, path: &str) -> Result<Scenario, TextFault> {
+    scenario_of_reader(rt.alloc(), opened(rt, path)?)
+}
+
 /// The session in a file.
 fn session_of_file<R: Files + AllocGlobal>(rt: &R, path: &str) -> Result<Session, Failure>
     ensures { IfOk result (λ session. IsConfig session.site) }
@@ -135,10 +153,42 @@ fn run_console<R: Files + Input + Print + AllocGlobal>(
     }
 }
 
+/// Where it is told how far a work is: a terminal.
+fn terminal(errors: &Stderr) -> Option<&Stderr> {
+    if errors.is_terminal() {
+        Some(errors)
+    } else {
+        None
+    }
+}
+
+/// Runs a scenario, and writes the session that its workers made to the standard output.
+fn run_scenario<R: Files + Print + AllocGlobal + Threads + Wait + Sync>(
+    rt: &R,
+    errors: &Stderr,
+    path: &str,
+) -> Result<u8, Failure> {
+    let scenario = scenario_of_file(rt, path).map_err(Failure::Text)?;
+    let to = terminal(errors);
+    let told = io::writer(errors);
+    match run_to(rt, rt.alloc(), &scenario, to, told, io::writer(rt)).ended {
+        Ok(()) => Ok(0),
+        Err(fault) => Err(Failure::Run(fault)),
+    }
+}
+
 /// Writes the replies of a session anew to the standard output.
-fn run_replay<R: Files + Print + AllocGlobal>(rt: &R, path: &str) -> Result<u8, Failure> {
+fn run_replay<R: Files + Print + AllocGlobal>(
+    rt: &R,
+    errors: &Stderr,
+    path: &str,
+) -> Result<u8, Failure> {
     let session = session_of_file(rt, path)?;
-    match replay_to(rt.alloc(), session, io::writer(rt)).ended {
+    let progress = Progress::new(terminal(errors), None, "bytes of replies");
+    let writer = Watched::new(io::writer(rt), &progress);
+    let ended = replay_to(rt.alloc(), session, writer).ended;
+    progress.end();
+    match ended {
         Ok(()) => Ok(0),
         Err(fault) => Err(Failure::Output(fault)),
     }
@@ -154,11 +204,15 @@ fn run_check<R: Files + Print + AllocGlobal>(rt: &R, path: &str) -> Result<u8, F
 }
 
 /// Does what the words ask for, and gives the status to end with.
-fn run<R: Env + Files + Input + Print + AllocGlobal>(rt: &R) -> Result<u8, Failure> {
+fn run<R: Env + Files + Input + Print + AllocGlobal + Threads + Wait + Sync>(
+    rt: &R,
+    errors: &Stderr,
+) -> Result<u8, Failure> {
     let words = all_words(rt)?;
     match asked_of_words(rt.alloc(), words.as_slice()) {
         Ok(Asked::Console(file)) => run_console(rt, file),
-        Ok(Asked::Replay(path)) => run_replay(rt, path),
+        Ok(Asked::Run(path)) => run_scenario(rt, errors, path),
+        Ok(Asked::Replay(path)) => run_replay(rt, errors, path),
         Ok(Asked::Check(path)) => run_check(rt, path),
         Err(WordsFault::Wrong) => Err(Failure::Words),
         Err(WordsFault::OutOfMemory) => Err(Failure::Text(TextFault::OutOfMemory)),
@@ -166,7 +220,7 @@ fn run<R: Env + Files + Input + Print + AllocGlobal>(rt: &R) -> Result<u8, Failu
 }
 
 fn main(rt: HostRuntime) -> ExitCode {
-    match run(&rt) {
+    match run(&rt, &rt.stderr()) {
         Ok(status) => ExitCode::from(status),
         Err(failure) => {
             let status = failure.status();

@@ -3,10 +3,12 @@
 mod ends;
 mod mechanisms;
 mod opening;
+mod running;
 
 ghost use Rattle.std.specs.Prelude.{◌≡◌, ◌≤◌};
 ghost use Rattle.esx_types.specs.Ranges.{IsConfig};
 
+use crate::running::RunFault;
 use crate::site::serve_site;
 use crate::{Failure, SITE};
 use esx_reading::TextFault;
@@ -196,6 +198,8 @@ fn statuses(rt: HostRuntime) {
     assert_eq!(rt; Failure::Serve(ServeFault::Read).status(), 1);
     assert_eq!(rt; Failure::Serve(ServeFault::Write).status(), 1);
     assert_eq!(rt; Failure::Serve(ServeFault::OutOfMemory).status(), 3);
+    assert_eq!(rt; Failure::Run(RunFault::Write).status(), 1);
+    assert_eq!(rt; Failure::Run(RunFault::OutOfMemory).status(), 3);
 }
 
 const COMMANDS: [&str; 9] = [

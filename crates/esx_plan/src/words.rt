@@ -14,6 +14,8 @@ use std::alloc::{AllocError, Global};
 pub enum Asked<'a> {
     /// A console, at the site of the scenario in a file if one is named.
     Console(Option<&'a str>),
+    /// The run of the scenario in a file.
+    Run(&'a str),
     /// A session in a file, gone through again.
     Replay(&'a str),
     /// Whether the calls of a session in a file have the replies that stand with them.
@@ -36,15 +38,16 @@ fn word_with_file<'a>(alloc: Global, word: &'a str) -> Result<Command<'a>, Alloc
     Command::new(alloc, word).arg(file)
 }
 
-/// What may stand on the program's command line: nothing, or `console` and at most one file, or `replay` or
-/// `check` and a file.
+/// What may stand on the program's command line: nothing, or `console` and at most one file, or `run`, `replay`
+/// or `check` and a file.
 fn program<'a>(alloc: Global) -> Result<Command<'a>, AllocError>
     ensures { IfOk result (λ c. app_of c ≡ program_app) }
 {
     Command::new(alloc, "esxplan")
         .subcommand(word_with_file(alloc, "console")?)?
         .subcommand(word_with_file(alloc, "replay")?)?
-        .subcommand(word_with_file(alloc, "check")?)
+        .subcommand(word_with_file(alloc, "check")?)?
+        .subcommand(word_with_file(alloc, "run")?)
 }
 
 /// What is asked for by a word and the file behind it. All words but a console want one.
@@ -52,6 +55,7 @@ fn asked_for<'a>(word: &str, file: Option<&'a str>) -> Option<Asked<'a>>
     ensures { option_map word_and_file result ≡ asked_by word.now (option_map (λ f. f.now) file.entry) }
 {
     match word {
+        "run" => Some(Asked::Run(file?)),
         "replay" => Some(Asked::Replay(file?)),
         "check" => Some(Asked::Check(file?)),
         _ => Some(Asked::Console(file)),

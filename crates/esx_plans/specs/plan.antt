@@ -1,6 +1,4 @@
-pub mod Planned
 pub mod Admission
-pub mod Leaves
 pub mod Balloon
 pub mod Leaving
 pub mod Ratios
@@ -8,8 +6,3 @@ pub mod Rebalancing
 pub mod Starting
 pub mod Event
 pub mod Sampling
-pub mod Counted
-pub mod Access
-pub mod Replacing
-pub mod Sharing
-pub mod Paging

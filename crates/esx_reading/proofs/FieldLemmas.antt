@@ -1,9 +1,8 @@
 -- Splitting a line into fields, and joining them.
-use Rattle.std.proofs.Common.{◌≡◌, ◌≢◌, ◌<◌, ◌^◌, ◌/◌, ◌%◌, inl, inr, ℕ, List, [], ◌∷◌, length, get_or, arith, refl, ap, sym, ◌∙◌, true, false, nat_lt, decimal, lit<}
-use Rattle.std.specs.List.{All, position_or_len, before_first, after_first, AllByRecursion}
+use Rattle.std.proofs.Common.{◌≡◌, ◌≢◌, ◌++◌, ◌<◌, ◌^◌, ◌/◌, ◌%◌, inl, inr, ℕ, List, [], ◌∷◌, length, get_or, arith, refl, ap, sym, ◌∙◌, true, false, nat_lt, decimal, lit<}
+use Rattle.std.specs.List.{All, AllByRecursion}
 use Rattle.std.proofs.Math.Dec.{eqb}
-use Rattle.std.proofs.lemmas.List.Splits.{slice_split_first, slice_split_none, slice_split_at, join_with_byte-slice_split}
-use Rattle.std.proofs.lemmas.List.Sums.{fails_before_first}
+use Rattle.std.proofs.lemmas.List.Splits.{slice_split_none, slice_split_at, join_with_byte-slice_split}
 use Rattle.std.proofs.lemmas.List.Elements.{All-from_get_or, All-from_recursion, All-get_or, All-weaker, All-append, All-cons}
 use Rattle.std.proofs.lemmas.Str.Ascii.{All-from_ascii, IsAscii-from_all}
 use Rattle.std.specs.Str.{IsAscii}
@@ -21,19 +20,24 @@ use Rattle.std.specs.List.{list_all}
 use Rattle.std.proofs.lemmas.List.Sums.{AllPass-from_list_all}
 use Rattle.std.proofs.lemmas.Bool.{and_parts}
 use Rattle.std.proofs.lemmas.List.Splits.{length-slice_split}
-use Rattle.esx_reading.specs.Fields.{fields, fields_left, joined}
+use Rattle.esx_reading.specs.Fields.{HasNoSpace, fields, fields_left, joined}
 
 -- no space stands in the text, and each byte is ASCII
 pub record IsField (text : List ℕ) : Type 0 where
   pub each : All (λ b. eqb b 32 ≡ false) text
   pub ascii : All (λ b. b < 128) text
 
-pub next_field : (text front back : List ℕ) → position_or_len (λ b. eqb b 32) text < length text
-    → front ≡ before_first (λ b. eqb b 32) text → back ≡ after_first (λ b. eqb b 32) text → fields text ≡ front ∷ fields back
-next_field text front back within f b = rw (f, b) (slice_split_first (λ b. eqb b 32) text 0 within)
+pub no_match : (b c : ℕ) → b ≢ c → eqb b c ≡ false
+no_match b c ne = grind (arith, Decides-eqb b c)
 
-pub last_field : (text : List ℕ) → position_or_len (λ b. eqb b 32) text ≡ length text → fields text ≡ text ∷ []
-last_field text none = slice_split_none (λ b. eqb b 32) text (λ k d lt. fails_before_first (λ b. eqb b 32) text k d (omega arith))
+no_space : (text : List ℕ) → HasNoSpace text → All (λ b. eqb b 32 ≡ false) text
+no_space text h = All-weaker (λ b. b ≡ 32 → ⊥) (λ b. eqb b 32 ≡ false) (λ b ne. no_match b 32 ne) text h
+
+pub next_field : (text front back : List ℕ) → HasNoSpace front → text ≡ front ++ 32 ∷ back → fields text ≡ front ∷ fields back
+next_field text front back none e = ap fields e ∙ slice_split_at (λ b. eqb b 32) front 32 back (no_space front none) refl
+
+pub last_field : (text : List ℕ) → HasNoSpace text → fields text ≡ text ∷ []
+last_field text none = slice_split_none (λ b. eqb b 32) text (no_space text none)
 
 pub joined_of_fields : (text : List ℕ) → joined (fields text) ≡ text
 joined_of_fields text = join_with_byte-slice_split 32 text
@@ -52,9 +56,6 @@ pub fields_of_joined : (w : List ℕ) (ws : List (List ℕ)) → IsField w → A
 fields_of_joined w [] h hs = slice_split_none (λ b. eqb b 32) w h.each
 fields_of_joined w (v ∷ vs) h hs =
     slice_split_at (λ b. eqb b 32) w 32 (joined (v ∷ vs)) h.each refl ∙ ap (λ r. w ∷ r) (fields_of_joined v vs hs.0 hs.1)
-
-pub no_match : (b c : ℕ) → b ≢ c → eqb b c ≡ false
-no_match b c ne = grind (arith, Decides-eqb b c)
 
 pub no_space_in_decimal : (n : ℕ) → n < 2 ^ 64 → IsField (decimal n)
 no_space_in_decimal n small = record {

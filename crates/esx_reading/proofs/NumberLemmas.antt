@@ -1,11 +1,13 @@
 -- Numbers that are written without sign and without leading zeros.
-use Rattle.std.proofs.Common.{◌≡◌, ◌<◌, ◌≤◌, ◌^◌, ◌⊎◌, inl, inr, ℕ, zero, suc, List, [], ◌∷◌, length, get_or, arith, refl, ap, sym, subst, ◌∙◌, true, false, decimal, Result, Ok, Err}
-use Rattle.std.specs.Prelude.{IfOk, IfSome, IfNone, ◌==◌, cond, drop, Bool}
-use Rattle.std.specs.Result.{result_ok}
-use Rattle.std.specs.Str.Parse.{AllDigits, digits_value, without_leading_plus, ParsesUnsigned}
-use Rattle.std.proofs.lemmas.Bool.{cases_Bool, eqb-true}
-use Rattle.std.proofs.lemmas.Str.Parse.{IsNumeralModel}
-use Rattle.std.proofs.lemmas.Fmt.{first_decimal, decimal_digit, decimal-digits_value, parse-decimal}
+use Rattle.std.proofs.Common.{◌≡◌, ◌+◌, ◌-◌, ◌*◌, take, ◌<◌, ◌≤◌, ◌^◌, ◌⊎◌, ℕ, zero, suc, List, length, get_or, arith, refl, ap, sym, subst, ◌∙◌, decimal, ⊎_elim}
+use Rattle.std.specs.Prelude.{IfSome, IfNone, Option, Some, None}
+use Rattle.std.specs.Str.Parse.{AllDigits, digits_value}
+use Rattle.std.specs.Char.{digit_value}
+use Rattle.std.proofs.Math.Seq.{take-length}
+use Rattle.std.proofs.lemmas.Str.{digit_value_digit}
+use Rattle.std.proofs.lemmas.Str.Parse.{IsNumeralModel, digit_at, digits_value-take-le}
+use Rattle.std.proofs.lemmas.Int.Digits.{digits_more, digits_value_more}
+use Rattle.std.proofs.lemmas.Fmt.{first_decimal, decimal_digit, decimal-digits_value, digits_decimal, digits_value-decimal}
 
 own : IsNumeralModel (AllDigits 10) (digits_value 10)
 own = record { to = λ ds d. d; from = λ ds d. d; same = λ ds d. refl }
@@ -18,36 +20,47 @@ zero_alone (suc n) text small e low =
     let g : get_or text 0 0 ≡ get_or (decimal (suc n)) 0 0 = ap (λ t. get_or t 0 0) e in
     absurd (omega (arith, f, g, low))
 
--- a text that may be a number has no plus before its digits
-no_plus : (text : List ℕ) → (get_or text 0 0 ≤ 48 → length text ≡ 1) → 0 < length (without_leading_plus text) → without_leading_plus text ≡ text
-no_plus [] one some = refl
-no_plus (c ∷ cs) one some = split (cases_Bool (c == 43)) where
-  split : ((c == 43) ≡ true) ⊎ ((c == 43) ≡ false) → without_leading_plus (c ∷ cs) ≡ (c ∷ cs)
-  split (inl e) =
-      let P : Bool → Type 0 = λ b. 0 < length (drop (cond b 1 0) (c ∷ cs)) in
-      let more : 0 < length cs = subst P e some in
-      let k : c ≡ 43 = eqb-true c 43 e in
-      absurd (omega (arith, more, one (omega (arith, k))))
-  split (inr e) = ap (λ b. drop (cond b 1 0) (c ∷ cs)) e
+-- the digits of a text that may be a number write the number that the text is the decimal digits of
+pub read_number : (text bytes : List ℕ) (r : Option ℕ) → bytes ≡ text → (get_or text 0 0 ≤ 48 → length text ≡ 1) → 0 < length text
+    → IfSome r (λ n. (n < 2 ^ 64) × AllDigits 10 bytes × (n ≡ digits_value 10 bytes)) → IfSome r (λ n. (n < 2 ^ 64) × (text ≡ decimal n))
+read_number text bytes None e one some p = tt
+read_number text bytes (Some n) e one some p =
+    let digits : AllDigits 10 text = subst (AllDigits 10) e p.1 in
+    let value : n ≡ digits_value 10 text = p.2 ∙ ap (digits_value 10) e in
+    let small : digits_value 10 text < 2 ^ 64 = subst (λ m. m < 2 ^ 64) value p.0 in
+    (p.0, sym (decimal-digits_value own text digits some (λ low. one (omega (arith, low))) small) ∙ ap decimal (sym value))
 
--- what is read of such a text is the number that it is the decimal digits of
-pub read_number : {E : Type 0} (text : List ℕ) (r : Result ℕ E) → ParsesUnsigned 64 10 text r → (get_or text 0 0 ≤ 48 → length text ≡ 1)
-    → IfOk r (λ n. (n < 2 ^ 64) × (text ≡ decimal n))
-read_number text (Ok n) p one =
-    let same = no_plus text one p.0.0.0 in
-    let digits : AllDigits 10 text = subst (AllDigits 10) same p.0.0.1 in
-    let value : n ≡ digits_value 10 text = p.1 ∙ ap (digits_value 10) same in
-    let some : 0 < length text = subst (λ t. 0 < length t) same p.0.0.0 in
-    let small : digits_value 10 text < 2 ^ 64 = subst (λ t. digits_value 10 t < 2 ^ 64) same p.0.1 in
-    let d = decimal-digits_value own text digits some (λ low. one (omega (arith, low))) small in
-    (subst (λ m. m < 2 ^ 64) (sym value) small, sym d ∙ ap decimal (sym value))
-read_number text (Err e) p one = tt
+pub read_none : (text bytes : List ℕ) (r : Option ℕ) → bytes ≡ text → IfNone r (AllDigits 10 bytes → digits_value 10 bytes < 2 ^ 64 → ⊥)
+    → IfNone r ((n : ℕ) → n < 2 ^ 64 → text ≡ decimal n → ⊥)
+read_none text bytes (Some n) e p = tt
+read_none text bytes None e p = λ n small is.
+    let same : decimal n ≡ bytes = sym (e ∙ is) in
+    p (subst (AllDigits 10) same (digits_decimal own n small)) (omega (arith, small, digits_value-decimal own n small, ap (digits_value 10) same))
 
-pub some_from_ok : {E : Type 0} (P : ℕ → Type 0) (r : Result ℕ E) → IfOk r P → IfSome (result_ok r) P
-some_from_ok P (Ok n) p = p
-some_from_ok P (Err e) p = tt
+-- a byte that is no digit, and one more digit
+pub no_digit_at : (bytes : List ℕ) (i : ℕ) → i < length bytes → (get_or bytes i 0 < 48) ⊎ (57 < get_or bytes i 0) → AllDigits 10 bytes → ⊥
+no_digit_at bytes i within none digits =
+    let d = digit_at bytes i digits within in
+    ⊎_elim (λ low. omega (arith, low, d.0, d.1)) (λ high. omega (arith, high, d.0, d.1)) none
 
-pub none_from_err : {E : Type 0} (text : List ℕ) (r : Result ℕ E) → ParsesUnsigned 64 10 text r
-    → IfNone (result_ok r) ((n : ℕ) → n < 2 ^ 64 → text ≡ decimal n → ⊥)
-none_from_err text (Ok n) p = tt
-none_from_err text (Err e) p = λ n small t. let r = parse-decimal 64 n text (Err e) small small t p in cc
+digit_here : (bytes : List ℕ) (i : ℕ) → 48 ≤ get_or bytes i 0 → get_or bytes i 0 ≤ 57 → digit_value (get_or bytes i 0) ≡ get_or bytes i 0 - 48
+digit_here bytes i low high = omega (arith, digit_value_digit (get_or bytes i 0) (low, high), low)
+
+pub value_more : (bytes : List ℕ) (i : ℕ) → i < length bytes → 48 ≤ get_or bytes i 0 → get_or bytes i 0 ≤ 57
+    → digits_value 10 (take (i + 1) bytes) ≡ digits_value 10 (take i bytes) * 10 + (get_or bytes i 0 - 48)
+value_more bytes i within low high = omega (arith, digits_value_more 10 bytes i within, digit_here bytes i low high)
+
+pub digit_more : (bytes : List ℕ) (i : ℕ) → i < length bytes → 48 ≤ get_or bytes i 0 → get_or bytes i 0 ≤ 57 → AllDigits 10 (take i bytes) → AllDigits 10 (take (i + 1) bytes)
+digit_more bytes i within low high all = digits_more 10 bytes i within all (omega (arith, digit_here bytes i low high, low, high))
+
+pub value_at_most : (bytes : List ℕ) (i : ℕ) → i < length bytes → 48 ≤ get_or bytes i 0 → get_or bytes i 0 ≤ 57
+    → digits_value 10 (take i bytes) * 10 + (get_or bytes i 0 - 48) ≤ digits_value 10 bytes
+value_at_most bytes i within low high =
+    omega (arith, value_more bytes i within low high, digits_value-take-le 10 bytes (i + 1) (omega arith))
+
+-- where all bytes were gone over
+pub all_read : (bytes : List ℕ) (i n : ℕ) → i ≡ length bytes → n < 2 ^ 64 → AllDigits 10 (take i bytes) → n ≡ digits_value 10 (take i bytes)
+    → (n < 2 ^ 64) × AllDigits 10 bytes × (n ≡ digits_value 10 bytes)
+all_read bytes i n past small digits value =
+    let whole : take i bytes ≡ bytes = ap (λ k. take k bytes) past ∙ take-length bytes in
+    (small, subst (AllDigits 10) whole digits, value ∙ ap (digits_value 10) whole)

@@ -1,7 +1,7 @@
 -- Fields of a line, parted by exactly one space.
-use Rattle.std.specs.Prelude.{ℕ, List, [], ◌==◌, Option, None, Some}
+use Rattle.std.specs.Prelude.{ℕ, List, [], ◌≡◌, ◌==◌, Option, None, Some}
 use Rattle.std.specs.Borrow.{Bor}
-use Rattle.std.specs.List.{slice_split, join_with_byte}
+use Rattle.std.specs.List.{All, slice_split, join_with_byte}
 
 -- the fields with one space between each and the next
 abbrev pub joined : List (List ℕ) → List ℕ
@@ -15,3 +15,7 @@ fields = slice_split (λ b. b == 32)
 abbrev pub fields_left : Option (Bor (List ℕ)) → List (List ℕ)
 fields_left None = []
 fields_left (Some text) = fields text.now
+
+-- no space stands in the bytes
+abbrev pub HasNoSpace : List ℕ → Type 0
+HasNoSpace = All (λ b. b ≡ 32 → ⊥)

@@ -1,13 +1,33 @@
 //! A line as fields parted by single spaces, and numbers among them.
 
-ghost use Rattle.std.specs.Prelude.{◌≡◌, ◌<◌, ◌^◌, ◌∷◌, ◌↔◌, [], ℕ, List, decimal, MatchOption, IfSome, IfNone, IsTrue};
+ghost use Rattle.std.specs.Prelude.{◌≡◌, ◌<◌, ◌≤◌, ◌^◌, ◌∷◌, ◌++◌, ◌↔◌, [], ℕ, List, decimal, get_or, length, take, MatchOption, IfSome, IfNone, IsTrue};
 ghost use Rattle.esx_types.specs.declared.config.TheConstants.{VM_NUMBERS};
-ghost use Rattle.esx_reading.specs.Fields.{fields};
+ghost use Rattle.std.specs.Str.Parse.{AllDigits, digits_value};
+ghost use Rattle.esx_reading.specs.Fields.{HasNoSpace, fields};
 
 use esx_types::{VM_NUMBERS, VmId};
 use std::marker::Model;
 
+/// The number that digits write, where all bytes are digits and it has 64 bits.
+#[inline(always)]
+fn number_of_digits(bytes: &[u8]) -> Option<u64>
+    ensures some { IfSome result (λ n. (n < 2 ^ 64) × AllDigits 10 bytes.now × (n ≡ digits_value 10 bytes.now)) }
+    ensures none { IfNone result (AllDigits 10 bytes.now → digits_value 10 bytes.now < 2 ^ 64 → ⊥) }
+{
+    let mut number: u64 = 0;
+    for byte in bytes {
+        if *byte < b'0' || b'9' < *byte {
+            return None;
+        }
+        number = number
+            .checked_mul(10)?
+            .checked_add(u64::from(*byte - b'0'))?;
+    }
+    Some(number)
+}
+
 /// The number whose decimal digits the text is, without sign and without leading zeros.
+#[inline]
 pub fn number_of(text: &str) -> Option<u64>
     ensures some { IfSome result (λ n. (n < 2 ^ 64) × (text.now ≡ decimal n)) }
     ensures none { IfNone result ((n : ℕ) → n < 2 ^ 64 → text.now ≡ decimal n → ⊥) }
@@ -17,7 +37,36 @@ pub fn number_of(text: &str) -> Option<u64>
     if first <= b'0' && bytes.len() != 1 {
         return None;
     }
-    text.parse().ok()
+    number_of_digits(bytes)
+}
+
+/// Where the first space stands, or how many bytes there are where none does.
+#[inline(always)]
+fn first_space(bytes: &[u8]) -> usize
+    ensures within { result ≤ length bytes.now }
+    ensures before { HasNoSpace (take result bytes.now) }
+    ensures here { result < length bytes.now → get_or bytes.now result 0 ≡ 32 }
+{
+    for i in 0..bytes.len() {
+        if bytes[i] == b' ' {
+            return i;
+        }
+    }
+    bytes.len()
+}
+
+/// The text before the first space, and the text behind it.
+#[inline(always)]
+fn split_at_space<'a>(text: &'a str) -> Option<(&'a str, &'a str)>
+    ensures { MatchOption result (HasNoSpace text.now) (λ p. HasNoSpace p.0.now × (text.now ≡ p.0.now ++ 32 ∷ p.1.now)) }
+{
+    let at = first_space(text.as_bytes());
+    if at == text.len() {
+        return None;
+    }
+    let (field, _) = text.split_at(at);
+    let (_, later) = text.split_at(at + 1);
+    Some((field, later))
 }
 
 /// The fields of a line that are left, seen as their list.
@@ -37,6 +86,7 @@ impl<'a> Model for Fields<'a> {
 }
 
 impl<'a> Fields<'a> {
+    #[inline]
     pub fn of(text: &'a str) -> Fields<'a>
         ensures { result ≡ fields text.now }
     {
@@ -44,11 +94,12 @@ impl<'a> Fields<'a> {
     }
 
     /// The next field.
+    #[inline]
     pub fn next(&mut self) -> Option<&'a str>
         ensures { MatchOption result (self.old ≡ []) (λ field. self.old ≡ field.now ∷ self.new) }
     {
         let rest = self.rest?;
-        match rest.split_once(' ') {
+        match split_at_space(rest) {
             Some((field, later)) => {
                 self.rest = Some(later);
                 Some(field)
@@ -61,6 +112,7 @@ impl<'a> Fields<'a> {
     }
 
     /// Whether no field is left.
+    #[inline]
     pub fn is_empty(&self) -> bool
         ensures { IsTrue result ↔ (self.now ≡ []) }
     {

@@ -21,8 +21,8 @@ use Rattle.esx_tables.specs.declared.change.VmPart.TheVariants.{PageAt, Period, 
 use Rattle.esx_tables.specs.Changes.{traded, exchanged}
 use Rattle.esx_tables.specs.Machines.{part_traded, vm_traded}
 use Rattle.esx_tables.specs.Readings.{row_at}
-use Rattle.esx_plans.specs.plan.Counted.{is_first, turned_from, closed_means, open_parts, counted_parts}
-use Rattle.esx_plans.specs.plan.Access.{write_copy}
+use Rattle.esx_changes.specs.Counted.{is_first, turned_from, closed_means, open_parts, counted_parts}
+use Rattle.esx_access.specs.Access.{write_copy}
 
 abbrev pub pages_of : Option VmRow → Option (List MapRow)
 pages_of o = option_map (λ (v : VmRow). v.pages) o

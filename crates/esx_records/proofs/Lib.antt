@@ -7,6 +7,7 @@ pub mod Stocks
 pub mod plans
 pub mod Forms
 pub mod Told
+pub mod Together
 pub mod Written
 pub mod Moved
 pub mod Copied

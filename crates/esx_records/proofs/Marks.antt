@@ -41,11 +41,11 @@ marks_most (ListingAt f listing) = 0
 marks_most (FrameWithSlot f i) = 0
 marks_most (TaxIs tau) = 0
 
-done_same : (o : Option PeriodRow) (done : ℕ) → mark_count (done_traded o done).0 ≡ mark_count o
+pub done_same : (o : Option PeriodRow) (done : ℕ) → mark_count (done_traded o done).0 ≡ mark_count o
 done_same None done = refl
 done_same (Some p) done = refl
 
-turned_same : (v : VmRow) (o : Option PeriodRow) (mark : ℕ) → v.period ≡ o → vm_marks (vm_traded (Some v) (Touched mark)).0 ≡ mark_count o
+pub turned_same : (v : VmRow) (o : Option PeriodRow) (mark : ℕ) → v.period ≡ o → vm_marks (vm_traded (Some v) (Touched mark)).0 ≡ mark_count o
 turned_same v None mark e = rw e refl
 turned_same v (Some p) mark e = rw e (length-set p.marks mark (mark_turned (get_or p.marks mark no_mark)))
 

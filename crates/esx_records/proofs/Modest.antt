@@ -12,7 +12,7 @@ use Rattle.esx_tables.specs.declared.change.Change.TheVariants.{FrameAt, OfVm}
 use Rattle.esx_tables.specs.declared.change.VmPart.{VmPart}
 use Rattle.esx_tables.specs.Changes.{exchanged}
 use Rattle.esx_tables.specs.Sizes.{bytes_held, marks_held, part_marks, is_row, is_row_part, is_target, is_target_part}
-use Rattle.esx_plans.specs.plan.Planned.{Planned, at_row}
+use Rattle.esx_changes.specs.Planned.{Planned, at_row}
 use Rattle.esx_records.specs.Small.{IsSmall}
 use Rattle.esx_records.proofs.Totals.{total, total_is, one_if, back, kept_back}
 use Rattle.esx_records.proofs.Alike.{places_held, places_total, row_kept, target_kept, places_kept}

@@ -17,7 +17,7 @@ use Rattle.esx_tables.specs.declared.change.VmPart.TheVariants.{OverheadTop}
 use Rattle.esx_tables.specs.Changes.{traded, exchanged}
 use Rattle.esx_tables.specs.Machines.{vm_traded}
 use Rattle.esx_tables.specs.Readings.{row_at}
-use Rattle.esx_plans.specs.plan.Planned.{Planned}
+use Rattle.esx_changes.specs.Planned.{Planned}
 use Rattle.esx_plans.specs.plan.Admission.{memory_after, swap_after, admit_plan}
 use Rattle.esx_plans.specs.plan.Leaving.{gone_changes, give_back_changes, gone_plan}
 use Rattle.esx_machine.specs.Machine.{Kept, IsKept, Back, Exchanges, turned}

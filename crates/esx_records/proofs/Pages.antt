@@ -70,7 +70,7 @@ bytes_most c (OfVm n part) = 0
 bytes_most c (VmAt n row) = 0
 bytes_most c (TaxIs tau) = 0
 
-mark_small : (row : FrameRow) (mark : Mark) → length (bytes_of (mark_traded row mark).0) ≡ length (bytes_of row)
+pub mark_small : (row : FrameRow) (mark : Mark) → length (bytes_of (mark_traded row mark).0) ≡ length (bytes_of row)
 mark_small frames.Free mark = refl
 mark_small frames.Overhead mark = refl
 mark_small (frames.Private bytes) marks.Private = refl
@@ -78,7 +78,7 @@ mark_small (frames.Private bytes) (marks.Shared count) = refl
 mark_small (frames.Shared count bytes) marks.Private = refl
 mark_small (frames.Shared count bytes) (marks.Shared other) = refl
 
-part_small : (row : FrameRow) (offset : ℕ) (new : List ℕ) → length (bytes_of (bytes_traded offset row new).0) ≡ length (bytes_of row)
+pub part_small : (row : FrameRow) (offset : ℕ) (new : List ℕ) → length (bytes_of (bytes_traded offset row new).0) ≡ length (bytes_of row)
 part_small frames.Free offset new = refl
 part_small frames.Overhead offset new = refl
 part_small (frames.Private bytes) offset new = length-part_traded bytes offset new
@@ -97,7 +97,7 @@ as_many old at new = of (fits old at new) refl
     of true h = (let len = room h in rw (part_fits old at new h) (same len))
     of false h = rw (part_misfits old at new h) refl
 
-bytes_kept : (row : FrameRow) (offset : ℕ) (new : List ℕ) → length (bytes_traded offset row new).1 ≡ length new
+pub bytes_kept : (row : FrameRow) (offset : ℕ) (new : List ℕ) → length (bytes_traded offset row new).1 ≡ length new
 bytes_kept frames.Free offset new = refl
 bytes_kept frames.Overhead offset new = refl
 bytes_kept (frames.Private bytes) offset new = as_many bytes offset new

@@ -22,9 +22,9 @@ use Rattle.esx_model.proofs.Lists.{all_append, all_map}
 use Rattle.esx_model.proofs.HintsKept.{all_filter}
 use Rattle.esx_tables.specs.Readings.{row_at}
 use Rattle.esx_tables.specs.Sizes.{mark_count, vm_marks}
-use Rattle.esx_plans.specs.plan.Counted.{IsOpen, ArePeriodsOpen}
-use Rattle.esx_plans.proofs.Periods.{periods_open}
-use Rattle.esx_plans.proofs.refines.Rebalancing.{has_ratios}
+use Rattle.esx_changes.specs.Counted.{IsOpen, ArePeriodsOpen}
+use Rattle.esx_refinement.proofs.Periods.{periods_open}
+use Rattle.esx_refinement.proofs.refines.Rebalancing.{has_ratios}
 use Rattle.esx_records.proofs.Pages.{HavePages, IsPageAtMost, IsSlotAtMost, all_of}
 use Rattle.esx_records.proofs.Marks.{HaveFewMarks}
 

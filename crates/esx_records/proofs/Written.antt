@@ -17,9 +17,9 @@ use Rattle.esx_tables.specs.declared.change.Change.{Change}
 use Rattle.esx_tables.specs.Changes.{exchanged}
 use Rattle.esx_tables.specs.Readings.{row_at}
 use Rattle.esx_tables.specs.Sizes.{bytes_held, size_of}
-use Rattle.esx_plans.specs.plan.Planned.{Planned}
-use Rattle.esx_plans.specs.plan.Counted.{IsOpenOf}
-use Rattle.esx_plans.specs.plan.Access.{come, write_own, write_copy, write_last, write_frame, write_from, write_plan}
+use Rattle.esx_changes.specs.Planned.{Planned}
+use Rattle.esx_changes.specs.Counted.{IsOpenOf}
+use Rattle.esx_access.specs.Access.{come, write_own, write_copy, write_last, write_frame, write_from, write_plan}
 use Rattle.esx_machine.specs.Machine.{Kept, IsKept, Back, Exchanges}
 use Rattle.esx_records.specs.Forms.{after_flips, IsIn}
 use Rattle.esx_records.proofs.Totals.{total, total_is, back}

@@ -1,6 +1,6 @@
 //! Laws of records, as an event gives them and after any number of flips.
 
-ghost use Rattle.std.specs.Prelude.{◌≡◌, ◌≤◌, ◌<◌, ℕ, List, [], ◌∷◌, length, Some, None};
+ghost use Rattle.std.specs.Prelude.{◌≡◌, ◌+◌, ◌≤◌, ◌<◌, ℕ, List, [], ◌∷◌, length, Some, None};
 ghost use Rattle.esx_types.specs.declared.config.Config.{Config};
 ghost use Rattle.esx_types.specs.declared.config.TheConstants.{VM_NUMBERS};
 ghost use Rattle.esx_types.specs.declared.vm.VmSpec.{VmSpec};
@@ -12,9 +12,10 @@ ghost use Rattle.esx_tables.specs.declared.change.Change.{Change};
 ghost use Rattle.esx_tables.specs.declared.change.Change.TheVariants.{VmAt};
 ghost use Rattle.esx_tables.specs.Readings.{row_at};
 ghost use Rattle.esx_tables.specs.Sizes.{size_of, capped};
-ghost use Rattle.esx_machine.specs.Machine.{Kept, IsKept, Back, Exchanges, turned};
+ghost use Rattle.esx_machine.specs.Machine.{Kept, IsKept, Back, Exchanges, flipped, turned};
 ghost use Rattle.esx_records.specs.Small.{places_in, machines_moved, IsSmall};
 ghost use Rattle.esx_records.specs.Forms.{after_flips, IsIn};
+ghost use Rattle.esx_records.specs.Moves.{bytes_in, marks_in};
 
 /// The record of an event holds one page of bytes at most, 10 rows, 100 sample marks and 32 targets; and no
 /// machine with its page map, but for one in an admission and where a machine gives back an overhead frame.
@@ -48,4 +49,18 @@ pub fn gone_machine_moves()
 /// The sizes that a small record tells are its own: none is cut off at the greatest number of 64 bits.
 pub fn sizes_are_told()
     ensures { (c : Config) (most : ℕ) (changes : List Change) → IsConfig c → IsSmall c most changes → capped (size_of changes) ≡ size_of changes }
+{}
+
+/// A flip moves bytes of pages and sample marks between the tables and the record, and makes none: both
+/// together have as many as before.
+pub fn flips_make_nothing()
+    ensures bytes { (here : Kept) (r : Back) → bytes_in (flipped here r).0.tables + (size_of (flipped here r).1.changes).bytes
+        ≡ bytes_in here.tables + (size_of r.changes).bytes }
+    ensures marks { (here : Kept) (r : Back) → marks_in (flipped here r).0.tables + (size_of (flipped here r).1.changes).marks
+        ≡ marks_in here.tables + (size_of r.changes).marks }
+{}
+
+/// Each change of a record counts: as a row, as a target or as a sample mark.
+pub fn each_change_counts()
+    ensures { (changes : List Change) → length changes ≤ (size_of changes).rows + (size_of changes).marks + (size_of changes).targets }
 {}

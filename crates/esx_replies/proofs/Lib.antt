@@ -1,1 +1,2 @@
 pub mod SidesLemmas
+pub mod ToldLemmas

@@ -4,3 +4,4 @@ pub use Rattle.esx_events.specs.Numbers
 pub use Rattle.esx_writing.specs.Writing
 pub mod Texts
 pub mod Replies
+pub mod Told

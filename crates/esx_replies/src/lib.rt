@@ -5,6 +5,7 @@ mod access;
 mod admission;
 mod answer;
 mod balloon;
+pub mod laws;
 mod leaving;
 mod marks;
 mod moves;

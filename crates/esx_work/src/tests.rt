@@ -3,14 +3,15 @@
 use crate::door::ConsoleDoor;
 use crate::site::run_site;
 use esx_console::Console;
-use esx_door::Open;
+use esx_door::{Gate, Open};
 use esx_events::{Call, Event, Line};
 use esx_scenario::{Scenario, parse_scenario};
 use esx_types::{Config, VmId, VmSpec};
-use esx_workers::{Machine, policy, sharer, swapper};
+use esx_workers::{How, Machine, policy, sharer, swapper};
 use rand_core::SeedableRng;
 use rand_pcg::Pcg64;
 use std::alloc::Global;
+use std::sync::atomic::{AtomicU64, Ordering};
 use std::test::Fail;
 
 fn site() -> Config {
@@ -137,18 +138,19 @@ fn a_policy_makes_five_calls(rt: HostRuntime) -> Result<(), Fail> {
     Ok(())
 }
 
-fn scenario(alloc: Global) -> Result<Scenario, Fail> {
-    let text =
-        "version = 1\n[machine]\nframes = 20\npage = 16\nslots = 8\n[run]\nturns = 6\n[[vm]]\nid = 0\nmin = 2\nmax = 6\noverhead = 1\nshares = 1000\nballoon = 0\ntrace = [\"read 0 0 1\", \"read 1 0 1\", \"read 2 0 1\", \"read 3 0 1\", \"read 4 0 1\"]\n";
+fn scenario_of(alloc: Global, text: &str) -> Result<Scenario, Fail> {
     match parse_scenario(alloc, text) {
         Ok(scenario) => Ok(scenario),
         Err(_) => Err(Fail::new("the scenario")),
     }
 }
 
+const GUEST: &str =
+    "version = 1\n[machine]\nframes = 20\npage = 16\nslots = 8\n[run]\nturns = 6\n[[vm]]\nid = 0\nmin = 2\nmax = 6\noverhead = 1\nshares = 1000\nballoon = 0\ntrace = [\"read 0 0 1\", \"read 1 0 1\", \"read 2 0 1\", \"read 3 0 1\", \"read 4 0 1\"]\n";
+
 #[test]
 fn a_site_is_run(rt: HostRuntime) -> Result<(), Fail> {
-    let scenario = scenario(rt.alloc())?;
+    let scenario = scenario_of(rt.alloc(), GUEST)?;
     let gates = vec![in rt.alloc(); Open, Open, Open, Open]?;
     if gates.len() != scenario.guests().len() + 3 {
         return Err(Fail::new("the gates"));
@@ -157,5 +159,89 @@ fn a_site_is_run(rt: HostRuntime) -> Result<(), Fail> {
         return Err(Fail::new("the run"));
     };
     assert_eq!(rt; (console.log().len(), ends.len()), (25, 4));
+    Ok(())
+}
+
+/// How often a gate looks for the other workers before it gives up.
+const LOOKS: u64 = 200_000_000;
+
+/// A gate that, at the turns 2 to 5, stays until all workers were entered with the turn.
+#[derive(Drop)]
+struct Meeting<'a> {
+    entered: &'a [AtomicU64],
+    own: usize,
+    late: &'a AtomicU64,
+}
+
+fn all_entered(entered: &[AtomicU64], turn: u64) -> bool {
+    for other in entered {
+        if other.load(Ordering::SeqCst) < turn {
+            return false;
+        }
+    }
+    true
+}
+
+impl<'a> Gate for Meeting<'a> {
+    fn pass_through(&mut self, turn: u32) -> bool {
+        let turn = u64::from(turn);
+        if let Some(own) = self.entered.get(self.own) {
+            own.store(turn, Ordering::SeqCst);
+        }
+        if turn < 2 || turn > 5 {
+            return true;
+        }
+        for _look in 0..LOOKS {
+            if all_entered(self.entered, turn) {
+                return true;
+            }
+        }
+        self.late.fetch_add(1, Ordering::SeqCst);
+        false
+    }
+}
+
+const GUESTS: &str =
+    "version = 1\n[machine]\nframes = 20\npage = 16\nslots = 8\n[run]\nturns = 6\n[[vm]]\nid = 0\nmin = 2\nmax = 6\noverhead = 1\nshares = 1000\nballoon = 0\ntrace = [\"read 0 0 1\", \"read 1 0 1\", \"read 2 0 1\", \"read 3 0 1\", \"read 4 0 1\"]\n[[vm]]\nid = 1\nmin = 2\nmax = 6\noverhead = 1\nshares = 1000\nballoon = 0\ntrace = [\"read 0 0 1\", \"read 1 0 1\", \"read 2 0 1\", \"read 3 0 1\", \"read 4 0 1\"]\n";
+
+// Where any worker runs before, after or on one thread with another, a gate gives up.
+#[test]
+fn five_workers_at_once(rt: HostRuntime) -> Result<(), Fail> {
+    let scenario = scenario_of(rt.alloc(), GUESTS)?;
+    let entered = [
+        AtomicU64::new(0),
+        AtomicU64::new(0),
+        AtomicU64::new(0),
+        AtomicU64::new(0),
+        AtomicU64::new(0),
+    ];
+    let late = AtomicU64::new(0);
+    let mut gates = Vec::new(rt.alloc());
+    for own in 0..5 {
+        gates.push(Meeting {
+            entered: &entered,
+            own,
+            late: &late,
+        })?;
+    }
+    if gates.len() != scenario.guests().len() + 3 {
+        return Err(Fail::new("the gates"));
+    }
+    let Ok((console, ends)) = run_site(&rt, rt.alloc(), &scenario, gates) else {
+        return Err(Fail::new("the run"));
+    };
+    assert_eq!(rt; late.load(Ordering::SeqCst), 0);
+    assert_eq!(rt; console.log().len(), 32);
+    let mut hows = Vec::new(rt.alloc());
+    for end in &ends {
+        hows.push(end.how)?;
+    }
+    assert_eq!(rt;
+        hows.as_slice(),
+        [How::Done, How::Done, How::Turns, How::Turns, How::Turns].as_slice()
+    );
+    for end in ends.iter().take(2) {
+        assert_eq!(rt; end.passed, 0);
+    }
     Ok(())
 }

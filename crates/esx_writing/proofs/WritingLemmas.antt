@@ -1,6 +1,8 @@
 -- Writing in parts.
-use Rattle.std.proofs.Common.{◌≡◌, true, ℕ, List, [], ◌∷◌, ◌++◌, Option, None, Some, Result, Ok, Err, refl, sym, ◌∙◌, ap, append_assoc, append-nil, take, drop, ◌+◌, ◌<◌, ◌/◌, ◌%◌, arith, length, get_or, add-one, drop-cons}
-use Rattle.std.proofs.lemmas.List.{take-append-drop}
+use Rattle.std.proofs.Common.{◌≡◌, ◌≤◌, ◌-◌, ◌^◌, decimal, true, ℕ, List, [], ◌∷◌, ◌++◌, Option, None, Some, Result, Ok, Err, refl, sym, ◌∙◌, ap, append_assoc, append-nil, take, drop, ◌+◌, ◌<◌, ◌/◌, ◌%◌, arith, length, get_or, add-one, drop-cons}
+use Rattle.std.proofs.lemmas.List.{take-append-drop, length-take-le, take-take}
+use Rattle.std.proofs.lemmas.Fmt.{IsAscii-decimal}
+use Rattle.std.proofs.Math.Seq.{take-append-add, take-append_seam}
 use Rattle.std.specs.Result.{IsErr}
 use Rattle.esx_types.specs.Ends.{write_failures}
 use Rattle.std.proofs.lemmas.Grind.{common_steps}
@@ -170,3 +172,22 @@ pub writes_error : {T E : Type 0} (a c : Option (List ℕ)) (before text : List 
     → WritesFront a c (before ++ text) → Writes a c text r
 writes_error a c before text (Ok v) h n w = absurd (cc)
 writes_error a c before text (Err e) h n w = rw n at w
+
+-- a room whose held bytes have a number's digits behind them
+pub digits_held : (d n post z r rest digits : List ℕ) (count start size : ℕ) → count ≤ length d → n ≡ take (start + 20 - start) (drop start r) → drop start r ≡ digits ++ rest
+    → start + length digits ≡ 20 → count + 20 ≤ size → take (count + (20 - start)) (take size ((take count d ++ (n ++ post)) ++ z)) ≡ take count d ++ digits
+digits_held d n post z r rest digits count start size within is of ends fits =
+    let few : start + 20 - start ≡ length digits + start = omega (arith, ends) in
+    let text : n ≡ digits ++ take start rest = is ∙ ap (λ k. take k (drop start r)) few ∙ ap (take (length digits + start)) of ∙ take-append-add digits rest start in
+    let front = take count d in
+    let back = take start rest ++ post in
+    let all : (front ++ (n ++ post)) ++ z ≡ front ++ (digits ++ (back ++ z)) =
+    ap (λ v. (front ++ (v ++ post)) ++ z) text ∙ ap (λ v. (front ++ v) ++ z) (append_assoc digits (take start rest) post)
+    ∙ append_assoc front (digits ++ back) z ∙ ap (λ v. front ++ v) (append_assoc digits back z) in
+    let at : count + (20 - start) ≡ length front + length digits = omega (arith, ends, length-take-le count d within) in
+    take-take (count + (20 - start)) size ((front ++ (n ++ post)) ++ z) (omega (arith, fits))
+    ∙ ap (take (count + (20 - start))) all ∙ ap (λ k. take k (front ++ (digits ++ (back ++ z)))) at
+    ∙ take-append-add front (digits ++ (back ++ z)) (length digits) ∙ ap (λ v. front ++ v) (take-append_seam digits (back ++ z))
+
+pub utf8_number : (n : ℕ) → n < 2 ^ 64 → IsUtf8 (decimal n)
+utf8_number n small = IsUtf8-from_ascii (decimal n) (IsAscii-decimal n small)

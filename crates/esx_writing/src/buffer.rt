@@ -1,29 +1,34 @@
 //! What is written, held back in a buffer of fixed size. No memory is taken on the way.
 
-ghost use Rattle.std.specs.Prelude.{◌≡◌, ◌+◌, ◌≤◌, ◌++◌, [], length, IfOk, OnOk};
+ghost use Rattle.std.specs.Prelude.{◌≡◌, ◌+◌, ◌≤◌, ◌++◌, [], length, decimal, IfOk, OnOk, IsUtf8};
 ghost use Rattle.esx_writing.specs.Writing.{Writes, Puts, sink_faults};
 
 use esx_types::{Sink, SinkFailed};
+use itoa::{Buffer, write_digits};
 use std::alloc::{AllocError, Global};
 use std::marker::Model;
 
 /// How many bytes of an answer are held before they are written.
 const ROOM: usize = 16384;
 
-/// The bytes of an answer that are held back, seen as their list.
+/// The longest number, in digits.
+const DIGITS: usize = 20;
+
+/// The bytes of an answer that are held back, seen as their list: a front of a room of fixed size.
 #[derive(Drop)]
 pub struct AnswerBuffer {
     bytes: Vec<u8>,
+    count: usize,
 }
 
 impl Model for AnswerBuffer {
-    ghost use Rattle.std.specs.Prelude.{List, ℕ, ◌≤◌, vec_len, vec_capacity};
+    ghost use Rattle.std.specs.Prelude.{List, ℕ, ◌≡◌, ◌≤◌, take, vec_len};
 
     ghost Value = { List ℕ };
 
-    ghost view = { λ a. a.bytes.items };
+    ghost view = { λ a. take a.count a.bytes.items };
 
-    ghost invariant = { λ a. (vec_len a.bytes ≤ 16384) × (16384 ≤ vec_capacity a.bytes) };
+    ghost invariant = { λ a. (vec_len a.bytes ≡ 16384) × (a.count ≤ 16384) };
 }
 
 impl AnswerBuffer {
@@ -31,34 +36,52 @@ impl AnswerBuffer {
         ensures { IfOk result (λ b. b ≡ []) }
     {
         Ok(AnswerBuffer {
-            bytes: Vec::with_capacity(alloc, ROOM)?,
+            bytes: vec![in alloc; 0u8; ROOM]?,
+            count: 0,
         })
     }
 
-    fn room(&self) -> usize
+    /// For how many bytes there is room.
+    #[inline(always)]
+    pub fn room(&self) -> usize
         ensures { result + length self.now ≡ 16384 }
     {
-        ROOM - self.bytes.len()
+        ROOM - self.count
     }
 
-    /// Adds bytes for which there is room. It takes no memory.
-    fn push(&mut self, bytes: &[u8])
+    /// Adds bytes for which there is room.
+    #[inline(always)]
+    pub fn push(&mut self, bytes: &[u8])
         requires { length self.old + length bytes.now ≤ 16384 }
         ensures { self.new ≡ self.old ++ bytes.now }
     {
-        self.bytes.extend_from_slice(bytes).unwrap();
+        let end = self.count + bytes.len();
+        self.bytes[self.count..end].copy_from_slice(bytes);
+        self.count = end;
+    }
+
+    /// Adds a number where there is room for the longest one.
+    #[inline(always)]
+    pub fn push_number(&mut self, number: u64)
+        requires { length self.old + 20 ≤ 16384 }
+        ensures { self.new ≡ self.old ++ decimal number }
+    {
+        let mut room = [0u8; 2 * DIGITS];
+        let start = write_digits(number, &mut room, DIGITS);
+        self.bytes[self.count..self.count + DIGITS].copy_from_slice(&room[start..start + DIGITS]);
+        self.count += DIGITS - start;
     }
 
     fn as_slice(&self) -> &[u8]
         ensures { result.now ≡ self.now }
     {
-        self.bytes.as_slice()
+        &self.bytes[..self.count]
     }
 
     fn clear(&mut self)
         ensures { self.new ≡ [] }
     {
-        self.bytes.clear();
+        self.count = 0;
     }
 }
 
@@ -92,7 +115,27 @@ pub fn write_held<W: Sink>(sink: &mut W, held: &mut AnswerBuffer) -> Result<(), 
     Ok(())
 }
 
+/// Writes what is held, and then holds the bytes or writes them.
+#[inline(never)]
+fn put_behind<W: Sink>(
+    sink: &mut W,
+    held: &mut AnswerBuffer,
+    bytes: &[u8],
+) -> Result<(), SinkFailed>
+    ensures bytes { Puts (W.contents sink.old) held.old (W.contents sink.new) held.new bytes.now result }
+    ensures failures { W.failures sink.new ≡ W.failures sink.old + sink_faults result }
+    ensures flushes { W.flushes sink.new ≡ W.flushes sink.old }
+{
+    write_held(sink, held)?;
+    if bytes.len() <= held.room() {
+        held.push(bytes);
+        return Ok(());
+    }
+    put_all(sink, bytes)
+}
+
 /// Holds bytes, or writes what is held and them.
+#[inline(always)]
 pub fn put<W: Sink>(sink: &mut W, held: &mut AnswerBuffer, bytes: &[u8]) -> Result<(), SinkFailed>
     ensures bytes { Puts (W.contents sink.old) held.old (W.contents sink.new) held.new bytes.now result }
     ensures failures { W.failures sink.new ≡ W.failures sink.old + sink_faults result }
@@ -102,10 +145,24 @@ pub fn put<W: Sink>(sink: &mut W, held: &mut AnswerBuffer, bytes: &[u8]) -> Resu
         held.push(bytes);
         return Ok(());
     }
-    write_held(sink, held)?;
-    if bytes.len() <= held.room() {
-        held.push(bytes);
+    put_behind(sink, held, bytes)
+}
+
+/// The same of a number's digits.
+#[inline(always)]
+pub fn put_number<W: Sink>(
+    sink: &mut W,
+    held: &mut AnswerBuffer,
+    number: u64,
+) -> Result<(), SinkFailed>
+    ensures bytes { Puts (W.contents sink.old) held.old (W.contents sink.new) held.new (decimal number) result }
+    ensures utf8 { IsUtf8 (decimal number) }
+    ensures failures { W.failures sink.new ≡ W.failures sink.old + sink_faults result }
+    ensures flushes { W.flushes sink.new ≡ W.flushes sink.old }
+{
+    if DIGITS <= held.room() {
+        held.push_number(number);
         return Ok(());
     }
-    put_all(sink, bytes)
+    put_behind(sink, held, Buffer::new().format(number).as_bytes())
 }

@@ -4,7 +4,7 @@ ghost use Rattle.std.specs.Prelude.{◌≡◌, ◌+◌, ◌≤◌, [], length, r
 ghost use Rattle.hex.specs.Hex.{encode_lower};
 ghost use Rattle.esx_writing.specs.Writing.{Writes, Puts, sink_faults, piece_text, texts, right_in, left_in};
 
-use crate::buffer::{AnswerBuffer, put, write_held};
+use crate::buffer::{AnswerBuffer, put, put_number, write_held};
 use esx_types::{Sink, SinkFailed};
 use itoa::Buffer;
 
@@ -36,6 +36,7 @@ fn hex_digits<'a>(bytes: &[u8], room: &'a mut [u8; 128]) -> &'a [u8]
 }
 
 /// Puts bytes in hex.
+#[inline(never)]
 fn put_hex<W: Sink>(sink: &mut W, held: &mut AnswerBuffer, bytes: &[u8]) -> Result<(), SinkFailed>
     ensures bytes { Puts (W.contents sink.old) held.old (W.contents sink.new) held.new (encode_lower bytes.now) result }
     ensures failures { W.failures sink.new ≡ W.failures sink.old + sink_faults result }
@@ -70,6 +71,7 @@ fn spaces(count: usize) -> &'static str
 }
 
 /// Puts a text behind the spaces that it lacks to a width.
+#[inline(never)]
 fn put_right<W: Sink>(
     sink: &mut W,
     held: &mut AnswerBuffer,
@@ -88,6 +90,7 @@ fn put_right<W: Sink>(
 }
 
 /// Puts a text before the spaces that it lacks to a width.
+#[inline(never)]
 fn put_left<W: Sink>(
     sink: &mut W,
     held: &mut AnswerBuffer,
@@ -106,6 +109,7 @@ fn put_left<W: Sink>(
 }
 
 /// Puts a piece.
+#[inline(always)]
 fn put_piece<W: Sink>(sink: &mut W, held: &mut AnswerBuffer, piece: Piece) -> Result<(), SinkFailed>
     ensures bytes { Puts (W.contents sink.old) held.old (W.contents sink.new) held.new (piece_text piece.entry) result }
     ensures utf8 { IsUtf8 (piece_text piece.entry) }
@@ -114,7 +118,7 @@ fn put_piece<W: Sink>(sink: &mut W, held: &mut AnswerBuffer, piece: Piece) -> Re
 {
     match piece {
         Piece::Text(text) => put(sink, held, text.as_bytes()),
-        Piece::Number(number) => put(sink, held, Buffer::new().format(number).as_bytes()),
+        Piece::Number(number) => put_number(sink, held, number),
         Piece::Hex(bytes) => put_hex(sink, held, bytes),
         Piece::Narrow(number) => put_right(sink, held, 3, Buffer::new().format(number)),
         Piece::Column(number) => put_right(sink, held, 8, Buffer::new().format(number)),

@@ -35,9 +35,22 @@ fast_of_five_idle : fast_average (told 0 1 ∷ told 0 1 ∷ told 0 1 ∷ told 0 
 unfolding told fast_average
 fast_of_five_idle = refl
 
+-- each number is rounded down
+slow_rounded : slow_average (told 1 3 ∷ []) ≡ 60074
+unfolding told slow_average
+slow_rounded = refl
+
+fast_rounded : fast_average (told 1 3 ∷ []) ≡ 43690
+unfolding told fast_average
+fast_rounded = refl
+
 open_period_counts : active_share 33614 2048 (Some (told 1 1)) ≡ 33792
 unfolding told
 open_period_counts = refl
+
+fast_is_greatest : active_share 10 1000 (Some (told 0 1)) ≡ 1000
+unfolding told
+fast_is_greatest = refl
 
 none_is_open : active_share 33614 2048 None ≡ 33614
 none_is_open = refl

@@ -1,5 +1,5 @@
 -- What events and questions are answered one after another, scene by scene. A refused event, a question and a move that is left out change nothing.
-use Rattle.std.specs.Prelude.{List, [], ◌∷◌, length, Result, Ok, Err}
+use Rattle.std.specs.Prelude.{◌≡◌, List, [], ◌∷◌, map, Result, Ok, Err}
 use Rattle.esx_types.specs.declared.config.Config.{Config}
 use Rattle.esx_events.specs.declared.event.Answer.{Answer}
 use Rattle.esx_events.specs.declared.event.Refusal.{Refusal}
@@ -13,7 +13,6 @@ use Rattle.esx_model.specs.Show.{shown}
 use Rattle.esx_model.specs.Replay.{opening, next}
 use Rattle.esx_model.specs.Readings.{sum_of, page_state, activity, table_of}
 use Rattle.esx_model.specs.Advice.{advice}
-use Rattle.esx_model.specs.WhatIf.{replies_to, scene_of}
 use Rattle.esx_model.specs.Console.{page_said, activity_said, help_said}
 use Rattle.esx_model.proofs.rows.Replies.{replies_of}
 
@@ -24,7 +23,6 @@ told t (Ok r) go = said.Done r.0 ∷ go r.1
 tells : Config → Scene → Call → (Scene → List Said) → List Said
 unfolding told
 tells c t (calls.Do e) go = told t (next c t e) go
-tells c t (calls.WhatIf es) go = said.Sides (record { given = length es; before = sum_of (shown c t); replies = replies_to c es t; after = sum_of (shown c (scene_of c es t)) }) ∷ go t
 tells c t calls.Sum go = said.Sum (sum_of (shown c t)) ∷ go t
 tells c t calls.Table go = said.Table (table_of (shown c t)) (sum_of (shown c t)) ∷ go t
 tells c t (calls.OfVm n) go = activity_said (activity (shown c t) n) ∷ go t
@@ -40,3 +38,7 @@ tells_from c (call ∷ later) t = tells c t call (λ u. tells_from c later u)
 unfoldable pub told_of : Config → List Call → List Said
 unfolding tells_from replies_of
 told_of c calls = tells_from c calls (opening c)
+
+-- each call is told that, one after another
+abbrev pub AreTold : Config → List (Call × Said) → Type 0
+AreTold c lines = told_of c (map (λ (line : Call × Said). line.0) lines) ≡ map (λ (line : Call × Said). line.1) lines

@@ -108,9 +108,9 @@ fn answers_before_more_input(rt: HostRuntime) -> Result<(), Fail> {
 
 /// Takes so many bytes, and then fails.
 #[derive(Drop)]
-struct Disk {
-    room: usize,
-    bytes: Vec<u8>,
+pub(super) struct Disk {
+    pub(super) room: usize,
+    pub(super) bytes: Vec<u8>,
 }
 
 impl Write for Disk {

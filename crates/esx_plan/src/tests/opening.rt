@@ -27,6 +27,8 @@ fn words(rt: HostRuntime) -> Result<(), Fail> {
         ("esxplan console a.toml", Ok(Asked::Console(Some("a.toml")))),
         ("esxplan console --", Ok(Asked::Console(None))),
         ("esxplan console -- -a", Ok(Asked::Console(Some("-a")))),
+        ("esxplan run a", Ok(Asked::Run("a"))),
+        ("esxplan run", Err(WordsFault::Wrong)),
         ("esxplan replay a", Ok(Asked::Replay("a"))),
         ("esxplan check a", Ok(Asked::Check("a"))),
         ("esxplan replay", Err(WordsFault::Wrong)),

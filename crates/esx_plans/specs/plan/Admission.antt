@@ -10,7 +10,7 @@ use Rattle.esx_model.specs.event.Outcome.{unless}
 use Rattle.esx_model.specs.event.Admission.{admit_gate, admitted}
 use Rattle.esx_tables.specs.declared.change.Change.TheVariants.{VmAt}
 use Rattle.esx_tables.specs.Readings.{row_at}
-use Rattle.esx_plans.specs.plan.Planned.{Planned}
+use Rattle.esx_changes.specs.Planned.{Planned}
 
 -- what is promised to a machine
 abbrev pub memory_of : Option VmRow → ℕ

@@ -15,8 +15,8 @@ use Rattle.esx_tables.specs.declared.change.Change.TheVariants.{OfVm}
 use Rattle.esx_tables.specs.declared.change.VmPart.TheVariants.{Facts}
 use Rattle.esx_tables.specs.Machines.{facts_of}
 use Rattle.esx_tables.specs.Readings.{row_at}
-use Rattle.esx_plans.specs.plan.Planned.{Planned, at_row}
-use Rattle.esx_plans.specs.plan.Leaves.{page_leaves}
+use Rattle.esx_changes.specs.Planned.{Planned, at_row}
+use Rattle.esx_changes.specs.Leaves.{page_leaves}
 
 -- each machine's epoch can rise once more in 32 bits
 abbrev pub CanEpochsRise : Tables → Type 0

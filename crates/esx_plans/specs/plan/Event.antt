@@ -5,18 +5,18 @@ use Rattle.esx_types.specs.declared.level.Level.{Level}
 use Rattle.esx_events.specs.declared.event.Event.{Event}
 use Rattle.esx_events.specs.declared.event.Event.TheVariants.{Admit, Start, Read, Write, Ask, Lend, TakeBack, Sample, Rebalance, Scan, SwapOut, Replace, SetShares, SetTax, Stop, DropPage, Gone}
 use Rattle.esx_model.specs.declared.tables.Tables.{Tables}
-use Rattle.esx_plans.specs.plan.Planned.{Planned}
+use Rattle.esx_changes.specs.Planned.{Planned}
 use Rattle.esx_plans.specs.plan.Admission.{admit_plan}
 use Rattle.esx_plans.specs.plan.Starting.{start_plan}
-use Rattle.esx_plans.specs.plan.Counted.{ArePeriodsOpen}
-use Rattle.esx_plans.specs.plan.Access.{read_plan, write_plan}
+use Rattle.esx_changes.specs.Counted.{ArePeriodsOpen}
+use Rattle.esx_access.specs.Access.{read_plan, write_plan}
 use Rattle.esx_plans.specs.plan.Balloon.{ask_plan, lend_plan, take_back_plan}
 use Rattle.esx_plans.specs.plan.Sampling.{sample_plan}
 use Rattle.esx_plans.specs.plan.Ratios.{HaveRatios}
 use Rattle.esx_plans.specs.plan.Rebalancing.{rebalance_plan, tax_plan, shares_plan}
-use Rattle.esx_plans.specs.plan.Sharing.{HasCounts, scan_plan}
-use Rattle.esx_plans.specs.plan.Paging.{swap_out_plan}
-use Rattle.esx_plans.specs.plan.Replacing.{replace_plan}
+use Rattle.esx_sharing.specs.Sharing.{HasCounts, scan_plan}
+use Rattle.esx_sharing.specs.Paging.{swap_out_plan}
+use Rattle.esx_access.specs.Replacing.{replace_plan}
 use Rattle.esx_plans.specs.plan.Leaving.{stop_plan, drop_plan, gone_plan}
 
 -- What plans rest on: the site's numbers are in their ranges, and so is what its tables tell of machines and of shared frames.

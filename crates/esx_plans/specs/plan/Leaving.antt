@@ -16,8 +16,8 @@ use Rattle.esx_tables.specs.declared.change.Change.TheVariants.{FrameAt, OfVm, V
 use Rattle.esx_tables.specs.declared.change.VmPart.TheVariants.{Facts, Period, OverheadTop}
 use Rattle.esx_tables.specs.Machines.{facts_of}
 use Rattle.esx_tables.specs.Readings.{row_at}
-use Rattle.esx_plans.specs.plan.Planned.{Planned, at_row}
-use Rattle.esx_plans.specs.plan.Leaves.{page_leaves}
+use Rattle.esx_changes.specs.Planned.{Planned, at_row}
+use Rattle.esx_changes.specs.Leaves.{page_leaves}
 
 -- an open period is dropped
 unfoldable pub stop_plan : Tables → ℕ → Planned

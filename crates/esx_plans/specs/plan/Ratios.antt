@@ -1,17 +1,14 @@
 -- What machines have, as rows that targets are made from.
-use Rattle.std.specs.Prelude.{◌≡◌, ℕ, ◌+◌, ◌≤◌, List, [], ◌∷◌, length, count_by, Option, Some, None, option_map}
+use Rattle.std.specs.Prelude.{◌≡◌, ℕ, ◌+◌, ◌≤◌, List, [], ◌∷◌, length, Option, Some, None}
 use Rattle.esx_types.specs.declared.config.TheConstants.{VM_NUMBERS}
 use Rattle.esx_types.specs.Pages.{resident_count}
-use Rattle.esx_formulas.specs.declared.activity.Estimate.{Estimate}
 use Rattle.esx_formulas.specs.declared.targets.Row.{Row}
-use Rattle.esx_formulas.specs.Average.{active_share}
-use Rattle.esx_formulas.specs.Estimates.{IsEstimate}
 use Rattle.esx_formulas.specs.Ratio.{AreRows}
-use Rattle.esx_model.specs.declared.book.Mark.{Mark}
-use Rattle.esx_model.specs.declared.book.PeriodRow.{PeriodRow}
 use Rattle.esx_model.specs.declared.book.VmRow.{VmRow}
 use Rattle.esx_model.specs.declared.tables.Tables.{Tables}
+use Rattle.esx_model.specs.Readings.{active_now}
 use Rattle.esx_tables.specs.Readings.{row_at}
+use Rattle.esx_changes.specs.Activity.{IsTold}
 
 -- what is made of each machine that there is, in order of number from n on
 abbrev pub numbered : {X : Type 0} → (ℕ → VmRow → X) → ℕ → List (Option VmRow) → List X
@@ -19,28 +16,15 @@ numbered make n [] = []
 numbered make n (None ∷ vms) = numbered make (n + 1) vms
 numbered make n (Some v ∷ vms) = make n v ∷ numbered make (n + 1) vms
 
--- what an open period tells so far
-abbrev pub told : PeriodRow → Estimate
-told p = record { touched = count_by (λ (m : Mark). m.touched) p.marks; pages = length p.marks }
-
--- the active share of a machine's memory at present
-abbrev pub active_of : VmRow → ℕ
-active_of v = active_share v.slow v.fast (option_map told v.period)
-
 -- what a machine has, of which it keeps so many pages in any case
 abbrev pub ratio_row : (VmRow → ℕ) → ℕ → VmRow → Row
-ratio_row floor n v = record { vm = n; shares = v.spec.shares; pages = resident_count v.pages; floor = floor v; active = active_of v }
+ratio_row floor n v = record { vm = n; shares = v.spec.shares; pages = resident_count v.pages; floor = floor v; active = active_now v }
 
 abbrev pub ratio_rows : (VmRow → ℕ) → Tables → List Row
 ratio_rows floor t = numbered (ratio_row floor) 0 t.vms
 
 abbrev pub least_of : VmRow → ℕ
 least_of v = v.spec.min
-
--- an open period tells something
-abbrev pub IsTold : Option PeriodRow → Type 0
-IsTold None = Unit {0}
-IsTold (Some p) = IsEstimate (told p)
 
 -- What is known of every site's tables where targets are made: each number of a row is in its range.
 pub record HaveRatios (t : Tables) : Type 0 where

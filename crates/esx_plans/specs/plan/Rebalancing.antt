@@ -18,7 +18,7 @@ use Rattle.esx_tables.specs.declared.change.Change.TheVariants.{OfVm, TaxIs}
 use Rattle.esx_tables.specs.declared.change.VmPart.TheVariants.{Facts, Target}
 use Rattle.esx_tables.specs.Machines.{facts_of}
 use Rattle.esx_tables.specs.Readings.{row_at}
-use Rattle.esx_plans.specs.plan.Planned.{Planned, at_row}
+use Rattle.esx_changes.specs.Planned.{Planned, at_row}
 use Rattle.esx_plans.specs.plan.Ratios.{numbered, ratio_rows, least_of}
 
 -- a machine has all it asked for

@@ -10,7 +10,7 @@ use Rattle.esx_model.specs.event.Sampling.{sample_gate}
 use Rattle.esx_tables.specs.declared.change.Change.TheVariants.{OfVm}
 use Rattle.esx_tables.specs.declared.change.VmPart.TheVariants.{Period}
 use Rattle.esx_tables.specs.Readings.{row_at}
-use Rattle.esx_plans.specs.plan.Planned.{Planned, at_row}
+use Rattle.esx_changes.specs.Planned.{Planned, at_row}
 
 -- the page that a word draws, not accessed yet
 abbrev pub drawn : ℕ → ℕ → Mark

@@ -16,7 +16,7 @@ use Rattle.esx_tables.specs.declared.change.Change.TheVariants.{FrameAt, OfVm}
 use Rattle.esx_tables.specs.declared.change.VmPart.TheVariants.{Facts, OverheadTop}
 use Rattle.esx_tables.specs.Machines.{facts_of}
 use Rattle.esx_tables.specs.Readings.{row_at}
-use Rattle.esx_plans.specs.plan.Planned.{Planned, at_row}
+use Rattle.esx_changes.specs.Planned.{Planned, at_row}
 
 abbrev pub started : VmRow → ℕ → Answer
 started v f = Started f (length v.overhead + 1) v.spec.overhead (not (nat_lt (length v.overhead + 1) v.spec.overhead))

@@ -2,10 +2,10 @@
 
 ghost use Rattle.std.specs.Prelude.{◌≡◌, ◌≤◌, length, sum_by};
 ghost use Rattle.esx_types.specs.declared.config.TheConstants.{VM_NUMBERS};
-ghost use Rattle.esx_plans.specs.plan.Planned.{Plans};
+ghost use Rattle.esx_changes.specs.Planned.{Plans};
 ghost use Rattle.esx_plans.specs.plan.Admission.{memory_of, swap_of, admit_plan};
 
-use crate::plan::Plan;
+use esx_changes::Plan;
 use esx_events::{Answer, Refusal};
 use esx_tables::{Change, Record, SiteTables, VmTable};
 use esx_types::{Config, VmId, VmSpec};

@@ -3,11 +3,11 @@
 ghost use Rattle.std.specs.Prelude.{◌≡◌, ◌+◌, ◌<◌, ◌^◌, IfOk};
 ghost use Rattle.esx_events.specs.declared.event.Answer.TheVariants.{Reset};
 ghost use Rattle.esx_model.specs.event.Outcome.{goal};
-ghost use Rattle.esx_plans.specs.plan.Planned.{Plans};
-ghost use Rattle.esx_plans.specs.plan.Balloon.{CanEpochsRise, is_lent_now, reset_changes, goal_told, lent_told, taken_back, ask_plan, lend_plan, take_back_plan};
+ghost use Rattle.esx_changes.specs.Planned.{Plans};
+ghost use Rattle.esx_plans.specs.plan.Balloon.{CanEpochsRise, is_lent_now, reset_changes, goal_told, lent_told, ask_plan, lend_plan, take_back_plan};
 
-use crate::plan::Plan;
-use crate::plan::leaves::page_leaves;
+use esx_changes::Plan;
+use esx_changes::leaves::page_leaves;
 use esx_events::{Answer, Refusal};
 use esx_model::Standing;
 use esx_tables::{Change, Facts, Record, SiteTables, VmPart, VmTable};

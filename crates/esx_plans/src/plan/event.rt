@@ -3,22 +3,22 @@
 ghost use Rattle.std.specs.Prelude.{◌<◌};
 ghost use Rattle.esx_types.specs.declared.config.TheConstants.{VM_NUMBERS};
 ghost use Rattle.esx_model.specs.sound.Sound.{NamesVm};
-ghost use Rattle.esx_plans.specs.plan.Planned.{Plans};
+ghost use Rattle.esx_changes.specs.Planned.{Plans};
 ghost use Rattle.esx_plans.specs.plan.Balloon.{CanEpochsRise};
 ghost use Rattle.esx_plans.specs.plan.Event.{ArePlannable, plan_of};
 
-use crate::plan::Plan;
-use crate::plan::access::{plan_read, plan_write};
 use crate::plan::admission::plan_admit;
 use crate::plan::balloon::{plan_ask, plan_lend, plan_take_back};
 use crate::plan::leaving::{plan_drop_page, plan_gone, plan_stop};
-use crate::plan::paging::plan_swap_out;
 use crate::plan::rebalancing::{plan_rebalance, plan_shares, plan_tax};
-use crate::plan::replacing::plan_replace;
 use crate::plan::sampling::plan_sample;
-use crate::plan::sharing::plan_scan;
 use crate::plan::starting::plan_start;
+use esx_access::access::{plan_read, plan_write};
+use esx_access::replacing::plan_replace;
+use esx_changes::Plan;
 use esx_events::{Event, Refusal};
+use esx_sharing::paging::plan_swap_out;
+use esx_sharing::sharing::plan_scan;
 use esx_tables::SiteTables;
 use esx_types::{Config, Level, VmId};
 use std::alloc::Global;

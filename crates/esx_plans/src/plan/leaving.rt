@@ -3,11 +3,11 @@
 ghost use Rattle.std.specs.Prelude.{◌≡◌, IfOk};
 ghost use Rattle.esx_types.specs.declared.table.FrameRow.TheVariants.{Free};
 ghost use Rattle.esx_tables.specs.declared.change.Change.TheVariants.{FrameAt};
-ghost use Rattle.esx_plans.specs.plan.Planned.{Plans};
+ghost use Rattle.esx_changes.specs.Planned.{Plans};
 ghost use Rattle.esx_plans.specs.plan.Leaving.{stop_plan, drop_plan, given_back, give_back_changes, gone_plan};
 
-use crate::plan::Plan;
-use crate::plan::leaves::page_leaves;
+use esx_changes::Plan;
+use esx_changes::leaves::page_leaves;
 use esx_events::{Answer, Refusal};
 use esx_tables::{Change, Facts, Record, SiteTables, VmPart, VmTable};
 use esx_types::{FrameRow, MapRow, VmId, VmState};

@@ -1,39 +1,16 @@
 //! What machines have, as rows that targets are made from.
 
-ghost use Rattle.std.specs.Prelude.{◌≡◌, ◌≤◌, ℕ, IfOk, Some, None, length, slice_index_or};
+ghost use Rattle.std.specs.Prelude.{◌≡◌, ℕ, IfOk, Some, None, length, slice_index_or};
 ghost use Rattle.esx_types.specs.declared.config.TheConstants.{VM_NUMBERS};
 ghost use Rattle.esx_model.specs.declared.book.VmRow.{VmRow};
-ghost use Rattle.esx_formulas.specs.Estimates.{IsEstimate};
-ghost use Rattle.esx_average.specs.Means.{estimate};
-ghost use Rattle.esx_plans.specs.plan.Ratios.{told, active_of, ratio_row, least_of, numbered, IsTold};
+ghost use Rattle.esx_changes.specs.Activity.{IsTold};
+ghost use Rattle.esx_plans.specs.plan.Ratios.{ratio_row, least_of, numbered};
 
 use esx_average::Row;
-use esx_model::PeriodRow;
+use esx_changes::activity::active;
 use esx_tables::VmTable;
 use esx_types::VmId;
 use std::alloc::{AllocError, Global};
-
-/// How many of the sampled pages of an open period were accessed, and how many there are.
-fn told(period: &PeriodRow) -> (u32, u32)
-    requires { IsEstimate (told period.now) }
-    ensures { estimate result.0 result.1 ≡ told period.now }
-{
-    let marks = period.marks.as_slice();
-    let touched = marks.iter().filter(|mark| mark.touched).count();
-    (touched as u32, marks.len() as u32)
-}
-
-/// The share of a machine's memory that is in use, in units of 1/65,536.
-fn active(row: &VmTable) -> u32
-    requires { IsTold row.now.period }
-    ensures { result ≡ active_of row.now }
-{
-    let now = match row.period() {
-        Some(period) => Some(told(period)),
-        None => None,
-    };
-    row.averages().active(now)
-}
 
 fn ratio_row(vm: VmId, row: &VmTable) -> Row
     requires { IsTold row.now.period }

@@ -5,13 +5,13 @@ ghost use Rattle.esx_types.specs.declared.config.TheConstants.{VM_NUMBERS};
 ghost use Rattle.esx_types.specs.Ranges.{IsConfig};
 ghost use Rattle.esx_formulas.specs.Level.{high_threshold, margin};
 ghost use Rattle.esx_formulas.specs.Targets.{spare};
-ghost use Rattle.esx_plans.specs.plan.Planned.{Plans};
+ghost use Rattle.esx_changes.specs.Planned.{Plans};
 ghost use Rattle.esx_plans.specs.plan.Ratios.{numbered, HaveRatios};
 ghost use Rattle.esx_plans.specs.plan.Rebalancing.{to_max, to_targets, share_out_plan, rebalance_plan, tax_plan, shares_plan};
 
-use crate::plan::Plan;
 use crate::plan::ratios::ratio_rows;
 use esx_average::{Row, targets};
+use esx_changes::Plan;
 use esx_events::{Answer, Refusal};
 use esx_formulas::level::{margin, threshold};
 use esx_tables::{Change, Facts, Record, SiteTables, VmPart, VmTable};

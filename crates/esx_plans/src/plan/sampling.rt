@@ -1,10 +1,10 @@
 //! A sample period opens.
 
 ghost use Rattle.std.specs.Prelude.{◌≡◌, ◌≤◌, IfOk, length, map};
-ghost use Rattle.esx_plans.specs.plan.Planned.{Plans};
+ghost use Rattle.esx_changes.specs.Planned.{Plans};
 ghost use Rattle.esx_plans.specs.plan.Sampling.{drawn, opened_row, sample_plan};
 
-use crate::plan::Plan;
+use esx_changes::Plan;
 use esx_events::{Answer, Refusal};
 use esx_model::{Mark, PeriodRow};
 use esx_tables::{Change, Record, SiteTables, VmPart};

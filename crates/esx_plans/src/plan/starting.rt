@@ -1,10 +1,10 @@
 //! A machine takes an overhead frame; with all of them it runs.
 
 ghost use Rattle.std.specs.Prelude.{◌≡◌, IfOk};
-ghost use Rattle.esx_plans.specs.plan.Planned.{Plans};
+ghost use Rattle.esx_changes.specs.Planned.{Plans};
 ghost use Rattle.esx_plans.specs.plan.Starting.{started, start_changes, start_plan};
 
-use crate::plan::Plan;
+use esx_changes::Plan;
 use esx_events::{Answer, Refusal};
 use esx_tables::{Change, Facts, Record, SiteTables, VmPart, VmTable};
 use esx_types::{FrameRow, VmId, VmState};

@@ -23,8 +23,8 @@ use Rattle.esx_tables.specs.declared.change.VmPart.{VmPart}
 use Rattle.esx_tables.specs.declared.change.VmPart.TheVariants.{PageAt, Facts}
 use Rattle.esx_tables.specs.Machines.{facts_of}
 use Rattle.esx_tables.specs.Readings.{row_at}
-use Rattle.esx_plans.specs.plan.Counted.{IsOpenOf}
-use Rattle.esx_plans.specs.plan.Access.{come_changes, stay_changes, come, read_zeros, read_slot, read_from, read_plan, write_zeros, write_slot, write_own, write_copy, write_last, write_frame, write_from, write_plan}
+use Rattle.esx_changes.specs.Counted.{IsOpenOf}
+use Rattle.esx_access.specs.Access.{come_changes, stay_changes, come, read_zeros, read_slot, read_from, read_plan, write_zeros, write_slot, write_own, write_copy, write_last, write_frame, write_from, write_plan}
 use Rattle.esx_records.proofs.Pages.{HavePages, frame_small, zeros_small}
 use Rattle.esx_records.proofs.Modest.{IsModest, IsLight, light, with_part, more_rows, framed, PlansModest, at_row_modest, any_gate, gate_modest}
 use Rattle.esx_records.proofs.Stocks.{AreStocked}

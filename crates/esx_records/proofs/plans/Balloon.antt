@@ -10,8 +10,8 @@ use Rattle.esx_model.specs.Tables.{standing_of}
 use Rattle.esx_model.specs.event.Outcome.{unless, running_gate, page_gate}
 use Rattle.esx_model.specs.event.Balloon.{lend_gate, take_back_gate}
 use Rattle.esx_tables.specs.Readings.{row_at}
-use Rattle.esx_plans.specs.plan.Planned.{Planned}
-use Rattle.esx_plans.specs.plan.Leaves.{page_leaves}
+use Rattle.esx_changes.specs.Planned.{Planned}
+use Rattle.esx_changes.specs.Leaves.{page_leaves}
 use Rattle.esx_plans.specs.plan.Balloon.{is_lent_now, reset_changes, unless_due, goal_told, lent_told, taken_back, ask_plan, lend_plan, take_back_plan}
 use Rattle.esx_records.proofs.Modest.{PlansModest, at_row_modest, any_gate}
 use Rattle.esx_records.proofs.plans.Leaves.{leaves_modest}

@@ -9,7 +9,7 @@ use Rattle.esx_tables.specs.declared.change.Change.{Change}
 use Rattle.esx_tables.specs.declared.change.Change.TheVariants.{OfVm}
 use Rattle.esx_tables.specs.declared.change.VmPart.TheVariants.{Period, Done, Touched, Averages}
 use Rattle.esx_tables.specs.Sizes.{bytes_held, marks_held, is_row, is_target}
-use Rattle.esx_plans.specs.plan.Counted.{is_first, turned_from, closed_means, open_parts, counted_parts, IsOpen, IsOpenOf}
+use Rattle.esx_changes.specs.Counted.{is_first, turned_from, closed_means, open_parts, counted_parts, IsOpen, IsOpenOf}
 use Rattle.esx_records.proofs.Alike.{places_held}
 use Rattle.esx_records.proofs.Totals.{total, one_if}
 use Rattle.esx_records.proofs.Pages.{bytes_most, whole_rows}

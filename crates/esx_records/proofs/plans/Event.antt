@@ -8,7 +8,7 @@ use Rattle.esx_events.specs.declared.event.Event.TheVariants.{Admit, Start, Read
 use Rattle.esx_model.specs.declared.tables.Tables.{Tables}
 use Rattle.esx_tables.specs.declared.change.Change.{Change}
 use Rattle.esx_tables.specs.Changes.{exchanged}
-use Rattle.esx_plans.specs.plan.Planned.{Planned}
+use Rattle.esx_changes.specs.Planned.{Planned}
 use Rattle.esx_plans.specs.plan.Event.{plan_of}
 use Rattle.esx_records.specs.Small.{machines_moved, IsSmall}
 use Rattle.esx_records.proofs.Modest.{PlansModest, small}

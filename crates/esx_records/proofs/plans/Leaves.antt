@@ -10,7 +10,7 @@ use Rattle.esx_types.specs.Frames.{frame_at, ref_count}
 use Rattle.esx_frames.specs.declared.marks.Mark.TheVariants as marks
 use Rattle.esx_tables.specs.declared.change.Change.TheVariants.{FrameAt, MarkAt, ListingAt, OfVm}
 use Rattle.esx_tables.specs.declared.change.VmPart.TheVariants.{PageAt}
-use Rattle.esx_plans.specs.plan.Leaves.{page_leaves}
+use Rattle.esx_changes.specs.Leaves.{page_leaves}
 use Rattle.esx_records.proofs.Modest.{IsModest}
 
 frame_leaves : (c : Config) (n page f count : ℕ) (new : MapRow) (b : Bool)

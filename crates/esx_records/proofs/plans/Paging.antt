@@ -16,8 +16,9 @@ use Rattle.esx_model.specs.declared.tables.Tables.{Tables}
 use Rattle.esx_model.specs.Tables.{standing_of}
 use Rattle.esx_model.specs.event.Paging.{swap_out_gate}
 use Rattle.esx_tables.specs.Readings.{row_at}
-use Rattle.esx_plans.specs.plan.Sharing.{key_in, look_in}
-use Rattle.esx_plans.specs.plan.Paging.{drawn_page, copy_changes, last_changes, out_changes, to_slot, leave_by, leave_row, leave, swap_out_plan}
+use Rattle.esx_sharing.specs.Sharing.{key_in, look_in}
+use Rattle.esx_changes.specs.Drawn.{drawn_page}
+use Rattle.esx_sharing.specs.Paging.{copy_changes, last_changes, out_changes, to_slot, leave_by, leave_row, leave, swap_out_plan}
 use Rattle.esx_records.proofs.Pages.{IsPageAtMost, frame_small}
 use Rattle.esx_records.proofs.Modest.{IsModest, PlansModest, at_row_modest, any_gate}
 use Rattle.esx_records.proofs.Stocks.{AreStocked}

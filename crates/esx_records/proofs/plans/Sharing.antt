@@ -13,7 +13,7 @@ use Rattle.esx_model.specs.declared.tables.Tables.{Tables}
 use Rattle.esx_model.specs.Tables.{standing_of}
 use Rattle.esx_model.specs.event.Sharing.{scan_gate}
 use Rattle.esx_tables.specs.Readings.{row_at}
-use Rattle.esx_plans.specs.plan.Sharing.{hint_changes, look_changes, key_in, look_in, scan_row, scan_plan}
+use Rattle.esx_sharing.specs.Sharing.{hint_changes, look_changes, key_in, look_in, scan_row, scan_plan}
 use Rattle.esx_records.proofs.Modest.{IsModest, PlansModest, at_row_modest, any_gate}
 
 hint_modest : (c : Config) (n page f key : ℕ) (o : Option ℕ) → IsModest c 0 (hint_changes n page f key o)

@@ -1,7 +1,6 @@
-use Rattle.std.proofs.Common.{◌≡◌, ◌<◌, ◌≤◌, ◌^◌, ⊎_elim, ℕ, ◌∙◌, sym, ap, subst, arith, decimal, length, get_or}
-use Rattle.std.specs.Prelude.{IfSome, IfNone, Option}
+use Rattle.std.proofs.Common.{◌≡◌, ◌<◌, ◌≤◌, ⊎_elim, ◌∙◌, sym, ap, arith, length, get_or}
 use Rattle.std.proofs.lemmas.Fmt.{decimal_nonempty}
-use Rattle.esx_reading.proofs.NumberLemmas.{zero_alone, read_number, some_from_ok, none_from_err}
+use Rattle.esx_reading.proofs.NumberLemmas.{zero_alone, read_number, read_none}
 use Rattle.esx_reading.proofs.fields.number_of.Goals as goal
 
 pub returns-in_err-first-clause-none : goal.returns-in_err-first-clause-none
@@ -21,11 +20,8 @@ returns-clause-some c =
     let first : c.in_ok-first.field-0.now ≡ get_or c.args.text.now 0 0 = c.in_ok-first.ensures.item.3.1 0 ∙ ap (λ t. get_or t 0 0) v in
     let one : get_or c.args.text.now 0 0 ≤ 48 → length c.args.text.now ≡ 1 = λ low.
     ⊎_elim (λ w. sym (ap length v) ∙ w.1) (λ w. absurd (omega (arith, first, w, low))) c.else-first-le48.either in
-    let Q : ℕ → Type 0 = λ n. (n < 2 ^ 64) × (c.args.text.now ≡ decimal n) in
-    let P : Option ℕ → Type 0 = λ o. IfSome o Q in
-    subst P (sym c.ok.ensures.value) (some_from_ok Q c.parse.result (read_number c.args.text.now c.parse.result c.parse.ensures.value.0 one))
+    let some : 0 < length c.args.text.now = omega (arith, ap length v, c.in_ok-first.ensures.item.3.0) in
+    read_number c.args.text.now _ c.number_of_digits.result v one some c.number_of_digits.ensures.some
 
 pub returns-clause-none : goal.returns-clause-none
-returns-clause-none c =
-    let P : Option ℕ → Type 0 = λ o. IfNone o ((n : ℕ) → n < 2 ^ 64 → c.args.text.now ≡ decimal n → ⊥) in
-    subst P (sym c.ok.ensures.value) (none_from_err c.args.text.now c.parse.result c.parse.ensures.value.0)
+returns-clause-none c = read_none c.args.text.now _ c.number_of_digits.result c.as_bytes-bytes.ensures.value c.number_of_digits.ensures.none

@@ -3,7 +3,7 @@ use Rattle.std.proofs.lemmas.List.{get_or_read}
 use Rattle.esx_formulas.specs.declared.targets.Row.{Row}
 use Rattle.esx_model.specs.declared.book.VmRow.{VmRow}
 use Rattle.esx_plans.specs.plan.Ratios.{numbered, ratio_row, least_of}
-use Rattle.esx_plans.proofs.Ratios.{passed_by, made_of, made_all}
+use Rattle.esx_plans.proofs.Loops.{passed_by, made_of, made_all}
 use Rattle.esx_plans.proofs.plan.ratios.ratio_rows.Goals.{in-Some+in-Some-new+in_ok-push, in_default}
 use Rattle.esx_plans.proofs.plan.ratios.ratio_rows.Goals as goal
 

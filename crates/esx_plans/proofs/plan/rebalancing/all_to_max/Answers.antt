@@ -4,7 +4,7 @@ use Rattle.esx_model.specs.declared.book.VmRow.{VmRow}
 use Rattle.esx_tables.specs.declared.change.Change.{Change}
 use Rattle.esx_plans.specs.plan.Ratios.{numbered}
 use Rattle.esx_plans.specs.plan.Rebalancing.{to_max}
-use Rattle.esx_plans.proofs.Ratios.{passed_by, made_of, made_all}
+use Rattle.esx_plans.proofs.Loops.{passed_by, made_of, made_all}
 use Rattle.esx_plans.proofs.plan.rebalancing.all_to_max.Goals.{in-Some+in-Some-new+in_ok-push, in_default}
 use Rattle.esx_plans.proofs.plan.rebalancing.all_to_max.Goals as goal
 

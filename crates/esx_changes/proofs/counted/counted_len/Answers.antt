@@ -1,0 +1,13 @@
+use Rattle.std.proofs.Common.{length, ap, sym, ◌∙◌, Option}
+use Rattle.esx_average.specs.Means.{Means}
+use Rattle.esx_model.specs.declared.book.PeriodRow.{PeriodRow}
+use Rattle.esx_changes.specs.Counted.{open_parts}
+use Rattle.esx_changes.proofs.counted.counted_len.Goals as goal
+
+pub open_len-requires : goal.open_len-requires
+open_len-requires c = c.requires c.in-Some.period (sym c.period.ensures ∙ c.in-Some.is)
+
+pub returns-in-Some-clause-value : goal.returns-in-Some-clause-value
+returns-in-Some-clause-value c =
+    let means : Means = record { slow = c.args.row.now.slow; fast = c.args.row.now.fast } in
+    c.open_len.ensures.value means ∙ ap (λ (o : Option PeriodRow). length (open_parts c.args.page means o)) (sym (sym c.period.ensures ∙ c.in-Some.is))

@@ -1,0 +1,143 @@
+//! What an access changes of its machine's row where a sample period is open.
+
+ghost use Rattle.std.specs.Prelude.{◌≡◌, ◌≤◌, ◌<◌, ◌++◌, ◌∷◌, [], length, map, count_by, OnOk, IfOk};
+ghost use Rattle.esx_tables.specs.declared.change.Change.TheVariants.{OfVm};
+ghost use Rattle.esx_average.specs.Means.{Means};
+ghost use Rattle.esx_changes.specs.Counted.{is_first, is_touched_by, turned_from, period_parts, counted_parts, IsOpen, IsOpenOf};
+
+use esx_average::Averages;
+use esx_model::{Mark, PeriodRow};
+use esx_tables::{Change, VmPart, VmTable};
+use esx_types::VmId;
+use std::alloc::{AllocError, Global};
+
+/// Does the mark name the page, which was not accessed before?
+fn is_first(page: u32, mark: &Mark) -> bool
+    ensures { result ≡ is_first page mark.now }
+{
+    page == mark.page && !mark.touched
+}
+
+fn first_count(page: u32, marks: &[Mark]) -> usize
+    ensures { result ≡ count_by (is_first page) marks.now }
+{
+    marks.iter().filter(|mark| is_first(page, mark)).count()
+}
+
+/// How many sampled pages were accessed, with this access.
+fn touched_count(page: u32, marks: &[Mark]) -> u32
+    requires { length marks.now ≤ 100 }
+    ensures value { result ≡ count_by (is_touched_by page) marks.now }
+    ensures most { result ≤ length marks.now }
+{
+    marks
+        .iter()
+        .filter(|mark| mark.touched || page == mark.page)
+        .count() as u32
+}
+
+/// How many parts of the row an access changes for an open period.
+#[tactic(auto, using(crate::proofs::Turned::turned_count))]
+fn open_len(page: u32, period: &PeriodRow) -> usize
+    requires { IsOpen period.now }
+    ensures value { (m : Means) → result ≡ length (period_parts page m period.now) }
+    ensures most { result ≤ 101 }
+{
+    let length = period.length;
+    if period.done + 1 < length {
+        first_count(page, period.marks.as_slice()) + 1
+    } else {
+        2
+    }
+}
+
+/// How many parts of the row an access changes to be counted.
+fn counted_len(row: &VmTable, page: u32) -> usize
+    requires { IsOpenOf row.now }
+    ensures value { result ≡ length (counted_parts row.now page) }
+    ensures most { result ≤ 101 }
+{
+    match row.period() {
+        None => 0,
+        Some(period) => open_len(page, period),
+    }
+}
+
+/// Room for so many changes, and for those of an access that is counted.
+pub fn room(
+    alloc: Global,
+    row: &VmTable,
+    page: u32,
+    others: usize,
+) -> Result<Vec<Change>, AllocError>
+    requires few { others < 8 }
+    requires period { IsOpenOf row.now }
+    ensures { IfOk result (λ changes. changes.items ≡ []) }
+{
+    Vec::with_capacity(alloc, others + counted_len(row, page))
+}
+
+/// One more part of a machine's row.
+pub fn push_part(changes: &mut Vec<Change>, vm: VmId, part: VmPart) -> Result<(), AllocError>
+    ensures { OnOk result (changes.new.items ≡ changes.old.items ++ OfVm vm part ∷ []) }
+{
+    changes.push(Change::OfVm { vm, part })?;
+    Ok(())
+}
+
+fn push_turned(
+    changes: &mut Vec<Change>,
+    vm: VmId,
+    page: u32,
+    marks: &[Mark],
+) -> Result<(), AllocError>
+    requires { length marks.now ≤ 100 }
+    ensures { OnOk result (changes.new.items ≡ changes.old.items ++ map (OfVm vm) (turned_from 0 page marks.now)) }
+{
+    for (i, mark) in marks.iter().enumerate() {
+        if is_first(page, mark) {
+            push_part(changes, vm, VmPart::Touched { mark: i as u32 })?;
+        }
+    }
+    Ok(())
+}
+
+/// One more access is done in an open period; the last one closes it.
+fn push_open(
+    changes: &mut Vec<Change>,
+    vm: VmId,
+    page: u32,
+    averages: Averages,
+    period: &PeriodRow,
+) -> Result<(), AllocError>
+    requires { IsOpen period.now }
+    ensures { OnOk result (changes.new.items ≡ changes.old.items ++ map (OfVm vm) (period_parts page averages period.now)) }
+{
+    let marks = period.marks.as_slice();
+    let length = period.length;
+    let done = period.done + 1;
+    if done < length {
+        push_part(changes, vm, VmPart::Done { done })?;
+        return push_turned(changes, vm, page, marks);
+    }
+    let touched = touched_count(page, marks);
+    let averages = averages.close_period(touched, marks.len() as u32);
+    push_part(changes, vm, VmPart::Period { period: None })?;
+    push_part(changes, vm, VmPart::Averages { averages })
+}
+
+/// An access is counted where a period is open.
+pub fn push_counted(
+    changes: &mut Vec<Change>,
+    vm: VmId,
+    row: &VmTable,
+    page: u32,
+) -> Result<(), AllocError>
+    requires { IsOpenOf row.now }
+    ensures { OnOk result (changes.new.items ≡ changes.old.items ++ map (OfVm vm) (counted_parts row.now page)) }
+{
+    match row.period() {
+        None => Ok(()),
+        Some(period) => push_open(changes, vm, page, row.averages(), period),
+    }
+}

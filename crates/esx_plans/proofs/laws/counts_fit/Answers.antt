@@ -1,5 +1,0 @@
-use Rattle.esx_plans.proofs.Countable.{counts_fit}
-use Rattle.esx_plans.proofs.laws.counts_fit.Goals as goal
-
-pub returns : goal.returns
-returns c = counts_fit

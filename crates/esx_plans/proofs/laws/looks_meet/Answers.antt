@@ -1,5 +1,0 @@
-use Rattle.esx_plans.proofs.Looks.{look_shown}
-use Rattle.esx_plans.proofs.laws.looks_meet.Goals as goal
-
-pub returns : goal.returns
-returns c = look_shown

@@ -1,5 +1,0 @@
-use Rattle.esx_plans.proofs.Periods.{periods_open}
-use Rattle.esx_plans.proofs.laws.periods_are_open.Goals as goal
-
-pub returns : goal.returns
-returns c = periods_open

@@ -1,5 +1,0 @@
-use Rattle.esx_plans.proofs.refines.Replacing.{replace_refines}
-use Rattle.esx_plans.proofs.laws.replace_refines.Goals as goal
-
-pub returns : goal.returns
-returns c = replace_refines

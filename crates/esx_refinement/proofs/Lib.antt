@@ -1,0 +1,15 @@
+pub mod Refining
+pub mod Made
+pub mod Found
+pub mod Ratios
+pub mod Retargeted
+pub mod Leaves
+pub mod Overhead
+pub mod Counted
+pub mod Held
+pub mod Periods
+pub mod Moved
+pub mod Drawn
+pub mod Looks
+pub mod Countable
+pub mod refines

@@ -1,0 +1,3 @@
+pub use Rattle.esx_tables.specs.Changes
+pub use Rattle.esx_changes.specs.Planned
+pub mod Refinement

@@ -1,0 +1,214 @@
+//! Pages leave for the swap area.
+
+ghost use Rattle.std.specs.Prelude.{◌≡◌, IfOk};
+ghost use Rattle.esx_types.specs.Slots.{least_slot};
+ghost use Rattle.esx_model.specs.event.Paging.{is_too_early};
+ghost use Rattle.esx_changes.specs.Planned.{Plans};
+ghost use Rattle.esx_sharing.specs.Sharing.{HasCounts};
+ghost use Rattle.esx_sharing.specs.Paging.{move_changes, copy_changes, last_changes, out_changes, to_slot, leave_frame, leave_row, swap_out_plan};
+
+use crate::sharing::{look_by_row, look_changes};
+use esx_changes::Plan;
+use esx_changes::changes::{page_at, unlisted};
+use esx_changes::drawn::drawn_page;
+use esx_events::{Answer, Refusal};
+use esx_model::{Look, Standing};
+use esx_tables::{Change, Mark, Record, SiteTables};
+use esx_types::{Bytes, FrameRow, Level, MapRow, SlotRow, VmId, VmState};
+use std::alloc::{AllocError, Global};
+
+/// Nothing is paged at the highest level, nor at the next while the balloon may still lend.
+fn is_too_early(level: Level, row: &Standing) -> bool
+    ensures { result ≡ is_too_early level row.now }
+{
+    match level {
+        Level::High => true,
+        Level::Soft => { matches!(row.state, VmState::Running) && row.lent < row.spec.balloon_max }
+        Level::Hard | Level::Low => false,
+    }
+}
+
+/// A page that is alone in its frame goes to a slot with its bytes.
+fn move_changes(
+    alloc: Global,
+    vm: VmId,
+    page: u32,
+    frame: u32,
+    slot: u32,
+) -> Result<Vec<Change>, AllocError>
+    ensures { IfOk result (λ changes. changes.items ≡ move_changes vm page frame slot) }
+{
+    Ok(vec![in alloc;
+        Change::FrameWithSlot { frame, slot },
+        unlisted(frame),
+        page_at(vm, page, MapRow::Out { slot }),
+    ]?)
+}
+
+/// The same for a page that is alone in a frame that was shared.
+fn last_changes(
+    alloc: Global,
+    vm: VmId,
+    page: u32,
+    frame: u32,
+    slot: u32,
+) -> Result<Vec<Change>, AllocError>
+    ensures { IfOk result (λ changes. changes.items ≡ last_changes vm page frame slot) }
+{
+    Ok(vec![in alloc;
+        Change::MarkAt {
+            frame,
+            mark: Mark::Private
+        },
+        Change::FrameWithSlot { frame, slot },
+        unlisted(frame),
+        page_at(vm, page, MapRow::Out { slot }),
+    ]?)
+}
+
+/// A copy of a page that others stay with in its frame goes to a slot; so many stay.
+fn copy_changes(
+    alloc: Global,
+    vm: VmId,
+    page: u32,
+    frame: u32,
+    slot: u32,
+    count: u32,
+    bytes: &[u8],
+) -> Result<Vec<Change>, AllocError>
+    ensures { IfOk result (λ changes. changes.items ≡ copy_changes vm page frame slot count bytes.now) }
+{
+    let bytes = Bytes::copy_of(alloc, bytes)?;
+    Ok(vec![in alloc;
+        Change::SlotAt {
+            slot,
+            row: SlotRow::Held { bytes }
+        },
+        Change::MarkAt {
+            frame,
+            mark: Mark::Shared { count }
+        },
+        page_at(vm, page, MapRow::Out { slot }),
+    ]?)
+}
+
+/// What a page that goes to a slot changes, by the row of its frame.
+fn out_changes(
+    alloc: Global,
+    vm: VmId,
+    page: u32,
+    frame: u32,
+    slot: u32,
+    row: &FrameRow,
+) -> Result<Vec<Change>, AllocError>
+    ensures { IfOk result (λ changes. changes.items ≡ out_changes vm page frame slot row.now) }
+{
+    match row {
+        FrameRow::Free | FrameRow::Overhead => Ok(Vec::new(alloc)),
+        FrameRow::Private { .. } => move_changes(alloc, vm, page, frame, slot),
+        FrameRow::Shared { count, bytes } => {
+            if 1 < *count {
+                copy_changes(alloc, vm, page, frame, slot, *count - 1, bytes.as_slice())
+            } else {
+                last_changes(alloc, vm, page, frame, slot)
+            }
+        }
+    }
+}
+
+/// A page goes to the least slot that is free.
+fn to_slot(
+    tables: &SiteTables,
+    alloc: Global,
+    vm: VmId,
+    page: u32,
+    frame: u32,
+    row: &FrameRow,
+) -> Result<Plan, Refusal>
+    ensures { Plans result (to_slot vm page frame row.now (least_slot tables.now.slots)) }
+{
+    let Some(slot) = tables.least_slot() else {
+        return Err(Refusal::Short);
+    };
+    let changes = out_changes(alloc, vm, page, frame, slot, row)?;
+    Ok(Plan {
+        answer: Answer::PagedOut { page, slot },
+        changes: Record::of(changes),
+    })
+}
+
+/// A page that can be shared is shared; any other goes to a slot.
+fn leave_frame(
+    tables: &SiteTables,
+    alloc: Global,
+    vm: VmId,
+    page: u32,
+    frame: u32,
+    row: &FrameRow,
+) -> Result<Plan, Refusal>
+    requires { HasCounts tables.now }
+    ensures { Plans result (leave_frame tables.now vm page frame row.now) }
+{
+    let found = look_by_row(tables, vm, page, row);
+    match found.look {
+        Look::SharedFrame { frame: other } | Look::OtherPage { frame: other, .. } => {
+            let changes = look_changes(tables, alloc, vm, page, frame, &found)?;
+            Ok(Plan {
+                answer: Answer::SharedOut { page, frame: other },
+                changes: Record::of(changes),
+            })
+        }
+        Look::Already | Look::Changed | Look::OtherBytes | Look::Nothing => {
+            to_slot(tables, alloc, vm, page, frame, row)
+        }
+    }
+}
+
+/// The same of a page by its row.
+#[tactic(auto, using(esx_changes::proofs::Rows::past_frames))]
+fn leave_row(
+    tables: &SiteTables,
+    alloc: Global,
+    vm: VmId,
+    page: u32,
+    at: MapRow,
+) -> Result<Plan, Refusal>
+    requires { HasCounts tables.now }
+    ensures { Plans result (leave_row tables.now vm page at) }
+{
+    let MapRow::Here { frame } = at else {
+        return Err(Refusal::AtTarget);
+    };
+    match tables.frame(frame) {
+        Some(row) => leave_frame(tables, alloc, vm, page, frame, row),
+        None => leave_frame(tables, alloc, vm, page, frame, &FrameRow::Free),
+    }
+}
+
+/// A page that the word draws is paged out, where its machine has more than its target.
+#[tactic(auto, unfolding(crate::specs::Paging::swap_out_plan))]
+pub fn plan_swap_out(
+    tables: &SiteTables,
+    alloc: Global,
+    level: Level,
+    vm: VmId,
+    word: u64,
+) -> Result<Plan, Refusal>
+    requires { HasCounts tables.now }
+    ensures { Plans result (swap_out_plan tables.now level vm word) }
+{
+    let Some(row) = tables.vm(vm) else {
+        return Err(Refusal::NoVm);
+    };
+    let standing = row.standing();
+    if is_too_early(level, &standing) {
+        return Err(Refusal::NotNow { level });
+    }
+    if standing.resident <= standing.target {
+        return Err(Refusal::AtTarget);
+    }
+    let Some(page) = drawn_page(row, word) else {
+        return Err(Refusal::AtTarget);
+    };
+    leave_row(tables, alloc, vm, page, row.page(page))
+}

@@ -1,0 +1,321 @@
+//! Pages with equal bytes come to share one frame.
+
+ghost use Rattle.std.specs.Prelude.{◌≡◌, IfOk};
+ghost use Rattle.std.specs.List.{position_from};
+ghost use Rattle.esx_types.specs.Frames.{ref_count};
+ghost use Rattle.esx_types.specs.Listings.{is_shared_under};
+ghost use Rattle.esx_changes.specs.Planned.{Plans};
+ghost use Rattle.esx_sharing.specs.Sharing.{look_at_shared, look_at_hinted, look_at_hint, look_by_key, look_in, key_in, join_changes, pair_changes, hint_changes, count_with, look_changes, look_said, looked, scan_frame, scan_row, scan_plan, HasCounts};
+
+use esx_changes::Plan;
+use esx_changes::changes::{page_at, unlisted};
+use esx_events::{Answer, Refusal, Scanned};
+use esx_formulas::content_key;
+use esx_model::Look;
+use esx_tables::{Change, Mark, Record, SiteTables};
+use esx_types::{FrameRow, Listing, MapRow, VmId, VmState};
+use std::alloc::{AllocError, Global};
+
+/// What a look at a page found, and the key of the page's content; 0 where no page was looked for.
+#[derive(Clone, Copy, Debug)]
+pub struct Found {
+    pub look: Look,
+    pub key: u64,
+}
+
+/// At a frame that is shared under the page's key.
+fn look_at_shared(bytes: &[u8], others: &[u8], frame: u32) -> Look
+    ensures { result ≡ look_at_shared bytes.now others.now frame }
+{
+    if bytes == others {
+        Look::SharedFrame { frame }
+    } else {
+        Look::OtherBytes
+    }
+}
+
+/// At a frame whose page is the hint under that key: equal bytes need no second key.
+fn look_at_hinted(
+    vm: VmId,
+    page: u32,
+    bytes: &[u8],
+    key: u64,
+    others: &[u8],
+    frame: u32,
+    listing: Listing,
+) -> Look
+    ensures { result ≡ look_at_hinted vm page bytes.now key others.now frame listing }
+{
+    let Listing::Hinted {
+        vm: other,
+        page: its,
+        ..
+    } = listing
+    else {
+        return Look::Nothing;
+    };
+    if other.number() == vm.number() && its == page {
+        Look::Nothing
+    } else if bytes == others {
+        Look::OtherPage {
+            vm: other,
+            page: its,
+            frame,
+        }
+    } else if content_key(others) == key {
+        Look::OtherBytes
+    } else {
+        Look::Changed
+    }
+}
+
+fn look_at_hint(
+    tables: &SiteTables,
+    vm: VmId,
+    page: u32,
+    bytes: &[u8],
+    key: u64,
+    hinted: Option<u32>,
+) -> Look
+    ensures { result ≡ look_at_hint tables.now vm page bytes.now key hinted }
+{
+    match hinted {
+        None => Look::Nothing,
+        Some(frame) => {
+            let others = tables.bytes(frame);
+            let listing = tables.listing(frame);
+            look_at_hinted(vm, page, bytes, key, others, frame, listing)
+        }
+    }
+}
+
+/// A shared frame comes before a hint.
+fn look_by_key(tables: &SiteTables, vm: VmId, page: u32, bytes: &[u8], key: u64) -> Look
+    ensures { result ≡ look_by_key tables.now vm page bytes.now key (position_from (is_shared_under key) 0 tables.now.listings) }
+{
+    match tables.shared_under(key) {
+        Some(frame) => look_at_shared(bytes, tables.bytes(frame), frame),
+        None => look_at_hint(tables, vm, page, bytes, key, tables.hinted_under(key)),
+    }
+}
+
+/// What a look at a page finds, by the row of its frame. Only a private page is looked for; its bytes are hashed once.
+#[tactic(auto, unfolding(crate::specs::Sharing::look_in))]
+pub fn look_by_row(tables: &SiteTables, vm: VmId, page: u32, row: &FrameRow) -> Found
+    ensures look { result.look ≡ look_in tables.now vm page row.now }
+    ensures key { result.key ≡ key_in row.now }
+{
+    match row {
+        FrameRow::Private { bytes } => {
+            let bytes = bytes.as_slice();
+            let key = content_key(bytes);
+            let look = look_by_key(tables, vm, page, bytes, key);
+            Found { look, key }
+        }
+        FrameRow::Free | FrameRow::Overhead | FrameRow::Shared { .. } => Found {
+            look: Look::Already,
+            key: 0,
+        },
+    }
+}
+
+fn ref_count(row: &FrameRow) -> u32
+    ensures { result ≡ ref_count row.now }
+{
+    match row {
+        FrameRow::Free | FrameRow::Overhead | FrameRow::Private { .. } => 0,
+        FrameRow::Shared { count, .. } => *count,
+    }
+}
+
+/// How many pages are in a shared frame with one more.
+#[tactic(auto, using(crate::proofs::Rows::no_count))]
+fn count_with(tables: &SiteTables, frame: u32) -> u32
+    requires { HasCounts tables.now }
+    ensures { result ≡ count_with tables.now frame }
+{
+    match tables.frame(frame) {
+        Some(row) => ref_count(row) + 1,
+        None => 1,
+    }
+}
+
+/// A page leaves its frame for another, where so many are then.
+fn join_changes(
+    alloc: Global,
+    vm: VmId,
+    page: u32,
+    own: u32,
+    frame: u32,
+    count: u32,
+) -> Result<Vec<Change>, AllocError>
+    ensures { IfOk result (λ changes. changes.items ≡ join_changes vm page own frame count) }
+{
+    Ok(vec![in alloc;
+        Change::FrameAt {
+            frame: own,
+            row: FrameRow::Free
+        },
+        unlisted(own),
+        Change::MarkAt {
+            frame,
+            mark: Mark::Shared { count }
+        },
+        page_at(vm, page, MapRow::Here { frame }),
+    ]?)
+}
+
+/// The same where the other page was private: its frame is shared under the key from now on.
+fn pair_changes(
+    alloc: Global,
+    vm: VmId,
+    page: u32,
+    own: u32,
+    frame: u32,
+    key: u64,
+) -> Result<Vec<Change>, AllocError>
+    ensures { IfOk result (λ changes. changes.items ≡ pair_changes vm page own frame key) }
+{
+    Ok(vec![in alloc;
+        Change::ListingAt {
+            frame,
+            listing: Listing::Shared { key }
+        },
+        Change::FrameAt {
+            frame: own,
+            row: FrameRow::Free
+        },
+        unlisted(own),
+        Change::MarkAt {
+            frame,
+            mark: Mark::Shared { count: 2 }
+        },
+        page_at(vm, page, MapRow::Here { frame }),
+    ]?)
+}
+
+/// A page becomes the hint under its key; the one that stood there goes.
+fn hint_changes(
+    alloc: Global,
+    vm: VmId,
+    page: u32,
+    own: u32,
+    key: u64,
+    hinted: Option<u32>,
+) -> Result<Vec<Change>, AllocError>
+    ensures { IfOk result (λ changes. changes.items ≡ hint_changes vm page own key hinted) }
+{
+    let hint = Change::ListingAt {
+        frame: own,
+        listing: Listing::Hinted { vm, page, key },
+    };
+    match hinted {
+        None => Ok(vec![in alloc; hint]?),
+        Some(frame) => Ok(vec![in alloc; unlisted(frame), hint]?),
+    }
+}
+
+/// What a look at a page in its own frame changes.
+pub fn look_changes(
+    tables: &SiteTables,
+    alloc: Global,
+    vm: VmId,
+    page: u32,
+    own: u32,
+    found: &Found,
+) -> Result<Vec<Change>, AllocError>
+    requires { HasCounts tables.now }
+    ensures { IfOk result (λ changes. changes.items ≡ look_changes tables.now vm page own found.now.key found.now.look) }
+{
+    match found.look {
+        Look::Already | Look::OtherBytes => Ok(Vec::new(alloc)),
+        Look::SharedFrame { frame } => {
+            join_changes(alloc, vm, page, own, frame, count_with(tables, frame))
+        }
+        Look::OtherPage { frame, .. } => pair_changes(alloc, vm, page, own, frame, found.key),
+        Look::Changed | Look::Nothing => {
+            let hinted = tables.hinted_under(found.key);
+            hint_changes(alloc, vm, page, own, found.key, hinted)
+        }
+    }
+}
+
+/// What is said of a look.
+fn look_said(tables: &SiteTables, look: Look) -> Scanned
+    requires { HasCounts tables.now }
+    ensures { result ≡ look_said tables.now look }
+{
+    match look {
+        Look::Already => Scanned::Already,
+        Look::SharedFrame { frame } => Scanned::Shared {
+            frame,
+            count: count_with(tables, frame),
+        },
+        Look::OtherPage { frame, .. } => Scanned::Shared { frame, count: 2 },
+        Look::Changed => Scanned::Stale,
+        Look::OtherBytes => Scanned::Clash,
+        Look::Nothing => Scanned::Hinted,
+    }
+}
+
+/// A page is looked for, and shared or remembered, by the row of its frame.
+fn scan_frame(
+    tables: &SiteTables,
+    alloc: Global,
+    vm: VmId,
+    page: u32,
+    frame: u32,
+    row: &FrameRow,
+) -> Result<Plan, Refusal>
+    requires { HasCounts tables.now }
+    ensures { Plans result (scan_frame tables.now vm page frame row.now) }
+{
+    let found = look_by_row(tables, vm, page, row);
+    let changes = look_changes(tables, alloc, vm, page, frame, &found)?;
+    Ok(Plan {
+        answer: Answer::Looked {
+            scanned: look_said(tables, found.look),
+        },
+        changes: Record::of(changes),
+    })
+}
+
+/// The same of a page by its row.
+#[tactic(auto, using(esx_changes::proofs::Rows::past_frames))]
+fn scan_row(
+    tables: &SiteTables,
+    alloc: Global,
+    vm: VmId,
+    page: u32,
+    at: MapRow,
+) -> Result<Plan, Refusal>
+    requires { HasCounts tables.now }
+    ensures { Plans result (scan_row tables.now vm page at) }
+{
+    let MapRow::Here { frame } = at else {
+        return Err(Refusal::NotResident);
+    };
+    match tables.frame(frame) {
+        Some(row) => scan_frame(tables, alloc, vm, page, frame, row),
+        None => scan_frame(tables, alloc, vm, page, frame, &FrameRow::Free),
+    }
+}
+
+/// Another page with the bytes of a page is looked for, to share one frame with it.
+#[tactic(auto, unfolding(crate::specs::Sharing::scan_plan))]
+pub fn plan_scan(tables: &SiteTables, alloc: Global, vm: VmId, page: u32) -> Result<Plan, Refusal>
+    requires { HasCounts tables.now }
+    ensures { Plans result (scan_plan tables.now vm page) }
+{
+    let Some(row) = tables.vm(vm) else {
+        return Err(Refusal::NoVm);
+    };
+    match row.facts().state {
+        VmState::Starting | VmState::Stopping => return Err(Refusal::NotRunning),
+        VmState::Running => {}
+    }
+    if row.spec().max <= page {
+        return Err(Refusal::OutOfRange);
+    }
+    scan_row(tables, alloc, vm, page, row.page(page))
+}
