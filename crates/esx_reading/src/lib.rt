@@ -4,8 +4,6 @@
 
 mod fault;
 mod fields;
-#[cfg(test)]
-mod tests;
 mod whole;
 mod written;
 

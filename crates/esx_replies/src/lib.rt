@@ -18,8 +18,6 @@ mod sampling;
 mod sharing;
 mod sides;
 mod table;
-#[cfg(test)]
-mod tests;
 
 pub use marks::{put_mark, put_marks_head};
 pub use moves::put_marked;

@@ -9,8 +9,6 @@ mod parse;
 mod plan;
 mod site;
 mod strange;
-#[cfg(test)]
-mod tests;
 
 pub use parse::parse_scenario;
 pub use plan::{Guest, Scenario, Settings, TraceLine};

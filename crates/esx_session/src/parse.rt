@@ -14,9 +14,6 @@ use esx_reading::TextFault;
 use esx_types::{Bytes, Config, Rows};
 use std::alloc::{AllocError, Global};
 
-#[cfg(test)]
-mod tests;
-
 /// The first line of each session.
 const HEAD: &str = "esx session 1";
 

@@ -11,8 +11,6 @@ mod marks;
 mod replies;
 mod sides;
 mod table;
-#[cfg(test)]
-mod tests;
 
 use crate::printing::replies::put_reply;
 use esx_events::{Call, Line};

@@ -7,8 +7,6 @@ mod laws;
 mod listed;
 mod operands;
 mod printing;
-#[cfg(test)]
-mod tests;
 mod verbs;
 
 pub use commands::parse_command;

@@ -1,6 +1,6 @@
 //! Lines as they are written by hand.
 
-use crate::{parse_command, print_command};
+use esx_words::{parse_command, print_command};
 use std::alloc::Global;
 use std::rt::HostRuntime;
 use std::test::Fail;

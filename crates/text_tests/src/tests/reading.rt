@@ -1,6 +1,6 @@
 //! Files through readers that give little at a time, fail or never end, and the texts of faults.
 
-use crate::{TextFault, read_text_of};
+use esx_reading::{TextFault, read_text_of};
 use std::io::{self, ErrorKind, Read};
 use std::test::Fail;
 

@@ -1,8 +1,9 @@
 //! Replies as they stand in the format.
 
-use crate::print_reply;
-use esx_events::{Answer, Boxed, Refusal, Reply, Said, Sum, TableRow};
-use esx_types::{Level, Rows, VmId, VmState};
+use crate::tests::table::table;
+use esx_events::{Answer, Refusal, Reply, Said};
+use esx_replies::print_reply;
+use esx_types::{Level, VmId};
 use std::alloc::Global;
 use std::rt::HostRuntime;
 use std::test::Fail;
@@ -36,34 +37,6 @@ fn an_answer(rt: HostRuntime) -> Result<(), Fail> {
 
 const TABLE: &str =
     " vm state        min     max  target    here    lent     out  shares  active\n  0 running        2       6       6       1       0       0    1000   65536\noverhead 1 private 1 shared 0 free 18 high\n";
-
-/// A table of one virtual machine.
-fn table(alloc: Global, vm: VmId) -> Result<Said, Fail> {
-    let row = TableRow {
-        vm,
-        state: VmState::Running,
-        min: 2,
-        max: 6,
-        target: 6,
-        here: 1,
-        lent: 0,
-        out: 0,
-        shares: 1000,
-        active: 65536,
-    };
-    let sum = Sum {
-        overhead: 1,
-        private: 1,
-        shared: 0,
-        free: 18,
-        level: Level::High,
-    };
-    let rows = Rows::from_vec(Vec::from_slice(alloc, &[row])?);
-    Ok(Said::Table {
-        rows: Boxed::new(alloc, rows)?,
-        sum: Boxed::new(alloc, sum)?,
-    })
-}
 
 #[test]
 fn a_table(rt: HostRuntime) -> Result<(), Fail> {

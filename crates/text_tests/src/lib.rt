@@ -1,0 +1,5 @@
+//! What is run of the texts.
+#![tactic(auto)]
+
+#[cfg(test)]
+mod tests;

@@ -1,0 +1,6 @@
+mod reading;
+mod replies;
+mod scenario;
+mod session;
+mod table;
+mod words;

@@ -1,0 +1,168 @@
+//! A session as it stands in the format; texts written by hand: the session of one, and the lines at which others
+//! are none.
+
+use crate::tests::table::{SUM, table};
+use esx_events::{
+    Answer, Boxed, Call, Event, Line, Name, NameRow, Refusal, Reply, Said, Sides, Stand,
+};
+use esx_reading::TextFault;
+use esx_session::{parse_session, print_session};
+use esx_types::{Config, Rows, VmId};
+use esx_words::parse_command;
+use std::alloc::Global;
+use std::rt::HostRuntime;
+use std::test::Fail;
+
+const SITE: Config = Config {
+    frames: 20,
+    page: 16,
+    slots: 8,
+    tau: 75,
+    high: 6,
+    soft: 4,
+    hard: 2,
+    low: 1,
+    nodes: 16777216,
+};
+
+const SESSION: &str =
+    "esx session 1\nframes 20 page 16 slots 8 tau 75 levels 6 4 2 1 nodes 16777216\n3 undo 1\n= at 2 depth 1 jumps 7\n63 table\n=  vm state        min     max  target    here    lent     out  shares  active\n=   0 running        2       6       6       1       0       0    1000   65536\n= overhead 1 private 1 shared 0 free 18 high\n0 marks\n= marks 1\n= base 2\n0 whatif gone 0; ask 1\n= whatif 1/2\n= before overhead 1 private 1 shared 0 free 18 high\n= 1 ok gone\n= 2 no 1 NoVm\n= after overhead 1 private 1 shared 0 free 18 high\nend 4\n";
+
+/// A line of a log: the caller, the call, and what is said to it after 7 jumps.
+fn line(caller: u16, call: Call, said: Said) -> Line {
+    Line {
+        caller,
+        call,
+        reply: Reply { jumps: 7, said },
+    }
+}
+
+/// One mark.
+fn marks(alloc: Global, name: Name) -> Result<Said, Fail> {
+    let mut rows = Vec::new(alloc);
+    rows.push(NameRow { name, node: 2 })?;
+    Ok(Said::Marks {
+        marks: Boxed::new(alloc, Rows::from_vec(rows))?,
+    })
+}
+
+/// Two events that were tried, the second of which was refused.
+fn sides(alloc: Global) -> Result<Said, Fail> {
+    let mut replies = Vec::new(alloc);
+    replies.push(Ok(Answer::Gone))?;
+    replies.push(Err(Refusal::NoVm))?;
+    let sides = Sides {
+        given: 2,
+        before: SUM,
+        replies: Rows::from_vec(replies),
+        after: SUM,
+    };
+    Ok(Said::Sides {
+        sides: Boxed::new(alloc, sides)?,
+    })
+}
+
+#[test]
+fn a_session(rt: HostRuntime) -> Result<(), Fail> {
+    let alloc = rt.alloc();
+    let vm = VmId::new(0).expect(&rt, "a number");
+    let name = Name::new(alloc, "base")?.expect(&rt, "a name");
+    let tried = parse_command(alloc, "whatif gone 0; ask 1").expect(&rt, "a command");
+    let stand = Stand { node: 2, depth: 1 };
+    let mut log = Vec::new(alloc);
+    log.push(line(3, Call::Undo { count: 1 }, Said::Stand { stand }))?;
+    log.push(line(63, Call::Table, table(alloc, vm)?))?;
+    log.push(line(0, Call::Marks, marks(alloc, name)?))?;
+    log.push(line(0, tried, sides(alloc)?))?;
+    let text = print_session(alloc, &SITE, log.as_slice())?;
+    assert!(rt; text.as_str() == SESSION);
+    Ok(())
+}
+
+/// The lines before the first call.
+const OPENING: &str =
+    "esx session 1\nframes 20 page 16 slots 8 tau 75 levels 6 4 2 1 nodes 16777216\n";
+
+/// Two calls with their replies.
+const CALLS: &str =
+    "0 admit 0 2 6 1 1000 0\n= ok memory 3/20 swap 4/8\n63 start 0\n= ok frame 0 overhead 1/1 running\n= \n";
+
+/// Texts of three parts, and the line at which each is no session: 0 where it is one.
+const TEXTS: [(&str, &str, &str, u64); 24] = [
+    ("", "", "", 1),
+    ("esx session 2\n", "", "", 1),
+    ("esx session 1\n", "", "", 2),
+    (
+        "esx session 1\nframes 2097152 page 16 slots 8 tau 75 levels 6 4 2 1 nodes 1\n",
+        "",
+        "end 0\n",
+        2,
+    ),
+    (
+        "esx session 1\nframes 20 page 16 slots 08 tau 75 levels 6 4 2 1 nodes 1\n",
+        "",
+        "end 0\n",
+        2,
+    ),
+    (OPENING, "", "", 3),
+    (OPENING, "", "end 0", 0),
+    (OPENING, "= ok\n", "end 0\n", 3),
+    (OPENING, "64 sum\n= ok\n", "end 1\n", 3),
+    (OPENING, "00 sum\n= ok\n", "end 1\n", 3),
+    (OPENING, "0  sum\n= ok\n", "end 1\n", 3),
+    (OPENING, "0 sum\n", "end 1\n", 4),
+    (OPENING, "0 sum\n=\n", "end 1\n", 4),
+    (OPENING, "0 sum\n= \u{e4}\n", "end 1\n", 4),
+    (OPENING, "0 sum\n= ok\n= \u{e4}\n", "end 1\n", 5),
+    (OPENING, "0 sum\n= ok\n\n", "end 1\n", 5),
+    (OPENING, CALLS, "", 8),
+    (OPENING, CALLS, "end 3\n", 8),
+    (OPENING, CALLS, "end 02\n", 8),
+    (OPENING, CALLS, "end 2\n", 0),
+    (OPENING, CALLS, "end 2\r\n", 0),
+    (OPENING, CALLS, "end 2\r", 8),
+    (OPENING, CALLS, "end 2\n\n", 9),
+    (OPENING, CALLS, "end 2\n0 sum\n= ok\nend 3\n", 9),
+];
+
+fn bad_line(alloc: Global, text: &str) -> u64 {
+    match parse_session(alloc, text) {
+        Ok(_) => 0,
+        Err(TextFault::BadLine(line)) => line,
+        Err(_) => u64::MAX,
+    }
+}
+
+#[test]
+fn lines(rt: HostRuntime) -> Result<(), Fail> {
+    let alloc = rt.alloc();
+    for (site, calls, end, line) in &TEXTS {
+        let text = format!(in alloc; "{site}{calls}{end}")?;
+        assert_eq!(rt; bad_line(alloc, &text), *line);
+    }
+    Ok(())
+}
+
+#[test]
+fn session(rt: HostRuntime) -> Result<(), Fail> {
+    let alloc = rt.alloc();
+    let text = format!(in alloc; "{OPENING}{CALLS}end 2\n")?;
+    let session = parse_session(alloc, &text)?;
+    assert_eq!(rt; session.site.slots, 8);
+    assert_eq!(rt; session.entries.len(), 2);
+    let entry = &session.entries.as_slice()[1];
+    assert_eq!(rt; entry.caller, 63);
+    assert!(rt;
+        matches!(
+            &entry.call,
+            Call::Do {
+                event: Event::Start { .. }
+            }
+        )
+    );
+    assert_eq!(rt;
+        entry.reply.as_slice(),
+        b"ok frame 0 overhead 1/1 running\n\n".as_slice()
+    );
+    Ok(())
+}
