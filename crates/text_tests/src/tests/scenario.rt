@@ -1,6 +1,5 @@
 //! Worked examples, and texts that differ from them in one place.
 
-use esx_reading::TextFault;
 use esx_scenario::{Settings, TraceLine, parse_scenario};
 use esx_types::{Config, VmSpec};
 use std::alloc::{AllocError, Global};
