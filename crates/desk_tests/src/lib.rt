@@ -1,4 +1,4 @@
-//! What is run of the desk.
+//! Plays of the desk; thread_tests runs them.
 #![tactic(auto)]
 
 pub mod calls;
@@ -6,5 +6,3 @@ pub mod crowd;
 pub mod plays;
 pub mod replays;
 pub mod signs;
-#[cfg(test)]
-mod tests;

@@ -5,8 +5,6 @@ pub mod crew;
 pub mod door;
 pub mod run;
 pub mod site;
-#[cfg(test)]
-mod tests;
 
 pub use door::{ConsoleDoor, DeskDoor};
 pub use esx_door::{Door, Gate, Open};

@@ -1,7 +1,5 @@
-//! What is run of the own lock, over a small value.
+//! Plays of the own lock, over a small value; thread_tests runs them.
 #![tactic(auto)]
 
 pub mod plays;
 pub mod tally;
-#[cfg(test)]
-mod tests;

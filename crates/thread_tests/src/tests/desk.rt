@@ -1,9 +1,11 @@
 // What is run of the desk. Each test ends by itself, and its answer does not depend on which thread is first.
 
-use crate::calls::OPENING;
-use crate::crowd::{TURNS, share};
-use crate::plays::{alone, closed, goes_on, parts_and_meets, read_byte, started, write_and_look};
-use crate::replays::{callers_of, count_of, gauges_along, in_order};
+use desk_tests::calls::OPENING;
+use desk_tests::crowd::{TURNS, share};
+use desk_tests::plays::{
+    alone, closed, goes_on, parts_and_meets, read_byte, started, write_and_look,
+};
+use desk_tests::replays::{callers_of, count_of, gauges_along, in_order};
 use esx_desk::Gauge;
 use esx_events::Refusal;
 use esx_types::Level;

@@ -1,12 +1,11 @@
 // Workers on a console, and the run of a scenario.
 
-use crate::door::ConsoleDoor;
-use crate::site::run_site;
 use esx_console::Console;
 use esx_door::{Gate, Open};
 use esx_events::{Call, Event, Line};
 use esx_scenario::{Scenario, parse_scenario};
 use esx_types::{Config, VmId, VmSpec};
+use esx_work::{ConsoleDoor, run_site};
 use esx_workers::{How, Machine, policy, sharer, swapper};
 use rand_core::SeedableRng;
 use rand_pcg::Pcg64;
