@@ -4,7 +4,5 @@
 pub mod console;
 mod hearing;
 pub mod laws;
-#[cfg(test)]
-mod tests;
 
 pub use console::Console;

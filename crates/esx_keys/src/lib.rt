@@ -9,8 +9,6 @@ pub mod laws;
 mod listings;
 mod order;
 mod table;
-#[cfg(test)]
-mod tests;
 
 pub use entry::{Entry, Kind};
 pub use esx_formulas::content_key as key;

@@ -8,6 +8,3 @@ mod reading;
 mod table;
 
 pub use machine::{Machine, Record};
-
-#[cfg(test)]
-mod tests;

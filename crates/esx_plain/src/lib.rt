@@ -6,8 +6,6 @@ mod keys;
 mod machines;
 mod path;
 mod show;
-#[cfg(test)]
-mod tests;
 
 pub use fault::PlainFault;
 pub use path::{replay, run};

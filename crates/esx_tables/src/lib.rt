@@ -7,8 +7,6 @@ mod exchange;
 pub mod laws;
 mod record;
 mod tables;
-#[cfg(test)]
-mod tests;
 mod vm_table;
 
 pub use change::{Change, Facts, VmPart};

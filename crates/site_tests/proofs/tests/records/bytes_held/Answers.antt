@@ -1,6 +1,6 @@
 use Rattle.std.proofs.Common.{sym, subst}
 use Rattle.esx_machine.specs.Machine.{Kept, Trades}
-use Rattle.esx_records.proofs.tests.bytes_held.Goals as goal
+use Rattle.site_tests.proofs.tests.records.bytes_held.Goals as goal
 
 pub returns : goal.returns
 returns c =

@@ -1,32 +1,16 @@
-use crate::Console;
+//! What is run of the console.
+
+use super::site::{SITE, SPEC};
+use esx_console::Console;
 use esx_events::{Call, Event};
-use esx_types::{Config, FrameRow, VmId, VmSpec};
+use esx_types::{FrameRow, VmId};
 use std::alloc::Global;
 use std::rt::HostRuntime;
 use std::test::Fail;
 
-const SITE: Config = Config {
-    frames: 20,
-    page: 16,
-    slots: 8,
-    tau: 75,
-    high: 6,
-    soft: 4,
-    hard: 2,
-    low: 1,
-    nodes: 16777216,
-};
-
 fn started(alloc: Global, vm: VmId) -> Result<Console, Fail> {
-    let spec = VmSpec {
-        min: 2,
-        max: 6,
-        overhead: 1,
-        shares: 1000,
-        balloon_max: 0,
-    };
     let mut console = Console::open(alloc, SITE)?;
-    for event in [Event::Admit { vm, spec }, Event::Start { vm }] {
+    for event in [Event::Admit { vm, spec: SPEC }, Event::Start { vm }] {
         let _ = console.call(0, Call::Do { event })?;
     }
     Ok(console)

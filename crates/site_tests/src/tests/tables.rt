@@ -1,18 +1,9 @@
-use crate::{Change, Record, SiteTables, VmTable};
-use esx_types::{Config, Level, VmSpec};
-use std::test::Fail;
+//! What is run of the tables of a site, and of records of changes.
 
-const SITE: Config = Config {
-    frames: 20,
-    page: 16,
-    slots: 8,
-    tau: 75,
-    high: 6,
-    soft: 4,
-    hard: 2,
-    low: 1,
-    nodes: 16777216,
-};
+use super::site::{SITE, SPEC};
+use esx_tables::{Change, Record, SiteTables, VmTable};
+use esx_types::Level;
+use std::test::Fail;
 
 #[test]
 fn opens_with_ample_memory(rt: HostRuntime) -> Result<(), Fail> {
@@ -24,14 +15,7 @@ fn opens_with_ample_memory(rt: HostRuntime) -> Result<(), Fail> {
 
 #[test]
 fn admits_with_ample_memory(rt: HostRuntime) -> Result<(), Fail> {
-    let spec = VmSpec {
-        min: 2,
-        max: 6,
-        overhead: 1,
-        shares: 1000,
-        balloon_max: 0,
-    };
-    let vm = VmTable::admitted(rt.alloc(), spec)?;
+    let vm = VmTable::admitted(rt.alloc(), SPEC)?;
     assert_eq!(rt; vm.spec().max, 6);
     Ok(())
 }

@@ -1,4 +1,6 @@
-use crate::{Entry, Keys, Kind, Listings, key};
+//! What is run of listings and keys.
+
+use esx_keys::{Entry, Keys, Kind, Listings, key};
 use esx_types::{Hint, KeyRow, Listing, VmId};
 use std::test::Fail;
 

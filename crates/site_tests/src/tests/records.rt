@@ -1,55 +1,17 @@
-ghost use Rattle.std.specs.Prelude.{◌≡◌, ◌+◌, ◌^◌, ◌<◌, Some, OnOk, IfOk};
-ghost use Rattle.esx_model.specs.declared.book.VmRow.{VmRow};
+//! What is run of the machine's records: how many bytes each holds.
+
+ghost use Rattle.std.specs.Prelude.{◌≡◌, OnOk, IfOk};
 ghost use Rattle.esx_model.specs.declared.scene.Scene.{Scene};
-ghost use Rattle.esx_plans.specs.plan.Balloon.{CanEpochsRise};
 ghost use Rattle.esx_machine.specs.Machine.{Kept, Shows, Trades};
 
+use super::rise::expect_rise;
+use super::site::{SITE, SPEC};
 use esx_events::{Boxed, Event};
 use esx_machine::{Machine, Record};
-use esx_model::VmRow;
-use esx_types::{Bytes, Config, VmId, VmSpec};
+use esx_types::{Bytes, VmId};
 use std::alloc::{AllocError, Global};
 use std::process::Abort;
 use std::test::Fail;
-
-const SITE: Config = Config {
-    frames: 20,
-    page: 16,
-    slots: 8,
-    tau: 75,
-    high: 6,
-    soft: 4,
-    hard: 2,
-    low: 1,
-    nodes: 16777216,
-};
-
-const SPEC: VmSpec = VmSpec {
-    min: 2,
-    max: 6,
-    overhead: 1,
-    shares: 1000,
-    balloon_max: 0,
-};
-
-fn expect_low(rt: &impl Abort, vm: &Option<VmRow>)
-    ensures { (v : VmRow) → vm.now ≡ Some v → v.epoch + 1 < 2 ^ 32 }
-{
-    if let Some(vm) = vm {
-        assert!(rt; vm.epoch < u32::MAX);
-    }
-}
-
-/// Each machine's epoch can rise.
-fn expect_rise(rt: &impl Abort, machine: &Machine) -> Result<(), Fail>
-    ensures { OnOk result (CanEpochsRise machine.now.tables) }
-{
-    let book = machine.book()?;
-    for vm in book.vms.as_slice() {
-        expect_low(rt, vm);
-    }
-    Ok(())
-}
 
 /// The record of one event.
 fn record_of(rt: &impl Abort, machine: &mut Machine, event: &Event) -> Result<Record, Fail>

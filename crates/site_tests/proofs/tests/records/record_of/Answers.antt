@@ -1,4 +1,4 @@
-use Rattle.esx_records.proofs.tests.record_of.Goals as goal
+use Rattle.site_tests.proofs.tests.records.record_of.Goals as goal
 
 pub apply-requires : goal.apply-requires
 apply-requires g c = record { rise = c.in_ok-expect_rise.ensures }

@@ -1,6 +1,6 @@
 use Rattle.std.proofs.Common.{◌≡◌, refl, arith}
 use Rattle.esx_keys.specs.Table.{head_count}
-use Rattle.esx_keys.proofs.tests.one_head_holds_eight_hints.Goals as goal
+use Rattle.site_tests.proofs.tests.keys.one_head_holds_eight_hints.Goals as goal
 
 eight_heads : head_count 8 ≡ 8
 unfolding head_count

@@ -3,7 +3,7 @@ use Rattle.esx_model.specs.declared.book.Book.{Book}
 use Rattle.esx_model.specs.declared.book.VmRow.{VmRow}
 use Rattle.esx_machine.proofs.Loops.{item_there}
 use Rattle.esx_machine.proofs.Read.{rise_told}
-use Rattle.esx_records.proofs.tests.expect_rise.Goals as goal
+use Rattle.site_tests.proofs.tests.rise.expect_rise.Goals as goal
 
 pub returns : goal.returns
 returns g c =

@@ -1,21 +1,12 @@
-use super::*;
+//! What is run of the plain program.
+
+use super::site::SITE;
 use esx_events::{Boxed, Event, Refusal};
 use esx_model::{Book, VmRow};
+use esx_plain::{PlainFault, replay};
 use esx_types::{Bytes, Config, FrameRow, Level, MapRow, Rows, SlotRow, VmId, VmSpec};
 use std::alloc::{AllocError, Global};
 use std::rt::HostRuntime;
-
-const SITE: Config = Config {
-    frames: 20,
-    page: 16,
-    slots: 8,
-    tau: 75,
-    high: 6,
-    soft: 4,
-    hard: 2,
-    low: 1,
-    nodes: 16777216,
-};
 
 const SPEC: VmSpec = VmSpec {
     min: 2,
