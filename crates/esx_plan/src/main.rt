@@ -154,7 +154,7 @@ fn run_console<R: Files + Input + Print + AllocGlobal>(
 }
 
 /// Where it is told how far a work is: a terminal.
-fn terminal(errors: &Stderr) -> Option<&Stderr> {
+fn terminal<E: IsTerminal>(errors: &E) -> Option<&E> {
     if errors.is_terminal() {
         Some(errors)
     } else {
