@@ -1,5 +1,5 @@
 -- The lines of a session, each alone.
-use Rattle.std.proofs.Common.{◌≡◌, ◌<◌, ◌^◌, ◌↔◌, ℕ, List, [], ◌∷◌, length, Bool, true, false, ◌++◌, decimal, codes, arith, sym, ap, ◌∙◌}
+use Rattle.std.proofs.Common.{◌≡◌, ◌<◌, ◌^◌, ◌↔◌, ℕ, List, Bool, true, false, ◌++◌, decimal, codes, arith, sym, ap, ◌∙◌}
 use Rattle.std.specs.Prelude.{Option, None, Some, IfSome, IfNone, IsTrue}
 use Rattle.std.specs.Option.{option_eq}
 use Rattle.std.proofs.Math.Dec.{eqb}
