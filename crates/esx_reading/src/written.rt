@@ -1,6 +1,6 @@
 //! Bytes as pairs of hex digits.
 
-ghost use Rattle.std.specs.Prelude.{◌≡◌, ◌∷◌, ◌<◌, ◌%◌, [], ℕ, List, length, slice_index, IfSome, IfNone, IfOk, IfErr};
+ghost use Rattle.std.specs.Prelude.{◌≡◌, ◌∷◌, ◌<◌, ◌≤◌, ◌%◌, [], ℕ, List, length, slice_index, IfSome, IfNone, IfOk, IfErr, IsErrOf};
 ghost use Rattle.hex.specs.Hex.{encode_lower, lower_digits, IsBytes};
 ghost use Rattle.esx_reading.specs.Faults.{Refuses};
 ghost use Rattle.esx_reading.specs.Written.{IsWritten};
@@ -65,10 +65,12 @@ fn bytes_of(alloc: Global, digits: &[u8]) -> Result<Vec<u8>, TextFault>
     Ok(bytes)
 }
 
-/// The bytes of a field in hex, 1 to 4,096 of them. `BadLine(1)` where it has no such bytes.
+/// The bytes of a field in hex, 1 to 4,096 of them. `BadLine(1)` where it has no such bytes. Memory is taken only
+/// for a field that is as long as some bytes.
 pub fn written_bytes(alloc: Global, field: &str) -> Result<Bytes, TextFault>
     ensures found { IfOk result (λ bytes. IsWritten bytes × (field.now ≡ encode_lower bytes)) }
     ensures only { IfErr result (λ e. Refuses e ((bytes : List ℕ) → IsWritten bytes → field.now ≡ encode_lower bytes → ⊥)) }
+    ensures memory { IsErrOf result TextFault.OutOfMemory → (0 < length field.now) × (length field.now ≤ 8192) × (length field.now % 2 ≡ 0) }
 {
     if field.is_empty() || field.len() > 8192 {
         return Err(TextFault::BadLine(1));
