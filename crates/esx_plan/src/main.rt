@@ -1,7 +1,7 @@
 //! The program: a console over the standard streams, sessions gone through again, and runs of scenarios.
 #![tactic(auto)]
 
-ghost use Rattle.std.specs.Prelude.{IfOk};
+ghost use Rattle.std.specs.Prelude.{◌≡◌, ◌≤◌, IfOk};
 ghost use Rattle.esx_types.specs.Ranges.{IsConfig};
 
 mod ends;
@@ -142,7 +142,9 @@ fn session_of_file<R: Files + AllocGlobal>(rt: &R, path: &str) -> Result<Session
 fn run_console<R: Files + Input + Print + AllocGlobal>(
     rt: &R,
     file: Option<&str>,
-) -> Result<u8, Failure> {
+) -> Result<u8, Failure>
+    ensures { IfOk result (λ status. status ≡ 0) }
+{
     let site = match file {
         Some(path) => site_of_file(rt, path).map_err(Failure::Text)?,
         None => SITE,
@@ -154,7 +156,7 @@ fn run_console<R: Files + Input + Print + AllocGlobal>(
 }
 
 /// Where it is told how far a work is: a terminal.
-fn terminal(errors: &Stderr) -> Option<&Stderr> {
+fn terminal<E: IsTerminal>(errors: &E) -> Option<&E> {
     if errors.is_terminal() {
         Some(errors)
     } else {
@@ -167,7 +169,9 @@ fn run_scenario<R: Files + Print + AllocGlobal + Threads + Wait + Sync>(
     rt: &R,
     errors: &Stderr,
     path: &str,
-) -> Result<u8, Failure> {
+) -> Result<u8, Failure>
+    ensures { IfOk result (λ status. status ≡ 0) }
+{
     let scenario = scenario_of_file(rt, path).map_err(Failure::Text)?;
     let to = terminal(errors);
     let told = io::writer(errors);
@@ -182,7 +186,9 @@ fn run_replay<R: Files + Print + AllocGlobal>(
     rt: &R,
     errors: &Stderr,
     path: &str,
-) -> Result<u8, Failure> {
+) -> Result<u8, Failure>
+    ensures { IfOk result (λ status. status ≡ 0) }
+{
     let session = session_of_file(rt, path)?;
     let progress = Progress::new(terminal(errors), None, "bytes of replies");
     let writer = Watched::new(io::writer(rt), &progress);
@@ -199,7 +205,9 @@ fn run_check<R: Files + Print + AllocGlobal>(
     rt: &R,
     errors: &Stderr,
     path: &str,
-) -> Result<u8, Failure> {
+) -> Result<u8, Failure>
+    ensures { IfOk result (λ status. status ≤ 1) }
+{
     let session = session_of_file(rt, path)?;
     match check_to(rt.alloc(), session, terminal(errors), io::writer(rt)).ended {
         Ok(checked) => Ok(status_of_check(checked)),
@@ -211,7 +219,9 @@ fn run_check<R: Files + Print + AllocGlobal>(
 fn run<R: Env + Files + Input + Print + AllocGlobal + Threads + Wait + Sync>(
     rt: &R,
     errors: &Stderr,
-) -> Result<u8, Failure> {
+) -> Result<u8, Failure>
+    ensures { IfOk result (λ status. status ≤ 1) }
+{
     let words = all_words(rt)?;
     match asked_of_words(rt.alloc(), words.as_slice()) {
         Ok(Asked::Console(file)) => run_console(rt, file),
