@@ -112,8 +112,7 @@ pub fn check_to<P: Print, W: Write + Drop>(
 
 /// The status that the program ends with after a check.
 pub fn status_of_check(checked: Checked) -> u8
-    ensures status { result ≡ check_status checked }
-    ensures few { result ≤ 1 }
+    ensures { result ≡ check_status checked }
 {
     match checked {
         Checked::Same(_) => 0,
