@@ -11,6 +11,7 @@ ghost use Rattle.esx_check.specs.Checks.{Checks, checked_text};
 use crate::again::opened;
 use crate::comparing::has_text;
 use esx_console::Console;
+use esx_door::{Gate, Open};
 use esx_session::{Entry, Session};
 use esx_types::{Sink, SinkFailed};
 use esx_writing::{AnswerBuffer, Piece, write_pieces};
@@ -45,11 +46,12 @@ fn has_same_reply(
     Ok(has_text(held, &reply, told.as_slice()))
 }
 
-/// Makes the calls of entries again at a console that was just opened.
-fn check_calls(
+/// Makes the calls of entries again at a console that was just opened, and passes the gate before each.
+fn check_calls<G: Gate>(
     console: &mut Console,
     held: &mut AnswerBuffer,
     entries: Vec<Entry>,
+    gate: &mut G,
 ) -> Result<Checked, AllocError>
     requires opened { console.old ≡ opened_session console.old.site }
     requires empty { held.old ≡ [] }
@@ -58,6 +60,7 @@ fn check_calls(
     let mut count: u64 = 0;
     for entry in entries {
         count += 1;
+        gate.pass_through(u32::try_from(count).unwrap_or(u32::MAX));
         if !has_same_reply(console, held, entry)? {
             return Ok(Checked::Differs(count));
         }
@@ -74,9 +77,22 @@ pub fn check_session(alloc: Global, session: Session) -> Result<Checked, AllocEr
     requires { IsConfig session.site }
     ensures { IfOk result (Checks session.site session.entries) }
 {
+    check_session_through(alloc, session, &mut Open)
+}
+
+/// As `check_session`, and passes the gate before each call, with the number of the call as its turn (past
+/// 2^32 - 1 with that number). What the check comes to is the same whatever the gate answers.
+pub fn check_session_through<G: Gate>(
+    alloc: Global,
+    session: Session,
+    gate: &mut G,
+) -> Result<Checked, AllocError>
+    requires { IsConfig session.site }
+    ensures { IfOk result (Checks session.site session.entries) }
+{
     let mut held = AnswerBuffer::new(alloc)?;
     let mut console = opened(alloc, session.site)?;
-    check_calls(&mut console, &mut held, session.entries.into_vec())
+    check_calls(&mut console, &mut held, session.entries.into_vec(), gate)
 }
 
 /// Writes what a check came to as a line, over an empty buffer.

@@ -8,6 +8,6 @@ mod fault;
 pub mod laws;
 mod replay;
 
-pub use check::{Checked, check_session, write_checked};
+pub use check::{Checked, check_session, check_session_through, write_checked};
 pub use fault::OutputFault;
 pub use replay::replay_session;

@@ -72,7 +72,7 @@ impl Desk {
         ensures own { IfOk result (λ r. All (IsOf r.0) r.1.items) }
         ensures passes { IfOk result (λ r. (length r.1.items ≡ callers) × AreOpened r.0.table callers console.site console.log r.1.items) }
     {
-        let (lock, passes) = OwnLock::open(alloc, LegalConsole::new(console), callers)?;
+        let (lock, passes) = OwnLock::open(alloc, LegalConsole::new(alloc, console)?, callers)?;
         Ok((Desk { lock }, passes))
     }
 
@@ -135,10 +135,10 @@ impl Desk {
     ) -> Result<Reply, AllocError>
         requires own { (pass.old.table ≡ self.now.table) × (pass.old.view.callers ≡ self.now.callers) }
         requires held { pass.old.view.hold ≡ Held }
-        requires taken { console.console ≡ session pass.old.view.site pass.old.view.seen }
+        requires taken { console.console.value ≡ session pass.old.view.site pass.old.view.seen }
         requires caller { has pass.old.view.ids caller ≡ true }
         ensures kept { IsOf self.now pass.new × IsSame pass.old.view pass.new.view }
-        ensures reply { IfOk result (λ reply. reply ≡ next_reply console.console call) }
+        ensures reply { IfOk result (λ reply. reply ≡ next_reply console.console.value call) }
         ensures ok { IfOk result (λ reply. pass.new.view.seen ≡ pass.old.view.seen ++ line caller call reply ∷ []) }
         ensures err { OnErr result (pass.new.view.seen ≡ pass.old.view.seen) }
         ensures legal { legal_for pass.old.view.site pass.new.view.seen }

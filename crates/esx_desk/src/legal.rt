@@ -1,4 +1,4 @@
-//! The console that a desk's lock keeps.
+//! The console that a desk's lock keeps. It stands on the heap, so that a take and a give move a pointer.
 
 ghost use Rattle.std.specs.Prelude.{◌≡◌, ◌++◌, ◌∷◌, [], IfOk, OnErr};
 ghost use Rattle.esx_model.specs.History.{opened};
@@ -10,21 +10,21 @@ use esx_console::Console;
 use esx_events::{Call, Reply};
 use esx_lock::Gauged;
 use esx_types::Level;
-use std::alloc::AllocError;
+use std::alloc::{AllocError, Global};
 
 /// A console, and that its log is legal.
 #[derive(Drop)]
 pub struct LegalConsole {
-    console: Console,
-    ghost legal: { IsLegal console } by { AreReplies-prop (opened console.site) console.log },
+    console: Box<Console>,
+    ghost legal: { IsLegal console.value } by { AreReplies-prop (opened console.value.site) console.value.log },
 }
 
 impl Gauged for LegalConsole {
     ghost use Rattle.esx_desk.specs.Legal.{legal_for, gauge_for, begins_legal};
 
-    ghost site = { λ c. c.console.site };
+    ghost site = { λ c. c.console.value.site };
 
-    ghost lines = { λ c. c.console.log };
+    ghost lines = { λ c. c.console.value.log };
 
     ghost legal = { legal_for };
 
@@ -40,27 +40,29 @@ impl Gauged for LegalConsole {
 }
 
 impl LegalConsole {
-    pub fn new(console: Console) -> LegalConsole
-        ensures { result.console ≡ console }
+    /// Where memory is wanting the console is dropped.
+    pub fn new(alloc: Global, console: Console) -> Result<LegalConsole, AllocError>
+        ensures { IfOk result (λ legal. legal.console.value ≡ console) }
     {
+        let console = Box::new(alloc, console)?;
         let _ = console.log();
-        LegalConsole { console }
+        Ok(LegalConsole { console })
     }
 
     pub fn into_console(self) -> Console
-        ensures { result ≡ self.console }
+        ensures { result ≡ self.console.value }
     {
         let LegalConsole { console } = self;
-        console
+        Box::into_inner(console)
     }
 
     /// Makes a call. Where memory runs out there is no line.
     #[tactic(auto, using(crate::proofs::Calls::called_site, crate::proofs::Calls::called_line))]
     pub fn call(&mut self, caller: u16, call: Call) -> Result<Reply, AllocError>
-        ensures reply { IfOk result (λ reply. reply ≡ next_reply self.old.console call) }
-        ensures ok { IfOk result (λ reply. self.new.console.log ≡ self.old.console.log ++ line caller call reply ∷ []) }
-        ensures err { OnErr result (self.new.console.log ≡ self.old.console.log) }
-        ensures site { self.new.console.site ≡ self.old.console.site }
+        ensures reply { IfOk result (λ reply. reply ≡ next_reply self.old.console.value call) }
+        ensures ok { IfOk result (λ reply. self.new.console.value.log ≡ self.old.console.value.log ++ line caller call reply ∷ []) }
+        ensures err { OnErr result (self.new.console.value.log ≡ self.old.console.value.log) }
+        ensures site { self.new.console.value.site ≡ self.old.console.value.site }
     {
         self.console.call(caller, call)
     }

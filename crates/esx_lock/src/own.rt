@@ -21,6 +21,7 @@ use std::marker::{Brand, Model};
 use std::mem::replace;
 use std::snapshot::Snapshot;
 use std::sync::Wait;
+use std::sync::atomic::{AtomicU64, Ordering};
 
 /// A value that threads take in turn, one at a time, for callers with the numbers below `callers`.
 ///
@@ -30,6 +31,8 @@ use std::sync::Wait;
 pub struct OwnLock<V: Gauged> {
     table: Table<Option<V>, View, About<V>, Agreed<V>, Global>,
     callers: usize,
+    // How many threads sleep in `take`, or are about to, or have just been woken.
+    sleepers: AtomicU64,
 }
 
 impl<V: Gauged> Model for OwnLock<V> {
@@ -74,7 +77,11 @@ impl<V: Gauged> OwnLock<V> {
         requires whole { (k : ℕ) → k < self.callers → has pass.view.ids k ≡ true }
         ensures { (V.lines result ≡ pass.view.seen) × (V.site result ≡ pass.view.site) }
     {
-        let OwnLock { table, callers: _ } = self;
+        let OwnLock {
+            table,
+            callers: _,
+            sleepers: _,
+        } = self;
         let mut closed = table.close_with(pass.into_seat());
         let value = closed.take(0);
         closed.free();
@@ -114,8 +121,8 @@ impl<V: Gauged> OwnLock<V> {
         }
     }
 
-    /// Gives the value and the lock back, and wakes one pass that waits. The value has its site, and the log
-    /// that was taken, followed by lines of the pass's callers alone.
+    /// Gives the value and the lock back, and wakes one pass that waits, if there is one. The value has its
+    /// site, and the log that was taken, followed by lines of the pass's callers alone.
     pub fn give(&self, pass: &mut Pass, value: V)
         requires own { pass.old.table ≡ self.now.table }
         requires held { pass.old.view.hold ≡ Held }
@@ -207,7 +214,12 @@ impl<V: Gauged> OwnLock<V> {
         let Ok((table, seat)) = Table::new(alloc, &[first], slots, &about) else {
             return Err(AllocError);
         };
-        Ok((OwnLock { table, callers }, Pass::from_seat(ids, seat)))
+        let lock = OwnLock {
+            table,
+            callers,
+            sleepers: AtomicU64::new(0),
+        };
+        Ok((lock, Pass::from_seat(ids, seat)))
     }
 
     // A pass for each id, cut off one by one from a pass with all ids.
@@ -281,14 +293,26 @@ impl<V: Gauged> OwnLock<V> {
         for _ in rt.forever() {
             match self.try_seat(seat) {
                 Ok(value) => return value,
-                Err(word) if word % 2 == 1 => self
-                    .table
-                    .shared
-                    .park(rt, 0, (word & 0xffff_ffff) as u32),
+                Err(word) if word % 2 == 1 => self.sleep(rt, word),
                 Err(_) => {}
             }
         }
         unreachable!()
+    }
+
+    // Sleeps if the word is still the one that was read, until a give wakes it. It is counted before the word is
+    // looked at again: so a give that finds no sleeper has stored its word before that look.
+    fn sleep<R: Wait>(&self, rt: &R, word: u64) {
+        self.sleepers.fetch_add(1, Ordering::SeqCst);
+        self.table.shared.park(rt, 0, (word & 0xffff_ffff) as u32);
+        self.sleepers.fetch_sub(1, Ordering::SeqCst);
+    }
+
+    // Wakes one thread that sleeps, if there is one. A give asks for it after its store.
+    fn wake_sleeper(&self) {
+        if self.sleepers.load(Ordering::SeqCst) != 0 {
+            self.table.shared.wake_one(0);
+        }
     }
 
     // The slot comes out, the value goes into it, and both go home with the new word.
@@ -308,7 +332,7 @@ impl<V: Gauged> OwnLock<V> {
         shared.load::<Fetches<V>>(seat, 0);
         let empty = shared.exchange(seat, 0, Some(value));
         shared.store::<Gives<V>>(seat, 0, word);
-        shared.wake_one(0);
+        self.wake_sleeper();
         match empty {
             None => {}
             Some(_) => unreachable!(),

@@ -1,4 +1,4 @@
-//! The gates of a run: they are always open, and count the turns.
+//! The gates of a run, and that of a check: they are always open, and count the turns.
 
 ghost use Rattle.std.specs.Prelude.{◌≡◌, IfOk, length};
 
@@ -9,7 +9,7 @@ use std::alloc::{AllocError, Global};
 /// A gate that is always open, and counts the turns.
 #[derive(Drop)]
 pub struct Counting<'a, P> {
-    progress: &'a Progress<'a, P>,
+    pub progress: &'a Progress<'a, P>,
 }
 
 impl<'a, P: Print> Gate for Counting<'a, P> {

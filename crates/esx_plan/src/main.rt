@@ -195,9 +195,13 @@ fn run_replay<R: Files + Print + AllocGlobal>(
 }
 
 /// Checks a session, and tells on the standard output what came of it.
-fn run_check<R: Files + Print + AllocGlobal>(rt: &R, path: &str) -> Result<u8, Failure> {
+fn run_check<R: Files + Print + AllocGlobal>(
+    rt: &R,
+    errors: &Stderr,
+    path: &str,
+) -> Result<u8, Failure> {
     let session = session_of_file(rt, path)?;
-    match check_to(rt.alloc(), session, io::writer(rt)).ended {
+    match check_to(rt.alloc(), session, terminal(errors), io::writer(rt)).ended {
         Ok(checked) => Ok(status_of_check(checked)),
         Err(fault) => Err(Failure::Output(fault)),
     }
@@ -213,7 +217,7 @@ fn run<R: Env + Files + Input + Print + AllocGlobal + Threads + Wait + Sync>(
         Ok(Asked::Console(file)) => run_console(rt, file),
         Ok(Asked::Run(path)) => run_scenario(rt, errors, path),
         Ok(Asked::Replay(path)) => run_replay(rt, errors, path),
-        Ok(Asked::Check(path)) => run_check(rt, path),
+        Ok(Asked::Check(path)) => run_check(rt, errors, path),
         Err(WordsFault::Wrong) => Err(Failure::Words),
         Err(WordsFault::OutOfMemory) => Err(Failure::Text(TextFault::OutOfMemory)),
     }

@@ -7,8 +7,10 @@ ghost use Rattle.esx_check.specs.Checks.{Checks, checked_text};
 ghost use Rattle.esx_check.specs.Replays.{ReplayStops, replay_text, write_faults};
 ghost use Rattle.esx_plan.specs.Sessions.{IsSessionOf, IsNoSession, CheckStops, GivenOut, check_status};
 
+use crate::gates::Counting;
 use crate::outgoing::{Outgoing, Waiting};
-use esx_check::{Checked, OutputFault, check_session, replay_session, write_checked};
+use crate::progress::Progress;
+use esx_check::{Checked, OutputFault, check_session_through, replay_session, write_checked};
 use esx_reading::{TextFault, read_text_of};
 use esx_session::{Session, parse_session};
 use esx_types::{Sink, SinkFailed, WriteSink};
@@ -29,10 +31,11 @@ pub fn session_of_reader<R: Read + Drop>(alloc: Global, reader: R) -> Result<Ses
     parse_session(alloc, text.as_str())
 }
 
-/// Checks a session, and writes what comes of it as a line.
-fn tell_check<W: Sink>(
+/// Checks a session, tells how far the check is, and then writes what comes of it as a line.
+fn tell_check<P: Print, W: Sink>(
     alloc: Global,
     session: Session,
+    to: Option<&P>,
     writer: &mut W,
 ) -> Result<Checked, OutputFault>
     requires { IsConfig session.site }
@@ -44,7 +47,13 @@ fn tell_check<W: Sink>(
     let Ok(mut held) = AnswerBuffer::new(alloc) else {
         return Err(OutputFault::OutOfMemory);
     };
-    let Ok(checked) = check_session(alloc, session) else {
+    let progress = Progress::new(to, Some(session.entries.len() as u64), "calls");
+    let mut gate = Counting {
+        progress: &progress,
+    };
+    let checked = check_session_through(alloc, session, &mut gate);
+    progress.end();
+    let Ok(checked) = checked else {
         return Err(OutputFault::OutOfMemory);
     };
     match write_checked(writer, &mut held, checked) {
@@ -60,9 +69,10 @@ pub struct Told<W: Drop> {
     pub writer: W,
 }
 
-fn check_counted<W: Write + Drop, L: Ledger>(
+fn check_counted<P: Print, W: Write + Drop, L: Ledger>(
     alloc: Global,
     session: Session,
+    to: Option<&P>,
     writer: W,
     calls: Blank,
 ) -> Told<W>
@@ -75,7 +85,7 @@ fn check_counted<W: Write + Drop, L: Ledger>(
     ensures fault { IfErr result.ended (λ e. CheckStops e session.site session.entries (W.contents writer) (W.contents result.writer)) }
 {
     let mut sink = WriteSink::<W, L>::new(writer, calls);
-    let ended = tell_check(alloc, session, &mut sink);
+    let ended = tell_check(alloc, session, to, &mut sink);
     Told {
         ended,
         writer: sink.into_writer(),
@@ -84,13 +94,20 @@ fn check_counted<W: Write + Drop, L: Ledger>(
 
 /// Checks a session, writes what comes of it as a line to a writer of the standard library, and gives the
 /// writer back.
-pub fn check_to<W: Write + Drop>(alloc: Global, session: Session, writer: W) -> Told<W>
+///
+/// How many calls were made is told to `to`, where there is one.
+pub fn check_to<P: Print, W: Write + Drop>(
+    alloc: Global,
+    session: Session,
+    to: Option<&P>,
+    writer: W,
+) -> Told<W>
     requires { IsConfig session.site }
     ensures checks { IfOk result.ended (Checks session.site session.entries) }
     ensures told { IfOk result.ended (λ checked. Appends (W.contents writer) (W.contents result.writer) (checked_text checked)) }
     ensures fault { IfErr result.ended (λ e. CheckStops e session.site session.entries (W.contents writer) (W.contents result.writer)) }
 {
-    check_counted::<_, Brand>(alloc, session, writer, Blank::new(3))
+    check_counted::<_, _, Brand>(alloc, session, to, writer, Blank::new(3))
 }
 
 /// The status that the program ends with after a check.

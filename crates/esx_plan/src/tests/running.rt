@@ -44,7 +44,7 @@ fn a_run(rt: HostRuntime) -> Result<(), Fail> {
     let Ok(session) = session_of_reader(alloc, ran.writer.as_slice()) else {
         return Err(Fail::new("the session"));
     };
-    let told = check_to(alloc, session, Vec::new(alloc));
+    let told = check_to(alloc, session, to, Vec::new(alloc));
     assert_eq!(rt; told.ended, Ok(Checked::Same(32)));
     Ok(())
 }

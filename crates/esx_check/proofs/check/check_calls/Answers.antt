@@ -5,7 +5,7 @@ use Rattle.esx_check.proofs.CheckLemmas.{same_more, differs_here, reply_is, repl
 use Rattle.esx_check.proofs.check.check_calls.Goals as goal
 
 pub loop-entry-init : goal.loop-entry-init
-loop-entry-init c = record {
+loop-entry-init g c = record {
   can_next = tt;
   is_finite = tt;
   console = c.requires.opened ∙ sym (made_nothing _);
@@ -16,7 +16,7 @@ loop-entry-init c = record {
 }
 
 pub loop-entry-preserved : goal.loop-entry-preserved
-loop-entry-preserved c =
+loop-entry-preserved g c =
     let so_far = c.loop-entry.invariant in
     let done = c.loop-entry.yielded in
     let e = c.in-Some.entry in
@@ -33,7 +33,7 @@ loop-entry-preserved c =
     }
 
 pub returns-then-not-branch : goal.returns-then-not-branch
-returns-then-not-branch c =
+returns-then-not-branch g c =
     let so_far = c.loop-entry.invariant in
     let done = c.loop-entry.yielded in
     let e = c.in-Some.entry in

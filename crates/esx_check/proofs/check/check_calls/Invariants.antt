@@ -4,9 +4,9 @@ use Rattle.esx_check.specs.Checks.{replies_told}
 use Rattle.esx_check.proofs.check.check_calls.Given as goal
 
 abbrev pub invariant-loop-entry : goal.invariant-loop-entry
-invariant-loop-entry l = record {
-  can_next : (goal.iterator-loop-entry).can_next l.entry-iterator;
-  is_finite : (goal.iterator-loop-entry).is_finite l.entry-iterator;
+invariant-loop-entry g l = record {
+  can_next : (goal.iterator-loop-entry g).can_next l.entry-iterator;
+  is_finite : (goal.iterator-loop-entry g).is_finite l.entry-iterator;
   console : l.console ≡ made l.initial.console.site l.yielded;
   same : replies_again l.initial.console.site l.yielded ≡ replies_told l.yielded;
   count : l.count ≡ length l.yielded;

@@ -1,0 +1,106 @@
+//! Checks that tell how far they are, and checks that do not.
+
+use crate::session::{Told, check_to, session_of_reader, status_of_check};
+use esx_check::Checked;
+use std::alloc::Global;
+use std::cell::RefCell;
+use std::fmt::Display;
+use std::io::{self, ErrorKind, Print};
+use std::test::Fail;
+
+/// A session, what its check comes to, the line and the status that tell it, and what a terminal is told on the
+/// way.
+struct Row {
+    text: &'static [u8],
+    checked: Checked,
+    line: &'static [u8],
+    status: u8,
+    progress: &'static [u8],
+}
+
+const ROWS: [Row; 2] = [
+    Row {
+        text: b"esx session 1\nframes 20 page 16 slots 8 tau 75 levels 6 4 2 1 nodes 16777216\n0 admit 0 2 6 1 1000 0\n= ok memory 3/20 swap 4/8\n0 start 0\n= ok frame 0 overhead 1/1 running\n0 sum\n= overhead 1 private 0 shared 0 free 19 high\nend 3\n",
+        checked: Checked::Same(3),
+        line: b"same 3\n",
+        status: 0,
+        progress: b"\r1 of 3 calls\r2 of 3 calls\r3 of 3 calls\r3 of 3 calls\n",
+    },
+    Row {
+        text: b"esx session 1\nframes 20 page 16 slots 8 tau 75 levels 6 4 2 1 nodes 16777216\n0 admit 0 2 6 1 1000 0\n= ok memory 3/20 swap 4/8\n0 start 0\n= ok frame 1 overhead 1/1 running\n0 sum\n= overhead 1 private 0 shared 0 free 19 high\nend 3\n",
+        checked: Checked::Differs(2),
+        line: b"differs 2\n",
+        status: 1,
+        progress: b"\r1 of 3 calls\r2 of 3 calls\r2 of 3 calls\n",
+    },
+];
+
+/// A terminal that keeps what it was told, or that fails at each line.
+#[derive(Drop)]
+struct Screen {
+    alloc: Global,
+    is_broken: bool,
+    told: RefCell<Vec<u8>>,
+}
+
+impl Screen {
+    fn new(alloc: Global, is_broken: bool) -> Screen {
+        Screen {
+            alloc,
+            is_broken,
+            told: RefCell::new(Vec::new(alloc)),
+        }
+    }
+}
+
+impl Print for Screen {
+    fn print<D: Display + Drop>(&self, value: D) -> io::Result<()> {
+        let text = format!(in self.alloc; "{value}")?;
+        self.write_all(text.as_bytes())
+    }
+
+    fn println<D: Display + Drop>(&self, value: D) -> io::Result<()> {
+        let text = format!(in self.alloc; "{value}\n")?;
+        self.write_all(text.as_bytes())
+    }
+
+    fn write_all(&self, bytes: &[u8]) -> io::Result<()> {
+        if self.is_broken {
+            return Err(io::Error::from(ErrorKind::Other));
+        }
+        let Ok(mut told) = self.told.try_borrow_mut() else {
+            return Err(io::Error::from(ErrorKind::Other));
+        };
+        told.extend_from_slice(bytes)?;
+        Ok(())
+    }
+}
+
+/// Checks a session, and tells how far it is to a screen, where there is one.
+fn check_of(alloc: Global, text: &[u8], to: Option<&Screen>) -> Result<Told<Vec<u8>>, Fail> {
+    match session_of_reader(alloc, text) {
+        Ok(session) => Ok(check_to(alloc, session, to, Vec::new(alloc))),
+        Err(_) => Err(Fail::new("the session")),
+    }
+}
+
+/// What a check comes to and its line are the same with a terminal, with one that fails, and with none.
+#[test]
+fn told_or_not(rt: HostRuntime) -> Result<(), Fail> {
+    let alloc = rt.alloc();
+    for row in &ROWS {
+        let screen = Screen::new(alloc, false);
+        let broken = Screen::new(alloc, true);
+        for to in [None, Some(&screen), Some(&broken)] {
+            let told = check_of(alloc, row.text, to)?;
+            assert_eq!(rt; told.ended, Ok(row.checked));
+            assert!(rt; told.writer.as_slice() == row.line);
+        }
+        assert_eq!(rt; status_of_check(row.checked), row.status);
+        let Ok(told) = screen.told.try_borrow() else {
+            panic!(rt; "the screen is in use");
+        };
+        assert!(rt; told.as_slice() == row.progress);
+    }
+    Ok(())
+}
