@@ -8,8 +8,9 @@ use Rattle.esx_model.specs.Console.{next_reply}
 use Rattle.esx_lock.specs.declared.view.Hold.TheVariants.{Free}
 use Rattle.esx_lock.specs.declared.view.View.{View}
 use Rattle.esx_lock.specs.Logs.{OthersOf, Follows}
+use Rattle.esx_lock.specs.Words.{bits}
 use Rattle.esx_lock.specs.Passes.{LockView, Known}
-use Rattle.esx_desk.specs.Legal.{session, legal_for}
+use Rattle.esx_desk.specs.Legal.{session, legal_for, gauge_for}
 
 -- the pass is this desk's, and holds nothing
 abbrev pub IsOf : LockView → Known → Type 0
@@ -32,6 +33,10 @@ pub record Adds (v w : View) (call : Call) (reply : Reply) : Type 0 where
 pub record Looks (v w : View) : Type 0 where
   pub follows : Follows v.callers v.ids v.seen w.seen
   pub legal : legal_for v.site w.seen
+
+-- The pass had the console, and wrote no line: the word that was read last was loaded, and it is that of the log that the pass has now seen, free.
+abbrev pub HadIt : View → Type 0
+HadIt w = (w.last ≡ bits (gauge_for w.site w.seen)) × (w.by_exchange ≡ false)
 
 -- the word that was read last is odd and was loaded, or an exchange that failed read it
 abbrev pub IsBusy : View → ℕ → Type 0

@@ -1,14 +1,14 @@
 //! The desk.
 
-ghost use Rattle.std.specs.Prelude.{◌≡◌, ℕ, ◌<◌, ◌≤◌, ◌%◌, ◌≢◌, ◌&&◌, ◌||◌, ◌↔◌, ◌++◌, ◌∷◌, not, true, false, [], length, All, IsTrue, IfOk, IfErr, OnErr};
+ghost use Rattle.std.specs.Prelude.{◌≡◌, ℕ, Bool, ◌<◌, ◌≤◌, ◌%◌, ◌≢◌, ◌&&◌, ◌||◌, ◌↔◌, ◌++◌, ◌∷◌, not, true, false, [], length, All, IsTrue, IfOk, IfErr, OnErr};
 ghost use Rattle.esx_types.specs.Ranges.{IsConfig};
 ghost use Rattle.esx_types.specs.Ids.{has};
 ghost use Rattle.esx_model.specs.Console.{next_reply};
 ghost use Rattle.esx_lock.specs.declared.view.Hold.TheVariants.{Held};
 ghost use Rattle.esx_lock.specs.Words.{word_for};
-ghost use Rattle.esx_lock.specs.Passes.{SomeId, IsSame, IsAlike, Meet, AreOpened};
+ghost use Rattle.esx_lock.specs.Passes.{SomeId, IsSame, IsAlike, ReadAsBefore, Meet, AreOpened};
 ghost use Rattle.esx_desk.specs.Legal.{session, legal_for, gauge_for};
-ghost use Rattle.esx_desk.specs.Told.{IsOf, line, Adds, Looks, IsBusy};
+ghost use Rattle.esx_desk.specs.Told.{IsOf, line, Adds, Looks, HadIt, IsBusy};
 ghost use Rattle.esx_desk.specs.declared.desk.TryFault.TheVariants as faults;
 
 use crate::legal::LegalConsole;
@@ -77,12 +77,13 @@ impl Desk {
     }
 
     /// Makes a call as the least of the pass's callers, and waits while another pass has the console. Where
-    /// memory is wanting nothing changes, and the console goes back.
+    /// memory is wanting, which is found with the console at hand, nothing changes, and the console goes back.
     pub fn submit<R: Wait>(&self, rt: &R, pass: &mut Pass, call: Call) -> Result<Reply, AllocError>
         requires { IsOf self.now pass.old }
         ensures kept { IsOf self.now pass.new × IsSame pass.old.view pass.new.view }
         ensures ok { IfOk result (λ reply. Adds pass.old.view pass.new.view call reply) }
         ensures err { OnErr result (Looks pass.old.view pass.new.view) }
+        ensures had { OnErr result (HadIt pass.new.view) }
     {
         self.submit_through(rt, pass, call, &mut Open)
     }
@@ -100,6 +101,8 @@ impl Desk {
         ensures kept { IsOf self.now pass.new × IsSame pass.old.view pass.new.view }
         ensures ok { IfOk result (λ reply. Adds pass.old.view pass.new.view call reply) }
         ensures err { OnErr result (Looks pass.old.view pass.new.view) }
+        ensures had { OnErr result (HadIt pass.new.view) }
+        ensures gate { (answer : Bool) × G.passes gate.old 1 answer gate.new }
     {
         let caller = pass.caller();
         let console = self.lock.take(rt, pass);
@@ -112,6 +115,7 @@ impl Desk {
         ensures kept { IsOf self.now pass.new × IsSame pass.old.view pass.new.view }
         ensures ok { IfOk result (λ reply. Adds pass.old.view pass.new.view call reply) }
         ensures err { OnErr result (Looks pass.old.view pass.new.view) }
+        ensures had { IfErr result (λ fault. fault ≡ faults.OutOfMemory → HadIt pass.new.view) }
         ensures busy { IfErr result (λ fault. (word : ℕ) → fault ≡ faults.Busy word → IsBusy pass.new.view word) }
     {
         let caller = pass.caller();
@@ -142,6 +146,8 @@ impl Desk {
         ensures ok { IfOk result (λ reply. pass.new.view.seen ≡ pass.old.view.seen ++ line caller call reply ∷ []) }
         ensures err { OnErr result (pass.new.view.seen ≡ pass.old.view.seen) }
         ensures legal { legal_for pass.old.view.site pass.new.view.seen }
+        ensures last { ReadAsBefore pass.old.view pass.new.view }
+        ensures gate { (answer : Bool) × G.passes gate.old 1 answer gate.new }
     {
         let reply = console.call(caller, call);
         gate.pass_through(1);

@@ -1,11 +1,19 @@
 -- How the program ends.
-use Rattle.std.specs.Prelude.{ℕ}
+use Rattle.std.specs.Prelude.{ℕ, List, Result, Ok, Err, codes}
+use Rattle.esx_types.specs.declared.config.Config.{Config}
 use Rattle.esx_reading.specs.declared.fault.TextFault.TheVariants as text
 use Rattle.esx_text.specs.declared.fault.ServeFault.TheVariants.{Read, Write, OutOfMemory}
+use Rattle.esx_session.specs.declared.session.Entry.{Entry}
+use Rattle.esx_check.specs.Checks.{Checks}
 use Rattle.esx_check.specs.declared.fault.OutputFault.TheVariants as output
 use Rattle.esx_plan.specs.declared.running.RunFault.TheVariants as run
+use Rattle.esx_plan.specs.declared.words.WordsFault.{WordsFault}
+use Rattle.esx_plan.specs.declared.words.WordsFault.TheVariants as words
+use Rattle.esx_plan.specs.declared.Done.{Done}
+use Rattle.esx_plan.specs.declared.Done.TheVariants.{Served, Ran, Replayed, Checked}
 use Rattle.esx_plan.specs.declared.Failure.{Failure}
 use Rattle.esx_plan.specs.declared.Failure.TheVariants.{Words, Text, Serve, Output, Run}
+use Rattle.esx_plan.specs.Sessions.{check_status}
 
 -- 1 where a file or an opening was refused, or it could not read or write; 2 where it was given wrong words; 3 where memory ran out
 abbrev pub status_of : Failure → ℕ
@@ -20,3 +28,32 @@ status_of (Output output.OutOfMemory) = 3
 status_of (Run (run.Refused e)) = 1
 status_of (Run run.Write) = 1
 status_of (Run run.OutOfMemory) = 3
+
+-- after words that ask for nothing
+abbrev pub status_of_words : WordsFault → ℕ
+status_of_words words.Wrong = 2
+status_of_words words.OutOfMemory = 3
+
+-- the word that asks for what was done
+abbrev pub word_of_done : Done → List ℕ
+word_of_done Served = codes "console"
+word_of_done Ran = codes "run"
+word_of_done Replayed = codes "replay"
+word_of_done (Checked checked) = codes "check"
+
+-- it is a check of that session, and comes to what such a check comes to
+abbrev pub IsCheckOf : Config → List Entry → Done → Type 0
+IsCheckOf site entries (Checked checked) = Checks site entries checked
+IsCheckOf site entries _ = ⊥
+
+-- 0, but 1 where a session differs
+abbrev pub status_of_done : Done → ℕ
+status_of_done Served = 0
+status_of_done Ran = 0
+status_of_done Replayed = 0
+status_of_done (Checked checked) = check_status checked
+
+-- well, or otherwise
+abbrev pub status_of_end : Result Done Failure → ℕ
+status_of_end (Ok done) = status_of_done done
+status_of_end (Err failure) = status_of failure

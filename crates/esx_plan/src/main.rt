@@ -1,8 +1,11 @@
 //! The program: a console over the standard streams, sessions gone through again, and runs of scenarios.
 #![tactic(auto)]
 
-ghost use Rattle.std.specs.Prelude.{IfOk};
+ghost use Rattle.std.specs.Prelude.{◌≡◌, codes, IfOk};
+ghost use Rattle.std.specs.Process.{exit_status};
 ghost use Rattle.esx_types.specs.Ranges.{IsConfig};
+ghost use Rattle.esx_plan.specs.Status.{status_of, status_of_words, status_of_end, word_of_done, IsCheckOf};
+ghost use Rattle.esx_plan.specs.Words.{word_and_file};
 
 mod ends;
 mod gates;
@@ -15,7 +18,7 @@ mod site;
 mod streams;
 mod words;
 
-use esx_check::OutputFault;
+use esx_check::{Checked, OutputFault};
 use esx_reading::TextFault;
 use esx_scenario::Scenario;
 use esx_session::Session;
@@ -28,7 +31,7 @@ use session::{check_to, replay_to, session_of_reader, status_of_check};
 use std::alloc::AllocGlobal;
 use std::env::{self, Env};
 use std::fs;
-use std::io::{self, ErrorKind, Input, IsTerminal, Print, Stderr};
+use std::io::{self, Eprint, ErrorKind, Input, IsTerminal, Print, Stderr};
 use std::process::ExitCode;
 use std::rt::Files;
 use std::sync::Wait;
@@ -83,6 +86,30 @@ impl Failure {
             Failure::Output(OutputFault::OutOfMemory) => 3,
             Failure::Run(RunFault::Refused(_) | RunFault::Write) => 1,
             Failure::Run(RunFault::OutOfMemory) => 3,
+        }
+    }
+}
+
+/// What was done, where the program ends well.
+#[derive(Clone, Copy, Debug, PartialEq, Eq)]
+enum Done {
+    Served,
+    Ran,
+    Replayed,
+    Checked(Checked),
+}
+
+impl Done {
+    ghost use Rattle.std.specs.Prelude.{◌≡◌};
+    ghost use Rattle.esx_plan.specs.Status.{status_of_done};
+
+    /// The status that the program ends with.
+    fn status(self) -> u8
+        ensures { result ≡ status_of_done self }
+    {
+        match self {
+            Done::Served | Done::Ran | Done::Replayed => 0,
+            Done::Checked(checked) => status_of_check(checked),
         }
     }
 }
@@ -142,19 +169,21 @@ fn session_of_file<R: Files + AllocGlobal>(rt: &R, path: &str) -> Result<Session
 fn run_console<R: Files + Input + Print + AllocGlobal>(
     rt: &R,
     file: Option<&str>,
-) -> Result<u8, Failure> {
+) -> Result<Done, Failure>
+    ensures { IfOk result (λ done. word_of_done done ≡ codes "console") }
+{
     let site = match file {
         Some(path) => site_of_file(rt, path).map_err(Failure::Text)?,
         None => SITE,
     };
     match serve_streams(rt.alloc(), site, rt.reader(), io::writer(rt)).ended {
-        Ok(_) => Ok(0),
+        Ok(_) => Ok(Done::Served),
         Err(fault) => Err(Failure::Serve(fault)),
     }
 }
 
 /// Where it is told how far a work is: a terminal.
-fn terminal(errors: &Stderr) -> Option<&Stderr> {
+fn terminal<E: IsTerminal>(errors: &E) -> Option<&E> {
     if errors.is_terminal() {
         Some(errors)
     } else {
@@ -167,12 +196,14 @@ fn run_scenario<R: Files + Print + AllocGlobal + Threads + Wait + Sync>(
     rt: &R,
     errors: &Stderr,
     path: &str,
-) -> Result<u8, Failure> {
+) -> Result<Done, Failure>
+    ensures { IfOk result (λ done. word_of_done done ≡ codes "run") }
+{
     let scenario = scenario_of_file(rt, path).map_err(Failure::Text)?;
     let to = terminal(errors);
     let told = io::writer(errors);
     match run_to(rt, rt.alloc(), &scenario, to, told, io::writer(rt)).ended {
-        Ok(()) => Ok(0),
+        Ok(()) => Ok(Done::Ran),
         Err(fault) => Err(Failure::Run(fault)),
     }
 }
@@ -182,56 +213,102 @@ fn run_replay<R: Files + Print + AllocGlobal>(
     rt: &R,
     errors: &Stderr,
     path: &str,
-) -> Result<u8, Failure> {
+) -> Result<Done, Failure>
+    ensures { IfOk result (λ done. word_of_done done ≡ codes "replay") }
+{
     let session = session_of_file(rt, path)?;
     let progress = Progress::new(terminal(errors), None, "bytes of replies");
     let writer = Watched::new(io::writer(rt), &progress);
     let ended = replay_to(rt.alloc(), session, writer).ended;
     progress.end();
     match ended {
-        Ok(()) => Ok(0),
+        Ok(()) => Ok(Done::Replayed),
         Err(fault) => Err(Failure::Output(fault)),
     }
 }
 
 /// Checks a session, and tells on the standard output what came of it.
-fn run_check<R: Files + Print + AllocGlobal>(
+fn check_told<R: Print + AllocGlobal>(
     rt: &R,
     errors: &Stderr,
-    path: &str,
-) -> Result<u8, Failure> {
-    let session = session_of_file(rt, path)?;
+    session: Session,
+) -> Result<Done, Failure>
+    requires { IsConfig session.site }
+    ensures checks { IfOk result (IsCheckOf session.site session.entries) }
+    ensures word { IfOk result (λ done. word_of_done done ≡ codes "check") }
+{
     match check_to(rt.alloc(), session, terminal(errors), io::writer(rt)).ended {
-        Ok(checked) => Ok(status_of_check(checked)),
+        Ok(checked) => Ok(Done::Checked(checked)),
         Err(fault) => Err(Failure::Output(fault)),
     }
 }
 
-/// Does what the words ask for, and gives the status to end with.
-fn run<R: Env + Files + Input + Print + AllocGlobal + Threads + Wait + Sync>(
+/// Checks the session in a file.
+fn run_check<R: Files + Print + AllocGlobal>(
     rt: &R,
     errors: &Stderr,
-) -> Result<u8, Failure> {
-    let words = all_words(rt)?;
-    match asked_of_words(rt.alloc(), words.as_slice()) {
-        Ok(Asked::Console(file)) => run_console(rt, file),
-        Ok(Asked::Run(path)) => run_scenario(rt, errors, path),
-        Ok(Asked::Replay(path)) => run_replay(rt, errors, path),
-        Ok(Asked::Check(path)) => run_check(rt, errors, path),
-        Err(WordsFault::Wrong) => Err(Failure::Words),
-        Err(WordsFault::OutOfMemory) => Err(Failure::Text(TextFault::OutOfMemory)),
+    path: &str,
+) -> Result<Done, Failure>
+    ensures { IfOk result (λ done. word_of_done done ≡ codes "check") }
+{
+    let session = session_of_file(rt, path)?;
+    check_told(rt, errors, session)
+}
+
+/// Does what is asked for.
+fn run_asked<R: Files + Input + Print + AllocGlobal + Threads + Wait + Sync>(
+    rt: &R,
+    errors: &Stderr,
+    asked: Asked,
+) -> Result<Done, Failure>
+    ensures { IfOk result (λ done. word_of_done done ≡ (word_and_file asked.entry).0) }
+{
+    match asked {
+        Asked::Console(file) => run_console(rt, file),
+        Asked::Run(path) => run_scenario(rt, errors, path),
+        Asked::Replay(path) => run_replay(rt, errors, path),
+        Asked::Check(path) => run_check(rt, errors, path),
     }
 }
 
-fn main(rt: HostRuntime) -> ExitCode {
-    match run(&rt, &rt.stderr()) {
-        Ok(status) => ExitCode::from(status),
+/// How the program ends after words that ask for nothing.
+fn failure_of_words(fault: WordsFault) -> Failure
+    ensures { status_of result ≡ status_of_words fault }
+{
+    match fault {
+        WordsFault::Wrong => Failure::Words,
+        WordsFault::OutOfMemory => Failure::Text(TextFault::OutOfMemory),
+    }
+}
+
+/// Does what the words ask for.
+fn run<R: Env + Files + Input + Print + AllocGlobal + Threads + Wait + Sync>(
+    rt: &R,
+    errors: &Stderr,
+) -> Result<Done, Failure> {
+    let words = all_words(rt)?;
+    match asked_of_words(rt.alloc(), words.as_slice()) {
+        Ok(asked) => run_asked(rt, errors, asked),
+        Err(fault) => Err(failure_of_words(fault)),
+    }
+}
+
+/// What the program ends with. Where it ends otherwise than well, the standard error is told why.
+fn exit_code<R: Eprint>(rt: &R, ended: Result<Done, Failure>) -> ExitCode
+    ensures { exit_status result ≡ status_of_end ended }
+{
+    match ended {
+        Ok(done) => ExitCode::from(done.status()),
         Err(failure) => {
             let status = failure.status();
             let _ = rt.eprintln(failure);
             ExitCode::from(status)
         }
     }
+}
+
+fn main(rt: HostRuntime) -> ExitCode {
+    exit_code(&rt, run(&rt, &rt.stderr()))
 }
 
 #[cfg(test)]

@@ -58,13 +58,6 @@ impl<'a, P: Print> Progress<'a, P> {
         };
     }
 
-    /// Tells what is done so far, before the first step too.
-    pub fn begin(&self) {
-        if let Some(to) = self.to {
-            self.tell(to, self.done.load(Ordering::SeqCst));
-        }
-    }
-
     /// The work is over: tells what was done, and ends the line.
     pub fn end(&self) {
         if let Some(to) = self.to {

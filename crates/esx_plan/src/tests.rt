@@ -12,6 +12,8 @@ ghost use Rattle.esx_types.specs.Ranges.{IsConfig};
 use crate::running::RunFault;
 use crate::site::serve_site;
 use crate::{Failure, SITE};
+use esx_check::OutputFault;
+use esx_events::Refusal;
 use esx_reading::TextFault;
 use esx_text::{ServeFault, parse_command, print_command};
 use esx_types::{Config, MemorySink, MemorySource};
@@ -190,17 +192,31 @@ fn full(rt: HostRuntime) -> Result<(), Fail> {
     Ok(())
 }
 
+/// What is told of each way to end otherwise than well, and the status of it.
 #[test]
-fn statuses(rt: HostRuntime) {
-    assert_eq!(rt; Failure::Words.status(), 2);
-    assert_eq!(rt; Failure::Text(TextFault::NotToml).status(), 1);
-    assert_eq!(rt; Failure::Text(TextFault::Read).status(), 1);
-    assert_eq!(rt; Failure::Text(TextFault::OutOfMemory).status(), 3);
-    assert_eq!(rt; Failure::Serve(ServeFault::Read).status(), 1);
-    assert_eq!(rt; Failure::Serve(ServeFault::Write).status(), 1);
-    assert_eq!(rt; Failure::Serve(ServeFault::OutOfMemory).status(), 3);
-    assert_eq!(rt; Failure::Run(RunFault::Write).status(), 1);
-    assert_eq!(rt; Failure::Run(RunFault::OutOfMemory).status(), 3);
+fn failures(rt: HostRuntime) -> Result<(), Fail> {
+    let alloc = rt.alloc();
+    let refused = RunFault::Refused(Refusal::NoMemoryReserve);
+    let rows = [
+        (Failure::Words, 2, "wrong words"),
+        (Failure::Text(TextFault::NotToml), 1, "bad toml"),
+        (Failure::Text(TextFault::BadLine(7)), 1, "bad line 7"),
+        (Failure::Text(TextFault::Read), 1, "read fault"),
+        (Failure::Text(TextFault::OutOfMemory), 3, "no memory"),
+        (Failure::Serve(ServeFault::Read), 1, "read fault"),
+        (Failure::Serve(ServeFault::Write), 1, "write fault"),
+        (Failure::Serve(ServeFault::OutOfMemory), 3, "no memory"),
+        (Failure::Output(OutputFault::Write), 1, "write fault"),
+        (Failure::Output(OutputFault::OutOfMemory), 3, "no memory"),
+        (Failure::Run(refused), 1, "no 4 NoMemoryReserve"),
+        (Failure::Run(RunFault::Write), 1, "write fault"),
+        (Failure::Run(RunFault::OutOfMemory), 3, "no memory"),
+    ];
+    for (failure, status, text) in &rows {
+        assert_eq!(rt; failure.status(), *status);
+        assert_eq!(rt; failure.to_string(alloc)?.as_str(), *text);
+    }
+    Ok(())
 }
 
 const COMMANDS: [&str; 9] = [

@@ -1,6 +1,6 @@
 //! A line as fields parted by single spaces, and numbers among them.
 
-ghost use Rattle.std.specs.Prelude.{◌≡◌, ◌<◌, ◌≤◌, ◌^◌, ◌∷◌, ◌++◌, ◌↔◌, [], ℕ, List, decimal, get_or, length, take, MatchOption, IfSome, IfNone, IsTrue};
+ghost use Rattle.std.specs.Prelude.{◌≡◌, ◌<◌, ◌≤◌, ◌^◌, ◌∷◌, ◌++◌, ◌↔◌, ◌⊎◌, [], ℕ, List, decimal, drop, get_or, length, take, MatchOption, IfSome, IfNone, IsTrue};
 ghost use Rattle.esx_types.specs.declared.config.TheConstants.{VM_NUMBERS};
 ghost use Rattle.std.specs.Str.Parse.{AllDigits, digits_value};
 ghost use Rattle.esx_reading.specs.Fields.{HasNoSpace, fields};
@@ -96,7 +96,8 @@ impl<'a> Fields<'a> {
     /// The next field.
     #[inline]
     pub fn next(&mut self) -> Option<&'a str>
-        ensures { MatchOption result (self.old ≡ []) (λ field. self.old ≡ field.now ∷ self.new) }
+        ensures left { MatchOption result (self.old ≡ []) (λ field. self.old ≡ field.now ∷ self.new) }
+        ensures none { IfNone result (self.new ≡ []) }
     {
         let rest = self.rest?;
         match split_at_space(rest) {
@@ -131,6 +132,7 @@ impl<'a> Fields<'a> {
     fn below(&mut self, limit: u64) -> Option<u64>
         ensures some { IfSome result (λ n. (n < limit) × (self.old ≡ decimal n ∷ self.new)) }
         ensures none { IfNone result ((n : ℕ) (others : List (List ℕ)) → n < limit → self.old ≡ decimal n ∷ others → ⊥) }
+        ensures one { IfNone result (self.new ≡ drop 1 self.old) }
     {
         let number = number_of(self.next()?)?;
         if number < limit { Some(number) } else { None }
@@ -140,6 +142,7 @@ impl<'a> Fields<'a> {
     pub fn number(&mut self) -> Option<u32>
         ensures some { IfSome result (λ n. self.old ≡ decimal n ∷ self.new) }
         ensures none { IfNone result ((n : ℕ) (others : List (List ℕ)) → n < 2 ^ 32 → self.old ≡ decimal n ∷ others → ⊥) }
+        ensures one { IfNone result (self.new ≡ drop 1 self.old) }
     {
         let number = self.below(1 << 32)?;
         Some(number as u32)
@@ -149,6 +152,7 @@ impl<'a> Fields<'a> {
     pub fn word(&mut self) -> Option<u64>
         ensures some { IfSome result (λ n. self.old ≡ decimal n ∷ self.new) }
         ensures none { IfNone result ((n : ℕ) (others : List (List ℕ)) → n < 2 ^ 64 → self.old ≡ decimal n ∷ others → ⊥) }
+        ensures one { IfNone result (self.new ≡ drop 1 self.old) }
     {
         number_of(self.next()?)
     }
@@ -158,6 +162,7 @@ impl<'a> Fields<'a> {
         ensures some { IfSome result (λ p. self.old ≡ decimal p.0 ∷ decimal p.1 ∷ self.new) }
         ensures none { IfNone result ((n m : ℕ) (others : List (List ℕ)) → n < 2 ^ 32 → m < 2 ^ 32
             → self.old ≡ decimal n ∷ decimal m ∷ others → ⊥) }
+        ensures one { IfNone result ((self.new ≡ drop 1 self.old) ⊎ (self.new ≡ drop 2 self.old)) }
     {
         let first = self.number()?;
         let second = self.number()?;
@@ -168,6 +173,7 @@ impl<'a> Fields<'a> {
     pub fn vm(&mut self) -> Option<VmId>
         ensures some { IfSome result (λ n. (n < VM_NUMBERS) × (self.old ≡ decimal n ∷ self.new)) }
         ensures none { IfNone result ((n : ℕ) (others : List (List ℕ)) → n < VM_NUMBERS → self.old ≡ decimal n ∷ others → ⊥) }
+        ensures one { IfNone result (self.new ≡ drop 1 self.old) }
     {
         let number = self.below(VM_NUMBERS as u64)?;
         VmId::new(number as u8)

@@ -1,41 +1,85 @@
 //! Bytes as pairs of hex digits.
 
-ghost use Rattle.std.specs.Prelude.{◌≡◌, ℕ, List, IfOk, IfErr};
-ghost use Rattle.std.specs.List.{list_all};
-ghost use Rattle.hex.specs.Hex.{encode_lower};
+ghost use Rattle.std.specs.Prelude.{◌≡◌, ◌∷◌, ◌<◌, ◌≤◌, ◌%◌, [], ℕ, List, length, slice_index, IfSome, IfNone, IfOk, IfErr, IsErrOf};
+ghost use Rattle.hex.specs.Hex.{encode_lower, lower_digits, IsBytes};
 ghost use Rattle.esx_reading.specs.Faults.{Refuses};
-ghost use Rattle.esx_reading.specs.Written.{is_no_capital, IsWritten};
+ghost use Rattle.esx_reading.specs.Written.{IsWritten};
 
 use crate::fault::TextFault;
 use esx_types::Bytes;
 use std::alloc::Global;
 
-/// Whether no byte is one of the capitals `A` to `F`.
-fn has_no_capital(field: &str) -> bool
-    ensures { result ≡ list_all is_no_capital field.now }
+/// The value of a digit in hex, in lower case.
+#[inline(always)]
+fn digit_of(byte: u8) -> Option<u8>
+    ensures some { IfSome result (λ v. (v < 16) × (byte ≡ slice_index lower_digits v)) }
+    ensures none { IfNone result ((v : ℕ) → v < 16 → byte ≡ slice_index lower_digits v → ⊥) }
 {
-    field
-        .as_bytes()
-        .iter()
-        .all(|byte| *byte < b'A' || b'F' < *byte)
+    if byte < b'0' {
+        return None;
+    }
+    if byte <= b'9' {
+        return Some(byte - b'0');
+    }
+    if byte < b'a' {
+        return None;
+    }
+    if byte <= b'f' {
+        return Some(byte - b'a' + 10);
+    }
+    None
 }
 
-/// The bytes of a field in hex, 1 to 4,096 of them. `BadLine(1)` where it has no such bytes.
+/// The byte of two digits.
+#[inline(always)]
+fn byte_of(high: u8, low: u8) -> Option<u8>
+    ensures small { IfSome result (λ byte. byte < 256) }
+    ensures some { IfSome result (λ byte. encode_lower (byte ∷ []) ≡ high ∷ low ∷ []) }
+    ensures none { IfNone result ((byte : ℕ) → byte < 256 → encode_lower (byte ∷ []) ≡ high ∷ low ∷ [] → ⊥) }
+{
+    let Some(front) = digit_of(high) else {
+        return None;
+    };
+    let Some(back) = digit_of(low) else {
+        return None;
+    };
+    Some(front * 16 + back)
+}
+
+/// The bytes of digits, two digits a byte. `BadLine(1)` where they are those of no bytes.
+fn bytes_of(alloc: Global, digits: &[u8]) -> Result<Vec<u8>, TextFault>
+    requires { length digits.now % 2 ≡ 0 }
+    ensures found { IfOk result (λ v. IsBytes v.items × (digits.now ≡ encode_lower v.items)) }
+    ensures only { IfErr result (λ e. Refuses e ((bytes : List ℕ) → IsBytes bytes → digits.now ≡ encode_lower bytes → ⊥)) }
+{
+    let count = digits.len() / 2;
+    let Ok(mut bytes) = Vec::with_capacity(alloc, count) else {
+        return Err(TextFault::OutOfMemory);
+    };
+    for at in 0..count {
+        let Some(byte) = byte_of(digits[2 * at], digits[2 * at + 1]) else {
+            return Err(TextFault::BadLine(1));
+        };
+        bytes.push_reserved(byte);
+    }
+    Ok(bytes)
+}
+
+/// The bytes of a field in hex, 1 to 4,096 of them. `BadLine(1)` where it has no such bytes. Memory is taken only
+/// for a field that is as long as some bytes.
 pub fn written_bytes(alloc: Global, field: &str) -> Result<Bytes, TextFault>
     ensures found { IfOk result (λ bytes. IsWritten bytes × (field.now ≡ encode_lower bytes)) }
     ensures only { IfErr result (λ e. Refuses e ((bytes : List ℕ) → IsWritten bytes → field.now ≡ encode_lower bytes → ⊥)) }
+    ensures memory { IsErrOf result TextFault.OutOfMemory → (0 < length field.now) × (length field.now ≤ 8192) × (length field.now % 2 ≡ 0) }
 {
     if field.is_empty() || field.len() > 8192 {
         return Err(TextFault::BadLine(1));
     }
-    if !has_no_capital(field) {
+    if field.len() % 2 != 0 {
         return Err(TextFault::BadLine(1));
     }
-    match hex::decode(alloc, field) {
+    match bytes_of(alloc, field.as_bytes()) {
         Ok(bytes) => Ok(Bytes::from_vec(bytes)),
-        Err(error) => match error {
-            hex::FromHexError::OutOfMemory => Err(TextFault::OutOfMemory),
-            _ => Err(TextFault::BadLine(1)),
-        },
+        Err(fault) => Err(fault),
     }
 }

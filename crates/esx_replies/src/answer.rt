@@ -14,7 +14,7 @@ use crate::sampling::{put_opened, put_rebalanced};
 use crate::sharing::put_looked;
 use esx_events::{Answer, Refusal};
 use esx_types::{Sink, SinkFailed};
-use esx_writing::{AnswerBuffer, Piece, put_pieces};
+use esx_writing::{AnswerBuffer, put};
 
 /// The answer of an event.
 pub fn put_answer<W: Sink>(
@@ -41,7 +41,7 @@ pub fn put_answer<W: Sink>(
             running,
         } => put_started(sink, held, *frame, *taken, *overhead, *running),
         Answer::Bytes { bytes } => put_bytes(sink, held, bytes.get()),
-        Answer::Done => put_pieces(sink, held, &[Piece::Text("ok\n")]),
+        Answer::Done => put(sink, held, "ok\n".as_bytes()),
         Answer::Goal { goal, lent, epoch } => put_goal(sink, held, *goal, *lent, *epoch),
         Answer::Reset { epoch } => put_reset(sink, held, *epoch),
         Answer::Lent { lent, goal } => put_lent(sink, held, *lent, *goal),
@@ -53,7 +53,7 @@ pub fn put_answer<W: Sink>(
         Answer::SharedOut { page, frame } => put_shared_out(sink, held, *page, *frame),
         Answer::Replaced { page, slot, frame } => put_replaced(sink, held, *page, *slot, *frame),
         Answer::GivenBack { held: kept } => put_given_back(sink, held, *kept),
-        Answer::Gone => put_pieces(sink, held, &[Piece::Text("ok gone\n")]),
+        Answer::Gone => put(sink, held, "ok gone\n".as_bytes()),
     }
 }
 

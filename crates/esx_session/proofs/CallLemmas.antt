@@ -1,5 +1,5 @@
 -- The line of a call: its fields, and that it has them of one call only.
-use Rattle.std.proofs.Common.{◌≡◌, ◌<◌, ◌^◌, ℕ, List, [], ◌∷◌, decimal, arith, refl, sym, ap, ◌∙◌}
+use Rattle.std.proofs.Common.{◌≡◌, ◌<◌, ◌^◌, ℕ, List, [], ◌∷◌, ◌++◌, decimal, arith, refl, sym, ap, ◌∙◌}
 use Rattle.std.proofs.Math.Dec.{eqb}
 use Rattle.std.proofs.lemmas.List.Splits.{slice_split_at}
 use Rattle.std.proofs.lemmas.Fmt.{decimal_injective}
@@ -33,6 +33,15 @@ parts_of_call line number command cut caller call is =
       head_of _ _ _ _ both,
       record { range = is.range; spelled = sym (joined_of_fields command) ∙ ap joined (others_of _ _ _ _ both) ∙ joined_of_fields (spelling call) },
     )
+
+-- a line by its first field and the text behind it
+joined_more : (word : List ℕ) (words : List (List ℕ)) → (words ≡ [] → ⊥) → joined (word ∷ words) ≡ word ++ 32 ∷ joined words
+joined_more word [] some = absurd (some refl)
+joined_more word (next ∷ words) some = refl
+
+pub line_of_parts : (line number command : List ℕ) → fields line ≡ number ∷ fields command → line ≡ number ++ 32 ∷ command
+line_of_parts line number command cut =
+    sym (joined_of_fields line) ∙ ap joined cut ∙ joined_more number (fields command) (some_field command) ∙ ap (λ v. number ++ 32 ∷ v) (joined_of_fields command)
 
 -- a line is that of one call by one caller
 pub one_spelled : (line : List ℕ) (caller other : ℕ) (call same : Call) → SpellsCall line caller call → SpellsCall line other same → (caller ≡ other) × (call ≡ same)

@@ -1,22 +1,10 @@
 -- The lines of a session, each alone.
-use Rattle.std.proofs.Common.{◌≡◌, ◌<◌, ◌^◌, ◌↔◌, ℕ, List, [], ◌∷◌, length, Bool, true, false, ◌++◌, decimal, codes, arith, sym, ap, ◌∙◌}
+use Rattle.std.proofs.Common.{◌≡◌, ◌<◌, ◌^◌, ◌↔◌, ℕ, List, Bool, true, false, ◌++◌, decimal, codes, arith, sym, ap, ◌∙◌}
 use Rattle.std.specs.Prelude.{Option, None, Some, IfSome, IfNone, IsTrue}
 use Rattle.std.specs.Option.{option_eq}
 use Rattle.std.proofs.Math.Dec.{eqb}
 use Rattle.std.proofs.lemmas.Bool.Decides.{Decides-eqb}
 use Rattle.std.proofs.lemmas.Fmt.{decimal_injective}
-use Rattle.std.proofs.lemmas.List.Splits.{slice_split_first, slice_split_none}
-use Rattle.std.proofs.lemmas.List.Sums.{fails_before_first}
-use Rattle.std.specs.List.{position_or_len, before_first, after_first}
-use Rattle.esx_reading.specs.Fields.{fields}
-
--- the fields of a line that is cut at its first space, or has none
-pub cut_fields : (line front back : List ℕ) → position_or_len (λ b. eqb b 32) line < length line
-    → front ≡ before_first (λ b. eqb b 32) line → back ≡ after_first (λ b. eqb b 32) line → fields line ≡ front ∷ fields back
-cut_fields line front back within f b = rw (f, b) (slice_split_first (λ b. eqb b 32) line 0 within)
-
-pub uncut_fields : (line : List ℕ) → position_or_len (λ b. eqb b 32) line ≡ length line → fields line ≡ line ∷ []
-uncut_fields line none = slice_split_none (λ b. eqb b 32) line (λ k d lt. fails_before_first (λ b. eqb b 32) line k d (omega arith))
 
 -- a number that was read is the one that is wanted
 same_number : (text : List ℕ) (n count : ℕ) → n < 2 ^ 64 → count < 2 ^ 64 → text ≡ decimal n → (b : Bool) → b ≡ eqb n count → IsTrue b ↔ (text ≡ decimal count)

@@ -1,5 +1,5 @@
 -- Where a text stops being a session.
-use Rattle.std.proofs.Common.{◌⊎◌, ◌≡◌, ◌≤◌, ◌+◌, ℕ, List, [], ◌∷◌, ◌++◌, length, take, drop, arith, refl, sym, ap, ◌∙◌, append_assoc, append-nil, length-append, inl, inr}
+use Rattle.std.proofs.Common.{◌⊎◌, ◌≡◌, ◌≤◌, ◌+◌, ℕ, List, [], ◌∷◌, ◌++◌, length, take, drop, arith, refl, sym, ap, ◌∙◌, append_assoc, append-nil, length-append, inl, inr, Result, Err}
 use Rattle.std.proofs.lemmas.List.{take-append-le, take-append-drop}
 use Rattle.std.proofs.Math.Seq.{take-append_seam}
 use Rattle.std.specs.Str.Lines.{lines}
@@ -152,3 +152,7 @@ no_session (Differs k) text site at range whole two h = absurd h
 no_session Read text site at range whole two h = absurd h
 no_session Write text site at range whole two h = absurd h
 no_session OutOfMemory text site at range whole two h = tt
+
+-- the exit of a `?` that hands on want of memory
+pub for_memory : {T : Type 0} (r : Result T TextFault) (e f : TextFault) → r ≡ Err e → e ≡ f → r ≡ Err OutOfMemory → f ≡ OutOfMemory
+for_memory r e f is same m = cc

@@ -98,6 +98,10 @@ IsRefused (BadLine n) text = StopsAt n (lines text)
 IsRefused OutOfMemory text = Unit {0}
 IsRefused _ text = ⊥
 
+-- the first two lines are those of a session
+abbrev pub HasOpening : List ℕ → Type 0
+HasOpening text = (site : Config) × (others : List (List ℕ)) × IsConfig site × (lines text ≡ codes "esx session 1" ∷ joined (site_words site) ∷ others)
+
 -- a line of a log, as a session tells it
 abbrev pub logged : Line → Entry
 logged line = record { caller = line.caller; call = line.call; reply = reply_text line.reply }

@@ -1,13 +1,14 @@
 //! The lines of a session, each alone.
 
-ghost use Rattle.std.specs.Prelude.{◌≡◌, ◌++◌, ◌<◌, ◌↔◌, ℕ, codes, decimal, MatchOption, IfSome, IfNone, IfOk, IfErr, IsTrue};
+ghost use Rattle.std.specs.Prelude.{◌≡◌, ◌∷◌, ◌++◌, ◌<◌, ◌↔◌, ℕ, List, codes, decimal, MatchOption, IfSome, IfNone, IfOk, IfErr, IsTrue};
 ghost use Rattle.esx_types.specs.declared.config.TheConstants.{CALLERS};
 ghost use Rattle.esx_events.specs.declared.call.Call.{Call};
 ghost use Rattle.esx_reading.specs.Faults.{Refuses};
+ghost use Rattle.esx_reading.specs.Fields.{fields};
 ghost use Rattle.esx_session.specs.Reading.{SpellsCall, Quotes, QuotesNone};
 
 use esx_events::Call;
-use esx_reading::{TextFault, number_of};
+use esx_reading::{Fields, TextFault, number_of};
 use esx_types::CALLERS;
 use esx_words::parse_command;
 use std::alloc::Global;
@@ -25,12 +26,24 @@ fn caller_of(text: &str) -> Option<u16>
     }
 }
 
+/// The first field of a line, and the text behind it.
+fn parted<'a>(line: &'a str) -> Option<(&'a str, &'a str)>
+    ensures cut { IfSome result (λ p. fields line.now ≡ p.0.now ∷ fields p.1.now) }
+    ensures whole { IfSome result (λ p. line.now ≡ p.0.now ++ 32 ∷ p.1.now) }
+    ensures none { IfNone result ((number command : List ℕ) → fields line.now ≡ number ∷ fields command → ⊥) }
+{
+    let mut fields = Fields::of(line);
+    let number = fields.next()?;
+    let command = fields.rest()?;
+    Some((number, command))
+}
+
 /// Who called, and the call. `BadLine(1)` where the line is not that of a call.
 pub fn call_of(alloc: Global, line: &str) -> Result<(u16, Call), TextFault>
     ensures found { IfOk result (λ p. SpellsCall line.now p.0 p.1) }
     ensures only { IfErr result (λ e. Refuses e ((caller : ℕ) (call : Call) → SpellsCall line.now caller call → ⊥)) }
 {
-    let Some((number, command)) = line.split_once(' ') else {
+    let Some((number, command)) = parted(line) else {
         return Err(TextFault::BadLine(1));
     };
     let Some(caller) = caller_of(number) else {

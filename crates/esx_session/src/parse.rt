@@ -1,9 +1,9 @@
 //! Sessions as they are read.
 
-ghost use Rattle.std.specs.Prelude.{◌≡◌, ◌∷◌, ◌+◌, ◌++◌, [], IfOk, IfErr, OnOk, MatchBool};
+ghost use Rattle.std.specs.Prelude.{◌≡◌, ◌∷◌, ◌+◌, ◌++◌, [], IfOk, IfErr, IsErrOf, OnOk, MatchBool};
 ghost use Rattle.esx_types.specs.Ranges.{IsConfig};
 ghost use Rattle.esx_reading.specs.Fields.{joined};
-ghost use Rattle.esx_session.specs.Sessions.{site_words, Reads, IsRefused};
+ghost use Rattle.esx_session.specs.Sessions.{site_words, Reads, HasOpening, IsRefused};
 ghost use Rattle.esx_session.specs.Reading.{head_line, placed, TakesReply, LacksReply, TakesEntry, LacksEntry, TellsCalls, LacksCalls, LacksHead, LacksOpening};
 
 use crate::line::{call_of, is_end};
@@ -121,10 +121,11 @@ fn read_opening(place: &mut Place) -> Result<Config, TextFault>
 }
 
 /// The session of a text. `BadLine` has the first line at which the text is none, from 1 on: one past its
-/// last line where it ends too early.
+/// last line where it ends too early. Memory is taken behind the first two lines alone.
 pub fn parse_session(alloc: Global, text: &str) -> Result<Session, TextFault>
     ensures ok { IfOk result (λ session. Reads text.now session.site session.entries) }
     ensures only { IfErr result (λ e. IsRefused e text.now) }
+    ensures memory { IsErrOf result TextFault.OutOfMemory → HasOpening text.now }
 {
     let mut place = Place::start(text);
     let site = read_opening(&mut place)?;

@@ -16,10 +16,13 @@ use crate::printing::replies::put_reply;
 use esx_events::{Call, Line};
 use esx_types::{Config, MemorySink, Sink, SinkFailed};
 use esx_words::put_command;
-use esx_writing::{AnswerBuffer, Piece, put_pieces, write_held};
+use esx_writing::{AnswerBuffer, Piece, put, put_pieces, write_held};
 use std::alloc::{AllocError, Global};
 use std::marker::Brand;
 use std::sync::ledger::{Blank, Ledger};
+
+/// Room for the number of a caller and a space.
+const CALLER_ROOM: usize = 40;
 
 /// The first line, and that of the site.
 fn put_opening<W: Sink>(
@@ -66,6 +69,11 @@ fn put_caller<W: Sink>(sink: &mut W, held: &mut AnswerBuffer, caller: u16) -> Re
     ensures failures { W.failures sink.new ≡ W.failures sink.old + sink_faults result }
     ensures flushes { W.flushes sink.new ≡ W.flushes sink.old }
 {
+    if held.room() >= CALLER_ROOM {
+        held.push_number(u64::from(caller));
+        held.push(" ".as_bytes());
+        return Ok(());
+    }
     put_pieces(
         sink,
         held,
@@ -80,7 +88,7 @@ fn put_feed<W: Sink>(sink: &mut W, held: &mut AnswerBuffer) -> Result<(), SinkFa
     ensures failures { W.failures sink.new ≡ W.failures sink.old + sink_faults result }
     ensures flushes { W.flushes sink.new ≡ W.flushes sink.old }
 {
-    put_pieces(sink, held, &[Piece::Text("\n")])
+    put(sink, held, "\n".as_bytes())
 }
 
 /// The spelling of a call, to the end of its line.

@@ -9,8 +9,8 @@ use Rattle.std.proofs.lemmas.List.Elements.{All-nil, All-cons, All-append, All-h
 use Rattle.esx_model.specs.Console.{Session}
 use Rattle.esx_text.specs.declared.fault.ServeFault.{ServeFault}
 use Rattle.esx_text.specs.declared.fault.ServeFault.TheVariants.{Read, Write, OutOfMemory}
-use Rattle.esx_text.specs.Lines.{HasNoFeed, EndsIn, line_of, last_line, lines, Keeps, Held}
-use Rattle.esx_text.specs.Answers.{IsAnswered, IsServed, Progress, Stops}
+use Rattle.esx_text.specs.Lines.{HasNoFeed, EndsIn, line_of, last_line, Keeps, Held}
+use Rattle.esx_text.specs.Answers.{IsAnswered, IsServed, Progress, Stops, StopsLast}
 use Rattle.esx_writing.proofs.WritingLemmas.{appends_more}
 use Rattle.esx_text.proofs.LineLemmas.{ended_keeps, last_keeps}
 use Rattle.esx_text.proofs.ProgressLemmas.{some_held}
@@ -70,10 +70,9 @@ ends_then text ended rest later ended' rest' e e' = record {
   last = e'.last;
 }
 
-lines_then : (ended : List (List ℕ)) (rest : List ℕ) (ended' : List (List ℕ)) (rest' : List ℕ)
-    → lines (ended ++ rest ∷ ended') rest' ≡ map line_of ended ++ line_of rest ∷ lines ended' rest'
-lines_then ended rest ended' rest' =
-    ap (λ v. v ++ last_line rest') (map-append line_of ended (rest ∷ ended')) ∙ append_assoc (map line_of ended) (line_of rest ∷ map line_of ended') (last_line rest')
+lines_then : (ended : List (List ℕ)) (rest : List ℕ) (ended' : List (List ℕ))
+    → map line_of (ended ++ rest ∷ ended') ≡ map line_of ended ++ line_of rest ∷ map line_of ended'
+lines_then ended rest ended' = map-append line_of ended (rest ∷ ended')
 
 numbered : (m n caller : ℕ) (log : Session) (line text : List ℕ) (after : Session) → m ≡ n → IsAnswered m caller log line text after → IsAnswered n caller log line text after
 numbered m n caller log line text after e a = rw e at a
@@ -93,13 +92,13 @@ stops_line Write caller before known input count line now after new new' later s
       stop = inl (record {
         done = map line_of p.ended;
         line = line_of p.rest;
-        others = lines more.ended more.rest;
+        others = map line_of more.ended;
         text = p.text;
         middle = now;
         last = s.0;
         front = s.2.0;
         rest = s.2.1;
-        lines_are = lines_then p.ended p.rest more.ended more.rest;
+        lines_are = lines_then p.ended p.rest more.ended;
         answered = p.answered;
         answered_last = numbered (count + 1) (length (map line_of p.ended) + 1) caller now (line_of p.rest) s.0 after (omega (arith, p.count_is, length-map p.ended line_of)) s.1;
         last_is = s.2.2;
@@ -115,9 +114,9 @@ stops_line OutOfMemory caller before known input count line now after new new' l
       split = ends_then input p.ended p.rest later more.ended more.rest p.split more.ends;
       stop = record {
         done = map line_of p.ended;
-        others = line_of p.rest ∷ lines more.ended more.rest;
+        others = line_of p.rest ∷ map line_of more.ended;
         text = p.text;
-        lines_are = lines_then p.ended p.rest more.ended more.rest;
+        lines_are = lines_then p.ended p.rest more.ended;
         answered = rw s.0 p.answered;
         written = rw append-nil at (appends_more known new new' p.text [] p.written s.1);
       };
@@ -126,7 +125,7 @@ stops_line OutOfMemory caller before known input count line now after new new' l
 pub stops_last : (fault : ServeFault) (caller : ℕ) (before : Session) (known : Option (List ℕ)) (input : List ℕ) (count : ℕ) (line : Held) (now after : Session) (new new' : Option (List ℕ))
     → (length line.front ≡ 0 → ⊥)
     → ((full : List ℕ) → Keeps line.front line.long full → IsServed (count + 1) caller now full after new new' (Err fault))
-    → Progress caller before known input count line now new → Stops fault caller before after input known new'
+    → Progress caller before known input count line now new → StopsLast fault caller before after input known new'
 stops_last Read caller before known input count line now after new new' some served p =
     absurd (served p.rest (last_keeps line.front line.long p.rest p.holds))
 stops_last Write caller before known input count line now after new new' some served p =
@@ -135,6 +134,7 @@ stops_last Write caller before known input count line now after new new' some se
       ended = p.ended;
       rest = p.rest;
       split = p.split;
+      was_read = λ is. absurd (cc);
       stop = inl (record {
         done = map line_of p.ended;
         line = p.rest;
@@ -157,6 +157,7 @@ stops_last OutOfMemory caller before known input count line now after new new' s
       ended = p.ended;
       rest = p.rest;
       split = p.split;
+      was_read = λ is. absurd (cc);
       stop = record {
         done = map line_of p.ended;
         others = last_line p.rest;

@@ -1,13 +1,14 @@
 -- What stands after the answers that wait were handed on, and after that failed.
 use Rattle.std.proofs.Common.{◌≡◌, ℕ, List, [], ◌+◌, ◌⊎◌, inl, inr, refl, arith, sym, ◌∙◌, append-nil, Option, None, Some, Result, Ok, Err, map}
 use Rattle.std.specs.Io.KnownBytes.{Keeps, Appends, Consumes}
+use Rattle.std.specs.Option.{ok_or}
 use Rattle.std.specs.Result.{IfOk, IfErr, IsErrAnd, IsErrOf}
 use Rattle.std.proofs.lemmas.List.Elements.{All-nil}
 use Rattle.esx_model.specs.Console.{Session}
 use Rattle.esx_text.specs.declared.fault.ServeFault.{ServeFault}
 use Rattle.esx_text.specs.declared.fault.ServeFault.TheVariants.{Read, Write, OutOfMemory}
-use Rattle.esx_text.specs.Lines.{HasNoFeed, line_of, last_line, lines, Held}
-use Rattle.esx_text.specs.Answers.{Progress, Answers, First, Stops, Faults, Ends, Reaches, read_faults}
+use Rattle.esx_text.specs.Lines.{HasNoFeed, line_of, lines, Held}
+use Rattle.esx_text.specs.Answers.{AreAnswered, Progress, Answers, First, Stops, Faults, Ends, Reaches, read_faults}
 use Rattle.esx_writing.proofs.WritingLemmas.{appends_nothing}
 use Rattle.esx_text.proofs.ProgressLemmas.{consumes_nothing}
 
@@ -52,25 +53,48 @@ first_kept caller before after all old new new' k f = record {
   written = appends_kept old new new' f.text f.written k;
 }
 
+-- all of the lines were answered
+all_done : (caller : ℕ) (before after : Session) (all : List (List ℕ)) (text : List ℕ) (old new : Option (List ℕ))
+    → AreAnswered 1 caller before all text after → Appends old new text → First caller before after all old new
+all_done caller before after all text old new answered written = record {
+  done = all;
+  others = [];
+  text = text;
+  lines_are = sym (append-nil all);
+  answered = answered;
+  written = written;
+}
+
 pub read_kept : (caller : ℕ) (before after : Session) (unread left old new new' : Option (List ℕ))
     → Keeps new new' → Faults Read caller before after unread left old new → Faults Read caller before after unread left old new'
-read_kept caller before after unread left old new new' k f =
-    let s = f.stops in
-    record {
-      input = f.input;
-      read = f.read;
-      stops = record { ended = s.ended; rest = s.rest; split = s.split; stop = (s.stop.0, s.stop.1, appends_kept old new new' s.stop.0 s.stop.2 k) };
-    }
+read_kept caller before after unread left old new new' k f = record {
+  input = f.input;
+  read = f.read;
+  stops = elim f.stops [
+    | inl s ↦ inl (record { ended = s.ended; rest = s.rest; split = s.split; stop = (s.stop.0, s.stop.1, appends_kept old new new' s.stop.0 s.stop.2 k) })
+    | inr (end, s) ↦ absurd (s.was_read refl)
+  ];
+}
 
 pub memory_kept : (caller : ℕ) (before after : Session) (unread left old new new' : Option (List ℕ))
     → Keeps new new' → Faults OutOfMemory caller before after unread left old new → Faults OutOfMemory caller before after unread left old new'
-memory_kept caller before after unread left old new new' k f =
-    let s = f.stops in
-    record {
-      input = f.input;
-      read = f.read;
-      stops = record { ended = s.ended; rest = s.rest; split = s.split; stop = first_kept caller before after (lines s.ended s.rest) old new new' k s.stop };
-    }
+memory_kept caller before after unread left old new new' k f = record {
+  input = f.input;
+  read = f.read;
+  stops = elim f.stops [
+    | inl s ↦ inl (record { ended = s.ended; rest = s.rest; split = s.split; stop = first_kept caller before after (map line_of s.ended) old new new' k s.stop })
+    | inr (end, s) ↦ inr (
+      end,
+      record {
+        ended = s.ended;
+        rest = s.rest;
+        split = s.split;
+        was_read = s.was_read;
+        stop = first_kept caller before after (lines s.ended s.rest) old new new' k s.stop;
+      },
+    )
+  ];
+}
 
 pub consumes_kept : (a b c : Option (List ℕ)) (x : List ℕ) → Consumes a b x → Keeps b c → Consumes a c x
 consumes_kept None b c x p k = tt
@@ -95,14 +119,7 @@ progress_unsent caller before known input count line now new new' k p = record {
   ended = p.ended;
   rest = p.rest;
   split = p.split;
-  stop = inr (record {
-    done = map line_of p.ended;
-    others = last_line p.rest;
-    text = p.text;
-    lines_are = refl;
-    answered = p.answered;
-    written = appends_kept known new new' p.text p.written k;
-  });
+  stop = inr (all_done caller before now (map line_of p.ended) p.text known new' p.answered (appends_kept known new new' p.text p.written k));
 }
 
 pub answers_unsent : (caller count : ℕ) (before after : Session) (unread left old new new' : Option (List ℕ))
@@ -112,64 +129,70 @@ answers_unsent caller count before after unread left old new new' k a =
     record {
       input = a.input;
       read = a.read;
-      stops = record {
-        ended = s.ended;
-        rest = s.rest;
-        split = s.split;
-        stop = inr (record {
-          done = lines s.ended s.rest;
-          others = [];
-          text = a.text;
-          lines_are = sym (append-nil (lines s.ended s.rest));
-          answered = s.answered;
-          written = appends_kept old new new' a.text a.written k;
-        });
-      };
+      stops = inr (
+        a.end,
+        record {
+          ended = s.ended;
+          rest = s.rest;
+          split = s.split;
+          was_read = λ is. absurd (cc);
+          stop = inr (all_done caller before after (lines s.ended s.rest) a.text old new' s.answered (appends_kept old new new' a.text a.written k));
+        },
+      );
     }
 
 pub read_unsent : (caller : ℕ) (before after : Session) (unread left old new new' : Option (List ℕ))
     → Keeps new new' → Faults Read caller before after unread left old new → Faults Write caller before after unread left old new'
-read_unsent caller before after unread left old new new' k f =
-    let s = f.stops in
-    record {
-      input = f.input;
-      read = f.read;
-      stops = record {
-        ended = s.ended;
-        rest = s.rest;
-        split = s.split;
-        stop = inr (record {
-          done = map line_of s.ended;
-          others = last_line s.rest;
-          text = s.stop.0;
-          lines_are = refl;
-          answered = s.stop.1;
-          written = appends_kept old new new' s.stop.0 s.stop.2 k;
-        });
-      };
-    }
+read_unsent caller before after unread left old new new' k f = record {
+  input = f.input;
+  read = f.read;
+  stops = elim f.stops [
+    | inl s ↦ inl (record {
+      ended = s.ended;
+      rest = s.rest;
+      split = s.split;
+      stop = inr (all_done caller before after (map line_of s.ended) s.stop.0 old new' s.stop.1 (appends_kept old new new' s.stop.0 s.stop.2 k));
+    })
+    | inr (end, s) ↦ absurd (s.was_read refl)
+  ];
+}
 
 pub memory_unsent : (caller : ℕ) (before after : Session) (unread left old new new' : Option (List ℕ))
     → Keeps new new' → Faults OutOfMemory caller before after unread left old new → Faults Write caller before after unread left old new'
-memory_unsent caller before after unread left old new new' k f =
-    let s = f.stops in
-    record {
-      input = f.input;
-      read = f.read;
-      stops = record { ended = s.ended; rest = s.rest; split = s.split; stop = inr (first_kept caller before after (lines s.ended s.rest) old new new' k s.stop) };
-    }
+memory_unsent caller before after unread left old new new' k f = record {
+  input = f.input;
+  read = f.read;
+  stops = elim f.stops [
+    | inl s ↦ inl (record {
+      ended = s.ended;
+      rest = s.rest;
+      split = s.split;
+      stop = inr (first_kept caller before after (map line_of s.ended) old new new' k s.stop);
+    })
+    | inr (end, s) ↦ inr (
+      end,
+      record {
+        ended = s.ended;
+        rest = s.rest;
+        split = s.split;
+        was_read = λ is. absurd (cc);
+        stop = inr (first_kept caller before after (lines s.ended s.rest) old new new' k s.stop);
+      },
+    )
+  ];
+}
 
 -- no line was served
 pub at_once : (caller : ℕ) (before : Session) (unread known : Option (List ℕ)) → Faults OutOfMemory caller before before unread unread known known
 at_once caller before unread known = record {
   input = [];
   read = consumes_nothing unread;
-  stops = record {
+  stops = inl (record {
     ended = [];
     rest = [];
     split = record { whole = refl; each = All-nil HasNoFeed; last = All-nil (λ b. b ≡ 10 → ⊥) };
     stop = record { done = []; others = []; text = []; lines_are = refl; answered = (refl, refl); written = appends_nothing known };
-  };
+  });
 }
 
 -- the exit of a `?` that hands on the fault as it is
@@ -188,6 +211,12 @@ pub reaches_unsent : (served : Result (Option ℕ) ServeFault) (found : Option �
     → served ≡ Ok found → Keeps new new' → Reaches served caller before after unread left old new → Faults Write caller before after unread left old new'
 reaches_unsent served None caller before after unread left old new new' is k r = read_unsent caller before after unread left old new new' k (rw is at r)
 reaches_unsent served (Some n) caller before after unread left old new new' is k r = answers_unsent caller n before after unread left old new new' k (rw is at r)
+
+-- they were
+pub reaches_sent : (served : Result (Option ℕ) ServeFault) (found : Option ℕ) (result : Result ℕ ServeFault) (caller : ℕ) (before after : Session) (unread left old new new' : Option (List ℕ))
+    → served ≡ Ok found → result ≡ ok_or found Read → Keeps new new' → Reaches served caller before after unread left old new → Ends result caller before after unread left old new'
+reaches_sent served None result caller before after unread left old new new' is was k r = rw was (read_kept caller before after unread left old new new' k (rw is at r))
+reaches_sent served (Some n) result caller before after unread left old new new' is was k r = rw was (answers_kept caller n before after unread left old new new' k (rw is at r))
 
 pub ends_ok : (r : Result ℕ ServeFault) (caller : ℕ) (before after : Session) (unread left old new : Option (List ℕ))
     → Ends r caller before after unread left old new → IfOk r (λ n. Answers caller n before after unread left old new)

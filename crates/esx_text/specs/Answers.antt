@@ -121,24 +121,33 @@ pub record Cut (caller : ℕ) (before after : Session) (all : List (List ℕ)) (
   pub last_is : last ≡ front ++ rest
   pub written : Appends old new (text ++ front)
 
--- What was done at a fault, of the lines of the ended pieces and the rest. After a fault of reading it is all ended ones.
+-- What was done at a fault, of the lines that were read. After a fault of reading it is all of them.
 -- A fault of writing comes in the middle of an answer, or between two, where those before it are handed on.
-abbrev pub StopsAt : ServeFault → ℕ → Session → Session → List (List ℕ) → List ℕ → Option (List ℕ) → Option (List ℕ) → Type 0
-StopsAt Read caller before after ended rest old new = (text : List ℕ) × AreAnswered 1 caller before (map line_of ended) text after × Appends old new text
-StopsAt Write caller before after ended rest old new = Cut caller before after (lines ended rest) old new ⊎ First caller before after (lines ended rest) old new
-StopsAt OutOfMemory caller before after ended rest old new = First caller before after (lines ended rest) old new
+abbrev pub StopsAt : ServeFault → ℕ → Session → Session → List (List ℕ) → Option (List ℕ) → Option (List ℕ) → Type 0
+StopsAt Read caller before after all old new = (text : List ℕ) × AreAnswered 1 caller before all text after × Appends old new text
+StopsAt Write caller before after all old new = Cut caller before after all old new ⊎ First caller before after all old new
+StopsAt OutOfMemory caller before after all old new = First caller before after all old new
 
+-- Where more may follow, the lines that were read are those that ended: the rest is no line yet.
 pub record Stops (fault : ServeFault) (caller : ℕ) (before after : Session) (input : List ℕ) (old new : Option (List ℕ)) : Type 0 where
   pub ended : List (List ℕ)
   pub rest : List ℕ
   pub split : EndsIn input ended rest
-  pub stop : StopsAt fault caller before after ended rest old new
+  pub stop : StopsAt fault caller before after (map line_of ended) old new
+
+-- At the end of the input the rest is its last line, and reading is not at fault.
+pub record StopsLast (fault : ServeFault) (caller : ℕ) (before after : Session) (input : List ℕ) (old new : Option (List ℕ)) : Type 0 where
+  pub ended : List (List ℕ)
+  pub rest : List ℕ
+  pub split : EndsIn input ended rest
+  pub was_read : fault ≡ Read → ⊥
+  pub stop : StopsAt fault caller before after (lines ended rest) old new
 
 -- What was read when a fault came, and what was done of it.
 pub record Faults (fault : ServeFault) (caller : ℕ) (before after : Session) (unread left old new : Option (List ℕ)) : Type 0 where
   pub input : List ℕ
   pub read : Consumes unread left input
-  pub stops : Stops fault caller before after input old new
+  pub stops : Stops fault caller before after input old new ⊎ (IsAtEnd left × StopsLast fault caller before after input old new)
 
 -- What a whole run came to: all lines were answered, so many, or there was a fault.
 abbrev pub Ends : Result ℕ ServeFault → ℕ → Session → Session → Option (List ℕ) → Option (List ℕ) → Option (List ℕ) → Option (List ℕ) → Type 0

@@ -5,7 +5,7 @@ ghost use Rattle.std.specs.Io.KnownBytes.{Keeps, Consumes, IsAtEnd};
 ghost use Rattle.esx_types.specs.Ends.{call_successes};
 ghost use Rattle.esx_model.specs.Console.{Session};
 ghost use Rattle.esx_text.specs.Lines.{Holds, HasNoFeed};
-ghost use Rattle.esx_text.specs.Answers.{Progress, Answers, Stops, Faults, Reaches, Ends, fault_writes, read_faults, write_faults};
+ghost use Rattle.esx_text.specs.Answers.{Progress, Answers, Stops, StopsLast, Faults, Reaches, Ends, fault_writes, read_faults, write_faults};
 
 use crate::answer::{Asked, answer_line};
 use crate::fault::ServeFault;
@@ -134,7 +134,7 @@ fn serve_end<W: Sink>(
         → Answers caller n before console.new unread left known (W.contents writer.new)) }
     ensures fault { IfErr result (λ e. (before : Session) (known : Option (List ℕ)) (input : List ℕ)
         → Progress caller before known input work.old.count work.old.line console.old (W.contents writer.old)
-        → Stops e caller before console.new input known (W.contents writer.new)) }
+        → StopsLast e caller before console.new input known (W.contents writer.new)) }
     ensures failures { W.failures writer.new ≡ W.failures writer.old + write_faults result }
     ensures flushes { W.flushes writer.new ≡ W.flushes writer.old }
     ensures reads { IsErrOf result ServeFault.Read → ⊥ }

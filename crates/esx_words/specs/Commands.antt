@@ -18,11 +18,11 @@ use Rattle.esx_words.specs.declared.verbs.NumberVerb.TheVariants as number_verbs
 use Rattle.esx_words.specs.declared.verbs.NameVerb.TheVariants as name_verbs
 use Rattle.esx_words.specs.declared.verbs.AloneVerb.TheVariants as alone_verbs
 use Rattle.esx_words.specs.declared.verbs.PlaceVerb.TheVariants as place_verbs
-use Rattle.esx_words.specs.Kinds.{Kinds, Values, value_words, AreValues}
+use Rattle.esx_words.specs.Kinds.{Kinds, Values, value_words, AreValues, TakeMemory}
 use Rattle.esx_words.specs.Kinds.Kind.{Machine, Number, Word, Hex, Name}
 use Rattle.esx_words.specs.Kinds.Kinds.{End, Then, Words}
 use Rattle.esx_words.specs.Verbs.{event_word, verb_word}
-use Rattle.esx_reading.specs.Fields.{joined}
+use Rattle.esx_reading.specs.Fields.{joined, fields}
 
 -- what stands behind the first word of an event
 abbrev pub event_kinds : EventVerb → Kinds
@@ -137,6 +137,10 @@ abbrev pub AreOperands : (form : Form) → Operands form → Type 0
 AreOperands (Form.Plain kinds) x = AreValues kinds x
 AreOperands Form.Tried events = IsTriable events × AllByRecursion IsEventInRange events
 
+abbrev pub OperandsTakeMemory : Form → Type 0
+OperandsTakeMemory (Form.Plain kinds) = TakeMemory kinds
+OperandsTakeMemory Form.Tried = Unit {0}
+
 abbrev pub verb : Call → Verb
 verb (call.Do event) = verbs.Event (event_verb event)
 verb (call.Undo count) = verbs.Number number_verbs.Undo
@@ -187,6 +191,13 @@ spelling call = joined (words_of call)
 pub record Spells (text : List ℕ) (call : Call) : Type 0 where
   pub range : IsInRange call
   pub spelled : text ≡ spelling call
+
+-- some words begin with the first of a command whose operands take memory; the same of the words of a text
+abbrev pub BeginTakingMemory : List (List ℕ) → Type 0
+BeginTakingMemory words = (verb : Verb) × (others : List (List ℕ)) × (words ≡ verb_word verb ∷ others) × OperandsTakeMemory (verb_form verb)
+
+abbrev pub MayTakeMemory : List ℕ → Type 0
+MayTakeMemory text = BeginTakingMemory (fields text)
 
 -- a text spells one call at most
 abbrev pub SpellsOneCall : List ℕ → Type 0

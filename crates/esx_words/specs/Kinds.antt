@@ -57,3 +57,13 @@ abbrev pub AreValues : (kinds : Kinds) → Values kinds → Type 0
 AreValues Kinds.End tt = Unit {0}
 AreValues (Kinds.Then kind kinds) (x, xs) = IsValue kind x × AreValues kinds xs
 AreValues Kinds.Words ws = (length ws ≤ 200) × AllByRecursion (λ w. w < 2 ^ 64) ws
+
+-- values of these kinds take memory of their own
+abbrev pub TakeMemory : Kinds → Type 0
+TakeMemory Kinds.End = ⊥
+TakeMemory (Kinds.Then Kind.Machine kinds) = TakeMemory kinds
+TakeMemory (Kinds.Then Kind.Number kinds) = TakeMemory kinds
+TakeMemory (Kinds.Then Kind.Word kinds) = TakeMemory kinds
+TakeMemory (Kinds.Then Kind.Hex kinds) = Unit {0}
+TakeMemory (Kinds.Then Kind.Name kinds) = Unit {0}
+TakeMemory Kinds.Words = Unit {0}

@@ -1,12 +1,12 @@
 //! Commands as lines: which call a line asks for.
 
-ghost use Rattle.std.specs.Prelude.{◌≡◌, ◌∷◌, [], ◌<◌, ◌≤◌, decimal, ℕ, List, IfOk, IfErr, length};
+ghost use Rattle.std.specs.Prelude.{◌≡◌, ◌∷◌, [], ◌<◌, ◌≤◌, decimal, ℕ, List, IfOk, IfErr, IsErrOf, length};
 ghost use Rattle.esx_types.specs.declared.config.TheConstants.{VM_NUMBERS};
 ghost use Rattle.esx_events.specs.Names.{IsName};
 ghost use Rattle.esx_events.specs.declared.call.Call.{Call};
 ghost use Rattle.esx_reading.specs.Faults.{Refuses};
 ghost use Rattle.esx_words.specs.Verbs.{verb_word};
-ghost use Rattle.esx_words.specs.Commands.{verb_form, words_of, IsInRange, Operands, AreOperands, operand_words, Spells};
+ghost use Rattle.esx_words.specs.Commands.{verb_form, words_of, IsInRange, Operands, AreOperands, OperandsTakeMemory, operand_words, Spells, BeginTakingMemory, MayTakeMemory};
 ghost use Rattle.esx_words.specs.declared.verbs.Verb.TheVariants as verbs;
 
 use crate::event::event_of;
@@ -67,6 +67,7 @@ fn operands_of(alloc: Global, verb: Verb, fields: &mut Fields) -> Result<Call, T
     ensures found { IfOk result (λ call. IsInRange call × (verb_word verb ∷ fields.old ≡ words_of call)) }
     ensures only { IfErr result (λ e. Refuses e ((x : Operands (verb_form verb)) → AreOperands (verb_form verb) x
         → fields.old ≡ operand_words (verb_form verb) x → ⊥)) }
+    ensures memory { IsErrOf result TextFault.OutOfMemory → OperandsTakeMemory (verb_form verb) }
 {
     match verb {
         Verb::Event { verb } => match event_of(alloc, verb, fields) {
@@ -107,6 +108,7 @@ fn operands_of(alloc: Global, verb: Verb, fields: &mut Fields) -> Result<Call, T
 fn call_of(alloc: Global, fields: &mut Fields) -> Result<Call, TextFault>
     ensures found { IfOk result (λ call. IsInRange call × (fields.old ≡ words_of call)) }
     ensures only { IfErr result (λ e. Refuses e ((call : Call) → IsInRange call → fields.old ≡ words_of call → ⊥)) }
+    ensures memory { IsErrOf result TextFault.OutOfMemory → BeginTakingMemory fields.old }
 {
     let Some(word) = fields.next() else {
         return Err(TextFault::BadLine(1));
@@ -117,10 +119,12 @@ fn call_of(alloc: Global, fields: &mut Fields) -> Result<Call, TextFault>
     operands_of(alloc, verb, fields)
 }
 
-/// The call of a command line. `BadLine(1)` where the line is no command.
+/// The call of a command line. `BadLine(1)` where the line is no command. Memory is taken for names, bytes, the
+/// words of a sample and tried events, and for nothing else.
 pub fn parse_command(alloc: Global, text: &str) -> Result<Call, TextFault>
     ensures found { IfOk result (λ call. Spells text.now call) }
     ensures only { IfErr result (λ e. Refuses e ((call : Call) → Spells text.now call → ⊥)) }
+    ensures memory { IsErrOf result TextFault.OutOfMemory → MayTakeMemory text.now }
 {
     call_of(alloc, &mut Fields::of(text))
 }

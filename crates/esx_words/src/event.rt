@@ -1,10 +1,10 @@
 //! Events as lines: which event a line asks for.
 
-ghost use Rattle.std.specs.Prelude.{◌≡◌, ◌∷◌, [], ◌<◌, decimal, List, ℕ, IfOk, IfErr};
+ghost use Rattle.std.specs.Prelude.{◌≡◌, ◌∷◌, [], ◌<◌, decimal, List, ℕ, IfOk, IfErr, IsErrOf};
 ghost use Rattle.esx_types.specs.declared.config.TheConstants.{VM_NUMBERS};
 ghost use Rattle.esx_events.specs.declared.event.Event.{Event};
 ghost use Rattle.esx_reading.specs.Faults.{Refuses};
-ghost use Rattle.esx_words.specs.Kinds.{Values, AreValues, value_words};
+ghost use Rattle.esx_words.specs.Kinds.{Values, AreValues, value_words, TakeMemory};
 ghost use Rattle.esx_words.specs.Verbs.{event_word};
 ghost use Rattle.esx_words.specs.Commands.{event_kinds, event_words, IsEventInRange, SpellsEvent};
 ghost use Rattle.esx_words.specs.declared.verbs.EventVerb.TheVariants as events;
@@ -46,6 +46,7 @@ pub fn event_of(alloc: Global, verb: EventVerb, fields: &mut Fields) -> Result<E
     ensures found { IfOk result (λ event. IsEventInRange event × (event_word verb ∷ fields.old ≡ event_words event)) }
     ensures only { IfErr result (λ e. Refuses e ((x : Values (event_kinds verb)) → AreValues (event_kinds verb) x
         → fields.old ≡ value_words (event_kinds verb) x → ⊥)) }
+    ensures memory { IsErrOf result TextFault.OutOfMemory → TakeMemory (event_kinds verb) }
 {
     match verb {
         EventVerb::Admit => match spec(fields) {

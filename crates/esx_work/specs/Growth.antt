@@ -27,14 +27,22 @@ leads_on a b c p q r f g = record {
   grown = goes_on_on a.callers p.view.seen q.view.seen r.view.seen f.grown (subst (λ (d : LockView). GoesOn d.callers q.view.seen r.view.seen) f.desk_same g.grown);
 }
 
--- the same site, and the log has grown
-pub record IsSite (s t : Session) : Type 0 where
+-- the same site and caller, and the log has grown by lines of this caller alone
+pub record IsAlone (k k' : ℕ) (s t : Session) : Type 0 where
   pub site : t.site ≡ s.site
+  pub same : k' ≡ k
   pub later : List Line
   pub grown : s.log ++ later ≡ t.log
+  pub own : Callers (λ j. j ≡ k) later
 
-pub site_self : (s : Session) → IsSite s s
-site_self s = record { site = refl; later = []; grown = append-nil s.log }
+pub alone_self : (k : ℕ) (s : Session) → IsAlone k k s s
+alone_self k s = record { site = refl; same = refl; later = []; grown = append-nil s.log; own = tt }
 
-pub site_on : (s t u : Session) → IsSite s t → IsSite t u → IsSite s u
-site_on s t u f g = record { site = g.site ∙ f.site; later = f.later ++ g.later; grown = sym (append_assoc s.log f.later g.later) ∙ (ap (λ w. w ++ g.later) f.grown ∙ g.grown) }
+pub alone_on : (i j k : ℕ) (s t u : Session) → IsAlone i j s t → IsAlone j k t u → IsAlone i k s u
+alone_on i j k s t u f g = record {
+  site = g.site ∙ f.site;
+  same = g.same ∙ f.same;
+  later = f.later ++ g.later;
+  grown = sym (append_assoc s.log f.later g.later) ∙ (ap (λ w. w ++ g.later) f.grown ∙ g.grown);
+  own = callers_joined (λ n. n ≡ i) f.later g.later f.own (subst (λ (c : ℕ). Callers (λ n. n ≡ c) g.later) f.same g.own);
+}

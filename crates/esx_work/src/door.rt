@@ -37,7 +37,7 @@ impl<'a, R: Wait> Door for DeskDoor<'a, R> {
     ghost leads_on = { λ d e f one two. leads_on d.desk.now e.desk.now f.desk.now d.pass e.pass f.pass one two };
 }
 
-/// A console under a caller's number.
+/// A console under a caller's number. Its log goes on with lines of this caller alone.
 #[derive(Drop)]
 pub struct ConsoleDoor {
     pub console: Console,
@@ -46,7 +46,7 @@ pub struct ConsoleDoor {
 
 impl Door for ConsoleDoor {
     ghost use Rattle.std.specs.Prelude.{◌≡◌};
-    ghost use Rattle.esx_work.specs.Growth.{IsSite, site_self, site_on};
+    ghost use Rattle.esx_work.specs.Growth.{IsAlone, alone_self, alone_on};
 
     ghost can_submit = { λ d. Unit {0} };
 
@@ -54,13 +54,13 @@ impl Door for ConsoleDoor {
 
     ghost seen = { λ d. d.console.log };
 
-    ghost leads = { λ d e. IsSite d.console e.console };
+    ghost leads = { λ d e. IsAlone d.caller e.caller d.console e.console };
 
     fn submit(&mut self, call: Call) -> Result<Reply, AllocError> {
         self.console.call(self.caller, call)
     }
 
-    ghost leads_self = { λ d. site_self d.console };
+    ghost leads_self = { λ d. alone_self d.caller d.console };
 
-    ghost leads_on = { λ d e f one two. site_on d.console e.console f.console one two };
+    ghost leads_on = { λ d e f one two. alone_on d.caller e.caller f.caller d.console e.console f.console one two };
 }

@@ -1,20 +1,24 @@
 -- The lines of a worker, one more at a time.
-use Rattle.std.proofs.Common.{◌≡◌, ◌≢◌, ◌⊎◌, inl, inr, ℕ, ◌+◌, ◌<◌, ◌≤◌, ◌↔◌, Bool, true, false, true≢false, IsTrue, cond, List, [], ◌∷◌, ◌++◌, length, length-append, append_assoc, append-nil, count_by, Option, Some, None, Result, Ok, Err, OnErr, refl, sym, ap, ◌∙◌, subst, add-zero, arith}
+use Rattle.std.proofs.Common.{◌≡◌, ◌≢◌, ◌⊎◌, inl, inr, ℕ, ◌+◌, ◌<◌, ◌≤◌, ◌↔◌, Bool, true, false, true≢false, IsTrue, cond, List, [], ◌∷◌, ◌++◌, length, length-append, append_assoc, append-nil, count_by, Option, Some, None, Result, Ok, Err, OnErr, refl, sym, ap, ◌∙◌, subst, add-zero, add-one, slice_get, arith}
 use native.Mathlib.Decide.{ℕ_discrete}
 use mathlib.Core.Logic.{dite}
 use Rattle.std.proofs.lemmas.List.Sums.{sum_by-append, sum_by-cons}
 use Rattle.esx_events.specs.declared.call.Call.{Call}
 use Rattle.esx_events.specs.declared.call.Reply.{Reply}
 use Rattle.esx_events.specs.declared.call.Line.{Line}
+use Rattle.esx_door.specs.Gates.{LetThrough, GaveUp}
 use Rattle.esx_door.specs.Own.{line}
 use Rattle.esx_workers.specs.declared.end.How.{How}
-use Rattle.esx_workers.specs.declared.end.How.TheVariants.{Rewound}
+use Rattle.esx_workers.specs.declared.end.How.TheVariants.{Rewound, Turns}
 use Rattle.esx_workers.specs.declared.end.End.{End}
+use Rattle.esx_scenario.specs.declared.plan.TraceLine.{TraceLine}
+use Rattle.esx_workers.specs.declared.visiting.Step.{Step}
 use Rattle.esx_workers.specs.declared.worker.Worker.{Worker}
 use Rattle.esx_workers.specs.declared.worker.Worker.TheVariants.{Guest, Sharer, Swapper, Policy}
 use Rattle.esx_workers.specs.Passed.{is_access, is_passed, is_passed_over, first_of}
+use Rattle.esx_workers.specs.Visiting.{call_at, call_at_line, rest_at}
 use Rattle.esx_workers.specs.Workers.{asks, asked, hears, rest}
-use Rattle.esx_workers.specs.Runs.{goes_on, worker_after, AreAsked, AreAfter, IsStraight, IsRewound, IsOut, Ended, Broken, Since, Running}
+use Rattle.esx_workers.specs.Runs.{goes_on, worker_after, AreAsked, AreAfter, IsStraight, IsRewound, IsOut, Ended, Broken, Since, Running, Gated}
 
 pub on_err : {T E : Type 0} (P : Type 0) → P → (r : Result T E) → OnErr r P
 on_err P p (Ok x) = tt
@@ -30,6 +34,29 @@ rest_asked (Guest w) = refl
 rest_asked (Sharer w) = refl
 rest_asked (Swapper w) = refl
 rest_asked (Policy w) = refl
+
+line_left : (vm : ℕ) (s : Step) (line : Option TraceLine) (call : Call) → call_at_line vm s line ≡ Some call → rest_at line ≡ Turns
+line_left vm s None call e = absurd (cc)
+line_left vm s (Some line) call e = refl
+
+-- a worker that has a call to make ends for want of turns
+pub asks_rest : (w : Worker) (call : Call) → asks w ≡ Some call → rest w ≡ Turns
+asks_rest (Guest w) call e = line_left w.vm w.step (slice_get w.trace.now w.next) call e
+asks_rest (Sharer w) call e = refl
+asks_rest (Swapper w) call e = refl
+asks_rest (Policy w) call e = refl
+
+module _ {G : Type 0} (passes : G → ℕ → Bool → G → Type 0) where
+  pub let_none : (g : G) → LetThrough passes 0 g g
+  unfolding LetThrough
+  let_none g = refl
+
+  pub let_more : (n : ℕ) (g m h : G) → LetThrough passes n g m → passes m (n + 1) true h → LetThrough passes (n + 1) g h
+  unfolding LetThrough
+  let_more n g m h before at = subst (λ (i : ℕ). LetThrough passes i g h) (sym (add-one n)) (m, before, subst (λ (i : ℕ). passes m i true h) (add-one n) at)
+
+  pub gave_up : (n : ℕ) (g m h : G) → LetThrough passes n g m → passes m (n + 1) false h → GaveUp passes n g h
+  gave_up n g m h before at = (m, before, subst (λ (i : ℕ). passes m i false h) (add-one n) at)
 
 pub worker_after_end : (w : Worker) (xs : List Line) (x : Line) → worker_after w (xs ++ x ∷ []) ≡ goes_on (worker_after w xs) x.reply
 unfolding worker_after
@@ -94,6 +121,26 @@ module _ (k : ℕ) (w now : Worker) (first : Option ℕ) (passed turn : ℕ) (a 
     };
   }
 
+  module _ {G : Type 0} (passes : G → ℕ → Bool → G → Type 0) where
+    pub gated_rest : (g h : G) (turns : ℕ) (end : End) (d : List Line) → d ≡ b → LetThrough passes turn g h → (asks now ≡ None) ⊎ (turn ≡ turns) → Gated passes g h w turns end a d
+    gated_rest g h turns end d same passed out = record {
+      lines = r.lines;
+      more = same ∙ r.more;
+      gate = inl (subst (λ (n : ℕ). LetThrough passes n g h) (sym r.many) passed, inr (subst (λ (n : ℕ). (asks (worker_after w r.lines) ≡ None) ⊎ (n ≡ turns)) (sym r.many) (subst (λ (v : Worker). (asks v ≡ None) ⊎ (turn ≡ turns)) r.now_is out)));
+    }
+
+    pub gated_up : (g m h : G) (turns : ℕ) (end : End) (call : Call) (d : List Line) → d ≡ b → LetThrough passes turn g m → passes m (turn + 1) false h → turn < turns → asks now ≡ Some call → end.how ≡ rest now → Gated passes g h w turns end a d
+    gated_up g m h turns end call d same passed at lt asks_it rests = record {
+      lines = r.lines;
+      more = same ∙ r.more;
+      gate = inr (
+        subst (λ (n : ℕ). GaveUp passes n g h) (sym r.many) (gave_up passes turn g m h passed at),
+        rests ∙ asks_rest now call asks_it,
+        subst (λ (n : ℕ). n < turns) (sym r.many) lt,
+        (call, ap asks (sym r.now_is) ∙ asks_it),
+      );
+    }
+
   module _ (call : Call) (reply : Reply) (d : List Line) (longer : d ≡ b ++ line k call reply ∷ []) (asks_it : asks now ≡ Some call) where
     more_lines : d ≡ a ++ (r.lines ++ line k call reply ∷ [])
     more_lines = longer ∙ (ap (λ (l : List Line). l ++ line k call reply ∷ []) r.more ∙ append_assoc a r.lines (line k call reply ∷ []))
@@ -131,4 +178,11 @@ module _ (k : ℕ) (w now : Worker) (first : Option ℕ) (passed turn : ℕ) (a 
         why = inl (since_jumped first r.lines (line k call reply) r.since other, ap (λ (e : End). e.how) same);
         all = λ _ not_rewound. absurd (not_rewound (ap (λ (e : End). e.how) same));
       };
+    }
+
+    pub gated_rewound : {G : Type 0} (passes : G → ℕ → Bool → G → Type 0) (g h : G) (turns : ℕ) (end : End) → LetThrough passes (turn + 1) g h → end.how ≡ Rewound → Gated passes g h w turns end a d
+    gated_rewound passes g h turns end passed how = record {
+      lines = r.lines ++ line k call reply ∷ [];
+      more = more_lines;
+      gate = inl (subst (λ (n : ℕ). LetThrough passes n g h) (sym more_many) passed, inl how);
     }

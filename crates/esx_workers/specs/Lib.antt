@@ -8,6 +8,7 @@ pub mod Visiting
 pub mod Workers
 pub mod Runs
 pub mod Starts
+pub use Rattle.esx_door.specs.Gates
 pub use Rattle.esx_door.specs.Own
 pub use Rattle.rand_pcg.specs.Lcg
 pub use Rattle.rand_pcg.specs.Pcg

@@ -1,9 +1,11 @@
 -- The lines of a worker's run, and why it ended.
-use Rattle.std.specs.Prelude.{◌≡◌, ◌≢◌, ◌⊎◌, ℕ, ◌<◌, ◌≤◌, List, [], ◌∷◌, ◌++◌, length, count_by, Option, Some, None, Result, Ok, IfOk, OnErr}
+use Rattle.std.specs.Prelude.{◌≡◌, ◌≢◌, ◌⊎◌, ℕ, ◌<◌, ◌≤◌, Bool, List, [], ◌∷◌, ◌++◌, length, count_by, Option, Some, None, Result, Ok, IfOk, OnErr}
+use Rattle.esx_events.specs.declared.call.Call.{Call}
 use Rattle.esx_events.specs.declared.call.Reply.{Reply}
 use Rattle.esx_events.specs.declared.call.Line.{Line}
+use Rattle.esx_door.specs.Gates.{LetThrough, GaveUp}
 use Rattle.esx_workers.specs.declared.end.How.{How}
-use Rattle.esx_workers.specs.declared.end.How.TheVariants.{Rewound}
+use Rattle.esx_workers.specs.declared.end.How.TheVariants.{Rewound, Turns}
 use Rattle.esx_workers.specs.declared.end.End.{End}
 use Rattle.esx_workers.specs.declared.worker.Worker.{Worker}
 use Rattle.esx_workers.specs.Passed.{is_passed_over}
@@ -57,6 +59,25 @@ pub record IsRun (let_through : Type 0) (k : ℕ) (w : Worker) (turns : ℕ) (en
   pub passed : end.passed ≡ count_by is_passed_over lines
   pub why : Why w lines end.how
   pub all : let_through → end.how ≢ Rewound → IsOut w turns lines
+
+module _ {G : Type 0} (passes : G → ℕ → Bool → G → Type 0) where
+  -- The gate let through once before each line, and was passed no more: there was a jump, nothing was left to ask, or no turn was left.
+  abbrev pub StaysOpen : G → G → Worker → ℕ → End → List Line → Type 0
+  StaysOpen g h w turns end lines = LetThrough passes (length lines) g h × ((end.how ≡ Rewound) ⊎ IsOut w turns lines)
+
+  -- The gate let through once before each line, and then gave up, before a call that the worker had a turn for.
+  abbrev pub GivesUp : G → G → Worker → ℕ → End → List Line → Type 0
+  GivesUp g h w turns end lines = GaveUp passes (length lines) g h × (end.how ≡ Turns) × (length lines < turns) × ((call : Call) × (asks (worker_after w lines) ≡ Some call))
+
+  -- the gate before and after these lines of a worker's run
+  abbrev pub IsGated : G → G → Worker → ℕ → End → List Line → Type 0
+  IsGated g h w turns end lines = StaysOpen g h w turns end lines ⊎ GivesUp g h w turns end lines
+
+  -- the gate before and after a worker's run, which made the caller's lines longer
+  pub record Gated (g h : G) (w : Worker) (turns : ℕ) (end : End) (before after : List Line) : Type 0 where
+    pub lines : List Line
+    pub more : after ≡ before ++ lines
+    pub gate : IsGated g h w turns end lines
 
 -- the caller's lines after its worker's run
 pub record Ended (let_through : Type 0) (k : ℕ) (w : Worker) (turns : ℕ) (end : End) (before after : List Line) : Type 0 where

@@ -2,7 +2,7 @@
 
 ghost use Rattle.std.specs.Prelude.{◌≡◌, IfOk, OnErr};
 ghost use Rattle.esx_door.specs.Own.{lines_of};
-ghost use Rattle.esx_workers.specs.Runs.{Ended, Broken};
+ghost use Rattle.esx_workers.specs.Runs.{Ended, Broken, Gated};
 
 use crate::end::{End, How};
 use crate::passed::{Tally, is_access};
@@ -10,7 +10,8 @@ use crate::worker::Worker;
 use esx_door::{Door, Gate};
 use std::alloc::{AllocError, Global};
 
-/// Makes a worker's calls until it ends, and passes the gate before each.
+/// Makes a worker's calls until it ends, and passes the gate before each, with the number of its turn. Where the
+/// gate gives up it makes no more calls.
 pub fn run<D: Door, G: Gate>(
     door: &mut D,
     gate: &mut G,
@@ -23,6 +24,7 @@ pub fn run<D: Door, G: Gate>(
     ensures leads { D.leads door.old door.new }
     ensures caller { D.caller door.new ≡ D.caller door.old }
     ensures ok { IfOk result (λ end. Ended (G.is_open gate.old) (D.caller door.old) worker.entry turns end (lines_of (D.caller door.old) (D.seen door.old)) (lines_of (D.caller door.old) (D.seen door.new))) }
+    ensures gate { IfOk result (λ end. Gated G.passes gate.old gate.new worker.entry turns end (lines_of (D.caller door.old) (D.seen door.old)) (lines_of (D.caller door.old) (D.seen door.new))) }
     ensures err { OnErr result (Broken (D.caller door.old) worker.entry turns (lines_of (D.caller door.old) (D.seen door.old)) (lines_of (D.caller door.old) (D.seen door.new))) }
 {
     let mut tally = Tally {

@@ -2,7 +2,7 @@
 
 ghost use Rattle.std.specs.Prelude.{◌≡◌, IfOk, OnErr, length};
 ghost use Rattle.esx_door.specs.Own.{lines_of};
-ghost use Rattle.esx_workers.specs.Runs.{Ended, Broken};
+ghost use Rattle.esx_workers.specs.Runs.{Ended, Broken, Gated};
 ghost use Rattle.esx_workers.specs.Starts.{guest_of, sharer_of, swapper_of, policy_of};
 
 use crate::end::End;
@@ -36,6 +36,7 @@ pub fn guest<D: Door, G: Gate>(
     ensures leads { D.leads door.old door.new }
     ensures caller { D.caller door.new ≡ D.caller door.old }
     ensures ok { IfOk result (λ end. Ended (G.is_open gate.old) (D.caller door.old) (guest_of vm trace.entry rng) turns end (lines_of (D.caller door.old) (D.seen door.old)) (lines_of (D.caller door.old) (D.seen door.new))) }
+    ensures gate { IfOk result (λ end. Gated G.passes gate.old gate.new (guest_of vm trace.entry rng) turns end (lines_of (D.caller door.old) (D.seen door.old)) (lines_of (D.caller door.old) (D.seen door.new))) }
     ensures err { OnErr result (Broken (D.caller door.old) (guest_of vm trace.entry rng) turns (lines_of (D.caller door.old) (D.seen door.old)) (lines_of (D.caller door.old) (D.seen door.new))) }
 {
     let worker = Worker::Guest(GuestWorker {
@@ -62,6 +63,7 @@ pub fn sharer<D: Door, G: Gate>(
     ensures leads { D.leads door.old door.new }
     ensures caller { D.caller door.new ≡ D.caller door.old }
     ensures ok { IfOk result (λ end. Ended (G.is_open gate.old) (D.caller door.old) (sharer_of machines.entry rng) turns end (lines_of (D.caller door.old) (D.seen door.old)) (lines_of (D.caller door.old) (D.seen door.new))) }
+    ensures gate { IfOk result (λ end. Gated G.passes gate.old gate.new (sharer_of machines.entry rng) turns end (lines_of (D.caller door.old) (D.seen door.old)) (lines_of (D.caller door.old) (D.seen door.new))) }
     ensures err { OnErr result (Broken (D.caller door.old) (sharer_of machines.entry rng) turns (lines_of (D.caller door.old) (D.seen door.old)) (lines_of (D.caller door.old) (D.seen door.new))) }
 {
     let worker = Worker::Sharer(SharerWorker { machines, rng });
@@ -83,6 +85,7 @@ pub fn swapper<D: Door, G: Gate>(
     ensures leads { D.leads door.old door.new }
     ensures caller { D.caller door.new ≡ D.caller door.old }
     ensures ok { IfOk result (λ end. Ended (G.is_open gate.old) (D.caller door.old) (swapper_of machines.entry rng) turns end (lines_of (D.caller door.old) (D.seen door.old)) (lines_of (D.caller door.old) (D.seen door.new))) }
+    ensures gate { IfOk result (λ end. Gated G.passes gate.old gate.new (swapper_of machines.entry rng) turns end (lines_of (D.caller door.old) (D.seen door.old)) (lines_of (D.caller door.old) (D.seen door.new))) }
     ensures err { OnErr result (Broken (D.caller door.old) (swapper_of machines.entry rng) turns (lines_of (D.caller door.old) (D.seen door.old)) (lines_of (D.caller door.old) (D.seen door.new))) }
 {
     let worker = Worker::Swapper(SwapperWorker { machines, rng });
@@ -106,6 +109,7 @@ pub fn policy<D: Door, G: Gate>(
     ensures leads { D.leads door.old door.new }
     ensures caller { D.caller door.new ≡ D.caller door.old }
     ensures ok { IfOk result (λ end. Ended (G.is_open gate.old) (D.caller door.old) (policy_of machines.entry sample length rng) turns end (lines_of (D.caller door.old) (D.seen door.old)) (lines_of (D.caller door.old) (D.seen door.new))) }
+    ensures gate { IfOk result (λ end. Gated G.passes gate.old gate.new (policy_of machines.entry sample length rng) turns end (lines_of (D.caller door.old) (D.seen door.old)) (lines_of (D.caller door.old) (D.seen door.new))) }
     ensures err { OnErr result (Broken (D.caller door.old) (policy_of machines.entry sample length rng) turns (lines_of (D.caller door.old) (D.seen door.old)) (lines_of (D.caller door.old) (D.seen door.new))) }
 {
     let worker = Worker::Policy(PolicyWorker {

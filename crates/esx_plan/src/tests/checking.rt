@@ -1,11 +1,15 @@
 //! Checks that tell how far they are, and checks that do not.
 
+use super::opening::Tape;
 use crate::session::{Told, check_to, session_of_reader, status_of_check};
-use esx_check::Checked;
+use crate::terminal;
+use esx_check::{Checked, check_session_through};
+use esx_reading::TextFault;
+use esx_work::Gate;
 use std::alloc::Global;
 use std::cell::RefCell;
 use std::fmt::Display;
-use std::io::{self, ErrorKind, Print};
+use std::io::{self, ErrorKind, IsTerminal, Print};
 use std::test::Fail;
 
 /// A session, what its check comes to, the line and the status that tell it, and what a terminal is told on the
@@ -102,5 +106,83 @@ fn told_or_not(rt: HostRuntime) -> Result<(), Fail> {
         };
         assert!(rt; told.as_slice() == row.progress);
     }
+    Ok(())
+}
+
+/// A gate that lets nothing through, and tells how often it was passed, and whether each turn was the next.
+#[derive(Drop)]
+struct Closed {
+    turns: u32,
+    in_order: bool,
+}
+
+impl Gate for Closed {
+    fn pass_through(&mut self, turn: u32) -> bool {
+        self.turns = self.turns.wrapping_add(1);
+        self.in_order = self.in_order && turn == self.turns;
+        false
+    }
+}
+
+/// A gate is passed once for each call that is made, also where it lets nothing through.
+#[test]
+fn turns_of_a_gate(rt: HostRuntime) -> Result<(), Fail> {
+    let alloc = rt.alloc();
+    for row in &ROWS {
+        let Ok(session) = session_of_reader(alloc, row.text) else {
+            return Err(Fail::new("the session"));
+        };
+        let mut gate = Closed {
+            turns: 0,
+            in_order: true,
+        };
+        let checked = check_session_through(alloc, session, &mut gate)?;
+        assert_eq!(rt; checked, row.checked);
+        let (Checked::Same(calls) | Checked::Differs(calls)) = checked;
+        assert_eq!(rt; u64::from(gate.turns), calls);
+        assert!(rt; gate.in_order);
+    }
+    Ok(())
+}
+
+/// Where lines may go, which is a terminal or not.
+struct Lines {
+    is_terminal: bool,
+}
+
+impl IsTerminal for Lines {
+    fn is_terminal(&self) -> bool {
+        self.is_terminal
+    }
+}
+
+/// Nothing is told on the way where there is no terminal.
+#[test]
+fn terminals(rt: HostRuntime) {
+    assert!(rt; terminal(&Lines { is_terminal: true }).is_some());
+    assert!(rt; terminal(&Lines { is_terminal: false }).is_none());
+}
+
+/// What a file that has no session is refused with.
+fn fault_of(alloc: Global, text: &'static [u8], fails: bool) -> Result<TextFault, Fail> {
+    match session_of_reader(alloc, Tape { text, fails }) {
+        Ok(_) => Err(Fail::new("a session")),
+        Err(fault) => Ok(fault),
+    }
+}
+
+#[test]
+fn no_sessions(rt: HostRuntime) -> Result<(), Fail> {
+    let alloc = rt.alloc();
+    assert_eq!(rt; fault_of(alloc, b"", false)?, TextFault::BadLine(1));
+    assert_eq!(rt;
+        fault_of(alloc, b"esx session 1\n", false)?,
+        TextFault::BadLine(2)
+    );
+    assert_eq!(rt;
+        fault_of(alloc, b"esx session 1\n\xff", false)?,
+        TextFault::NotText
+    );
+    assert_eq!(rt; fault_of(alloc, b"esx session 1\n", true)?, TextFault::Read);
     Ok(())
 }

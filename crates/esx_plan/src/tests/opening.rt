@@ -55,9 +55,9 @@ fn words(rt: HostRuntime) -> Result<(), Fail> {
 
 /// Gives a text byte by byte, and fails behind it where it is told to.
 #[derive(Drop)]
-struct Tape {
-    text: &'static [u8],
-    fails: bool,
+pub(super) struct Tape {
+    pub(super) text: &'static [u8],
+    pub(super) fails: bool,
 }
 
 impl Read for Tape {

@@ -10,7 +10,7 @@ ghost use Rattle.esx_session.specs.Printing.{IsOneLine};
 use esx_events::{Name, Said, Sum};
 use esx_replies::{put_marked, put_said, put_sum};
 use esx_types::{Sink, SinkFailed};
-use esx_writing::{AnswerBuffer, Piece, put_pieces};
+use esx_writing::{AnswerBuffer, put};
 
 /// The sign before each line of a reply.
 pub fn put_sign<W: Sink>(sink: &mut W, held: &mut AnswerBuffer) -> Result<(), SinkFailed>
@@ -19,7 +19,7 @@ pub fn put_sign<W: Sink>(sink: &mut W, held: &mut AnswerBuffer) -> Result<(), Si
     ensures failures { W.failures sink.new ≡ W.failures sink.old + sink_faults result }
     ensures flushes { W.flushes sink.new ≡ W.flushes sink.old }
 {
-    put_pieces(sink, held, &[Piece::Text("= ")])
+    put(sink, held, "= ".as_bytes())
 }
 
 /// What is said in one line.

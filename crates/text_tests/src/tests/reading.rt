@@ -82,6 +82,11 @@ fn whole(rt: HostRuntime) -> Result<(), Fail> {
         read_text_of(alloc, make_tape(b"esx", 1, 2, 9))?.as_str(),
         "ee"
     );
+    // the end is read once
+    assert_eq!(rt;
+        read_text_of(alloc, make_tape(b"esx", 9, 6, 3))?.as_str(),
+        "esxesx"
+    );
     assert_eq!(rt;
         read_text_of(alloc, make_tape(b"esx", 9, 0, 9))?.as_str(),
         ""

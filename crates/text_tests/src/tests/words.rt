@@ -1,5 +1,6 @@
 //! Lines as they are written by hand.
 
+use esx_reading::TextFault;
 use esx_words::{parse_command, print_command};
 use std::alloc::Global;
 use std::rt::HostRuntime;
@@ -79,7 +80,7 @@ fn lines(rt: HostRuntime) -> Result<(), Fail> {
 #[test]
 fn no_lines(rt: HostRuntime) -> Result<(), Fail> {
     for line in &NO_LINES {
-        assert!(rt; parse_command(rt.alloc(), line).is_err());
+        assert!(rt; matches!(parse_command(rt.alloc(), line), Err(TextFault::BadLine(1))));
     }
     Ok(())
 }

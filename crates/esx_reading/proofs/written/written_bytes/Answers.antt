@@ -1,10 +1,7 @@
-use Rattle.std.proofs.Common.{◌≡◌, length, arith, sym, ◌∙◌, refl, inl, inr, true}
-use Rattle.std.specs.List.{list_all}
+use Rattle.std.proofs.Common.{◌≡◌, length, arith, sym, ◌∙◌, refl}
 use Rattle.std.proofs.lemmas.Bool.{eqb-true}
 use Rattle.std.proofs.lemmas.Bool.Decides.{Decides-eqb, not_from_Decides}
-use Rattle.hex.proofs.HexLemmas.{decode_of-ok}
-use Rattle.esx_reading.specs.Written.{is_no_capital}
-use Rattle.esx_reading.proofs.HexField.{length_of_hex, no_error, no_capital_in_hex, decoded_is}
+use Rattle.esx_reading.proofs.HexField.{length_of_hex}
 use Rattle.esx_reading.proofs.written.written_bytes.Goals as goal
 use Rattle.esx_reading.proofs.written.written_bytes.Goals.{then-is_empty-via-then-is_empty, then-is_empty-via-else-is_empty+then-field-gt8192}
 
@@ -19,35 +16,20 @@ returns-then-is_empty-clause-only c = (
       ],
 )
 
-pub returns-then-not-has_no_capital-clause-only : goal.returns-then-not-has_no_capital-clause-only
-returns-then-not-has_no_capital-clause-only c = (
-  refl,
-  λ bytes w e.
-      let all : list_all is_no_capital c.args.field.now ≡ true = rw e (no_capital_in_hex bytes) in
-      let is = c.has_no_capital.ensures ∙ all in
-      let no = c.if-not-has_no_capital.true in
-      cc,
-)
+pub returns-then-field-ne0-clause-only : goal.returns-then-field-ne0-clause-only
+returns-then-field-ne0-clause-only c = (refl, λ bytes w e. omega (arith, c.if-field-ne0.true, length_of_hex c.args.field.now bytes e))
 
 pub returns-in-Ok-clause-found : goal.returns-in-Ok-clause-found
 returns-in-Ok-clause-found c =
-    let facts = decode_of-ok c.args.field.now c.in-Ok.bytes.items c.in-Ok.ensures.ok in
+    let found = c.in-Ok.ensures.found in
+    let is = sym c.as_bytes.ensures.value ∙ found.1 in
+    let h = length_of_hex c.args.field.now c.in-Ok.bytes.items is in
     let some : length c.args.field.now ≡ 0 → ⊥ = λ z. not_from_Decides _ (Decides-eqb (length c.args.field.now) 0) (sym c.is_empty.ensures ∙ c.if-is_empty.false) z in
-    let is = c.if-not-has_no_capital.false in
-    let all : list_all is_no_capital c.args.field.now ≡ true = sym c.has_no_capital.ensures ∙ is in (
+    rw c.from_vec.ensures (
       record {
-        some = rw c.from_vec.ensures (omega (arith, facts.2, some));
-        few = rw c.from_vec.ensures (omega (arith, facts.2));
-        are_bytes = rw c.from_vec.ensures facts.3;
+        some = omega (arith, h, some);
+        few = omega (arith, h, c.if-field-gt8192.false);
+        are_bytes = found.0;
       },
-      rw c.from_vec.ensures (decoded_is c.args.field.now c.in-Ok.bytes.items c.in-Ok.ensures.ok all),
+      is,
     )
-
-pub returns-in_default-clause-only : goal.returns-in_default-clause-only
-returns-in_default-clause-only c = (
-  refl,
-  λ bytes w e. elim c.in-Err.ensures.err [
-    | inl memory ↦ c.in_default.not-OutOfMemory memory
-    | inr bad ↦ no_error c.args.field.now bytes c.in-Err.error w e bad
-  ],
-)

@@ -1,4 +1,4 @@
-use Rattle.std.proofs.Common.{[], ◌++◌, arith, refl, take}
+use Rattle.std.proofs.Common.{[], ◌++◌, inl, inr, arith, refl, take}
 use Rattle.esx_text.proofs.ProgressLemmas.{progress_start, consumes_nothing, consumes_more, read_nothing}
 use Rattle.esx_text.proofs.SendingLemmas.{consumes_kept, progress_kept, progress_unread, progress_unsent, reaches_err}
 use Rattle.esx_text.proofs.service.serve_reads.Goals as goal
@@ -23,8 +23,8 @@ returns-in_err-send-clause-served g c =
     (rw c.in_err-send.ensures.fault (record {
       input = p.0;
       read = p.1;
-      stops = progress_unsent c.args.caller c.args.console.now (g.W.Sink.contents c.args.writer.now) p.0 c.loop.work.count c.loop.work.line c.loop.console
-          (g.W.Sink.contents c.loop.writer) (g.W.Sink.contents c.send.new.writer) c.in_err-send.ensures.bytes p.2;
+      stops = inl (progress_unsent c.args.caller c.args.console.now (g.W.Sink.contents c.args.writer.now) p.0 c.loop.work.count c.loop.work.line c.loop.console
+          (g.W.Sink.contents c.loop.writer) (g.W.Sink.contents c.send.new.writer) c.in_err-send.ensures.bytes p.2);
     }))
 
 pub returns-in_default-clause-served : goal.returns-in_default-clause-served
@@ -33,10 +33,10 @@ returns-in_default-clause-served g c =
     record {
       input = p.0;
       read = consumes_kept _ _ _ p.0 p.1 c.in_default.ensures.bytes;
-      stops = progress_unread c.args.caller c.args.console.now (g.W.Sink.contents c.args.writer.now) p.0 c.loop.work.count c.loop.work.line c.loop.console
+      stops = inl (progress_unread c.args.caller c.args.console.now (g.W.Sink.contents c.args.writer.now) p.0 c.loop.work.count c.loop.work.line c.loop.console
           (g.W.Sink.contents c.send.new.writer)
           (progress_kept c.args.caller c.args.console.now (g.W.Sink.contents c.args.writer.now) p.0 c.loop.work.count c.loop.work.line c.loop.console
-          (g.W.Sink.contents c.loop.writer) (g.W.Sink.contents c.send.new.writer) c.in_ok-send.ensures.bytes p.2);
+          (g.W.Sink.contents c.loop.writer) (g.W.Sink.contents c.send.new.writer) c.in_ok-send.ensures.bytes p.2));
     }
 
 pub returns-in_err-count-clause-served : goal.returns-in_err-count-clause-served
@@ -49,8 +49,11 @@ returns-in_err-count-clause-served g c =
     (record {
       input = p.0;
       read = r.0;
-      stops = c.in_err-count.ensures.fault _ _ p.0 (progress_kept c.args.caller c.args.console.now (g.W.Sink.contents c.args.writer.now) p.0 c.loop.work.count c.loop.work.line c.loop.console
-          (g.W.Sink.contents c.loop.writer) (g.W.Sink.contents c.send.new.writer) c.in_ok-send.ensures.bytes p.2);
+      stops = inr (
+        r.1,
+        c.in_err-count.ensures.fault _ _ p.0 (progress_kept c.args.caller c.args.console.now (g.W.Sink.contents c.args.writer.now) p.0 c.loop.work.count c.loop.work.line c.loop.console
+            (g.W.Sink.contents c.loop.writer) (g.W.Sink.contents c.send.new.writer) c.in_ok-send.ensures.bytes p.2),
+      );
     })
 
 pub returns-then-given-eq0-clause-served : goal.returns-then-given-eq0-clause-served
@@ -69,8 +72,8 @@ returns-in_err-serve_bytes-clause-served g c =
     (record {
       input = p.0 ++ take c.in-Ok.given c.read.new.buffer;
       read = consumes_more _ _ _ _ _ p.1 c.in-Ok.ensures.bytes.0;
-      stops = rw c.split_at.ensures.front at (c.in_err-serve_bytes.ensures.fault _ _ p.0 (progress_kept c.args.caller c.args.console.now (g.W.Sink.contents c.args.writer.now) p.0 c.loop.work.count c.loop.work.line c.loop.console
-          (g.W.Sink.contents c.loop.writer) (g.W.Sink.contents c.send.new.writer) c.in_ok-send.ensures.bytes p.2));
+      stops = inl (rw c.split_at.ensures.front at (c.in_err-serve_bytes.ensures.fault _ _ p.0 (progress_kept c.args.caller c.args.console.now (g.W.Sink.contents c.args.writer.now) p.0 c.loop.work.count c.loop.work.line c.loop.console
+          (g.W.Sink.contents c.loop.writer) (g.W.Sink.contents c.send.new.writer) c.in_ok-send.ensures.bytes p.2)));
     })
 
 pub loop-preserved : goal.loop-preserved

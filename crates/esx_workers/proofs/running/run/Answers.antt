@@ -1,14 +1,15 @@
 use Rattle.std.proofs.Common.{◌≡◌, ◌∙◌, ◌+◌, ◌<◌, ◌≤◌, ◌++◌, ◌∷◌, [], ℕ, Bool, true, false, true≢false, Some, cond, inl, inr, sym, ap, refl, subst, arith}
 use Rattle.esx_events.specs.declared.call.Call.{Call}
 use Rattle.esx_door.specs.Own.{line, lines_of}
+use Rattle.esx_workers.specs.declared.end.End.{End}
 use Rattle.esx_workers.specs.declared.worker.Worker.{Worker}
 use Rattle.esx_workers.specs.Passed.{is_passed}
 use Rattle.esx_workers.specs.Workers.{asks, hears, rest}
-use Rattle.esx_workers.proofs.Going.{on_err, not_other, rest_asked, running_none, broken, ended_rest, running_more, ended_rewound}
+use Rattle.esx_workers.proofs.Going.{on_err, not_other, rest_asked, running_none, broken, ended_rest, running_more, ended_rewound, let_none, let_more, gated_rest, gated_up, gated_rewound}
 use Rattle.esx_workers.proofs.running.run.Goals as goal
 
 pub loop-turn-init : goal.loop-turn-init
-loop-turn-init g c = (c.requires, g.met.D.Door.leads_self c.args.door.now, refl, running_none _ _ _, λ o. o)
+loop-turn-init g c = (c.requires, g.met.D.Door.leads_self c.args.door.now, refl, running_none _ _ _, λ o. o, let_none _ _)
 
 pub loop-turn-preserved : goal.loop-turn-preserved
 loop-turn-preserved g c =
@@ -27,7 +28,8 @@ loop-turn-preserved g c =
           c.if-hear.ensures.first
           (c.if-hear.ensures.passed ∙ ap (λ (b : Bool). c.loop-turn.tally.passed + cond (is_passed b reply.said) 1 0) c.is_access-access.ensures)
           (not_other false _ _ refl c.if-hear.ensures.jumped),
-      (λ o. (c.pass_through.ensures (inv.4 o)).1),
+      (λ o. (c.pass_through.ensures.open (inv.4 o)).1),
+      let_more _ _ _ _ _ inv.5 (subst (λ (b : Bool). g.G.Gate.passes c.loop-turn.gate (c.loop-turn.turn + 1) b c.pass_through.new.self) c.if-not-pass_through.false c.pass_through.ensures.passes),
     )
 
 pub returns-in_err-call-clause-err : goal.returns-in_err-call-clause-err
@@ -50,7 +52,7 @@ returns-then-not-pass_through-clause-ok g c =
     let le : c.loop-turn.turn ≤ c.args.turns = omega arith in
     ended_rest _ _ _ _ _ _ _ _ c.loop-turn.invariant.3 _ c.args.turns c.end-then-not-pass_through.result c.rest-then-not-pass_through.result le c.end-then-not-pass_through.ensures
     (c.rest-then-not-pass_through.ensures ∙ (ap rest c.in_ok-call.ensures.asked ∙ rest_asked c.loop-turn.worker))
-    (λ o. absurd (true≢false (sym (c.pass_through.ensures (c.loop-turn.invariant.4 o)).0 ∙ c.if-not-pass_through.true)))
+    (λ o. absurd (true≢false (sym (c.pass_through.ensures.open (c.loop-turn.invariant.4 o)).0 ∙ c.if-not-pass_through.true)))
 
 pub returns-in_err-reply-clause-err : goal.returns-in_err-reply-clause-err
 returns-in_err-reply-clause-err g c =
@@ -80,3 +82,34 @@ returns-clause-ok g c =
     let below : c.args.turns ≤ c.loop-turn.turn = c.loop-turn-test.false in
     let end : c.loop-turn.turn ≡ c.args.turns = omega arith in
     ended_rest _ _ _ _ _ _ _ _ c.loop-turn.invariant.3 _ c.args.turns c.end-2.result c.rest-2.result above c.end-2.ensures c.rest-2.ensures (λ _. inr end)
+
+pub returns-in_default-clause-gate : goal.returns-in_default-clause-gate
+returns-in_default-clause-gate g c = gated_rest _ _ _ _ _ _ _ _ c.loop-turn.invariant.3 _ _ _ c.args.turns c.end.result _ refl c.loop-turn.invariant.5 (inl (sym c.in_ok-call.ensures.call ∙ c.in_default.is))
+
+pub returns-then-not-pass_through-clause-gate : goal.returns-then-not-pass_through-clause-gate
+returns-then-not-pass_through-clause-gate g c =
+    gated_up _ _ _ _ _ _ _ _ c.loop-turn.invariant.3 _ _ c.loop-turn.gate _ c.args.turns c.end-then-not-pass_through.result c.in-Some.call _ refl c.loop-turn.invariant.5
+    (subst (λ (b : Bool). g.G.Gate.passes c.loop-turn.gate (c.loop-turn.turn + 1) b c.pass_through.new.self) c.if-not-pass_through.true c.pass_through.ensures.passes)
+    c.loop-turn-test.true
+    (sym c.in_ok-call.ensures.call ∙ c.in-Some.is)
+    (ap (λ (e : End). e.how) c.end-then-not-pass_through.ensures ∙ (c.rest-then-not-pass_through.ensures ∙ (ap rest c.in_ok-call.ensures.asked ∙ rest_asked c.loop-turn.worker)))
+
+pub returns-then-hear-clause-gate : goal.returns-then-hear-clause-gate
+returns-then-hear-clause-gate g c =
+    let inv = c.loop-turn.invariant in
+    let call = c.in-Some.call in
+    let reply = c.in_ok-reply.reply in
+    let w : Worker = c.loop-turn.worker in
+    let asks_it : asks w ≡ Some call = sym c.in_ok-call.ensures.call ∙ c.in-Some.is in
+    gated_rewound _ _ _ _ _ _ _ _ inv.3 call reply _
+    (subst (λ (k : ℕ). lines_of k (g.D.Door.seen c.submit.new.self) ≡ lines_of k (g.D.Door.seen c.loop-turn.door) ++ line k call reply ∷ []) inv.2 c.in_ok-reply.ensures.ok)
+    asks_it _ _ _ c.args.turns c.end-then-hear.result
+    (let_more _ _ _ _ _ inv.5 (subst (λ (b : Bool). g.G.Gate.passes c.loop-turn.gate (c.loop-turn.turn + 1) b c.pass_through.new.self) c.if-not-pass_through.false c.pass_through.ensures.passes))
+    (ap (λ (e : End). e.how) c.end-then-hear.ensures)
+
+pub returns-clause-gate : goal.returns-clause-gate
+returns-clause-gate g c =
+    let above : c.loop-turn.turn ≤ c.args.turns = c.loop-turn.auto.turn-end in
+    let below : c.args.turns ≤ c.loop-turn.turn = c.loop-turn-test.false in
+    let end : c.loop-turn.turn ≡ c.args.turns = omega arith in
+    gated_rest _ _ _ _ _ _ _ _ c.loop-turn.invariant.3 _ _ _ c.args.turns c.end-2.result _ refl c.loop-turn.invariant.5 (inr end)

@@ -4,7 +4,7 @@ use Rattle.esx_reading.proofs.fields.Fields.below.Goals as goal
 
 pub returns-else-number-limit-clause-none : goal.returns-else-number-limit-clause-none
 returns-else-number-limit-clause-none c = λ n others small e.
-    let now = c.in_ok-next.ensures in
+    let now = c.in_ok-next.ensures.left in
     let has = c.in_ok-number.ensures.some.1 in
     let same_text : decimal c.in_ok-number.number ≡ decimal n = cc in
     let fits : n < 2 ^ 64 = omega (arith, c.ranges.limit.fits) in
