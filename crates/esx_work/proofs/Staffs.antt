@@ -1,7 +1,7 @@
 -- The workers of a scenario.
-use Rattle.std.proofs.Common.{◌≡◌, ◌∙◌, ◌<◌, ◌≤◌, ◌+◌, ℕ, Bool, zero, suc, List, [], ◌∷◌, ◌++◌, length, map, take, get_or, slice_get, Option, Some, None, All, filter, refl, sym, ap, subst, ⊎_elim, arith}
+use Rattle.std.proofs.Common.{◌≡◌, ◌∙◌, ◌<◌, ◌≤◌, ◌+◌, ℕ, Bool, zero, suc, List, [], ◌∷◌, ◌++◌, length, map, take, get_or, slice_get, Some, None, All, refl, sym, ap, subst, ⊎_elim, arith}
 use Rattle.std.proofs.lemmas.List.{map-append, take_all, take_more, length-map}
-use Rattle.std.proofs.lemmas.List.Elements.{All-append, All-filter, All-map}
+use Rattle.std.proofs.lemmas.List.Elements.{All-append, All-filter}
 use Rattle.std.proofs.Math.ListN.{get_or-map}
 use Rattle.std.proofs.lemmas.Option.{slice_get-map, slice_get_read, slice_get_cases, slice_get_within}
 use Rattle.std.specs.Prelude.{option_map, ◌==◌}

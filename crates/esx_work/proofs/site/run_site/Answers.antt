@@ -1,5 +1,4 @@
-use Rattle.std.proofs.Common.{◌≡◌, ◌∙◌, ◌+◌, ◌<◌, ◌≤◌, ℕ, List, Some, map, ap, sym, subst, length, slice_get, arith}
-use Rattle.std.proofs.lemmas.List.{length-map}
+use Rattle.std.proofs.Common.{◌≡◌, ◌∙◌, ◌+◌, ℕ, List, Some, map, ap, sym, subst, length, slice_get}
 use Rattle.std.specs.Borrow.{Bor}
 use Rattle.esx_events.specs.declared.call.Line.{Line}
 use Rattle.esx_scenario.specs.declared.plan.Guest.{Guest}
