@@ -6,7 +6,7 @@ ghost use Rattle.esx_types.specs.declared.config.Config.{Config};
 ghost use Rattle.esx_reading.specs.Fields.{joined};
 ghost use Rattle.esx_session.specs.declared.session.Entry.{Entry};
 ghost use Rattle.esx_session.specs.Sessions.{site_words, IsEntry, Reads, HasOpening, IsRefused};
-ghost use Rattle.esx_session.specs.Reading.{Place, head_line, placed, TakesReply, LacksReply, TakesEntry, LacksEntry, AreRead, TellsCalls, LacksCalls, LacksHead, LacksOpening, Follows};
+ghost use Rattle.esx_session.specs.Reading.{head_line, placed, TakesReply, LacksReply, TakesEntry, LacksEntry, AreRead, TellsCalls, LacksCalls, LacksHead, LacksOpening, Follows};
 
 use crate::line::{call_of, is_end};
 use crate::place::Place;
