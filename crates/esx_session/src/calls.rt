@@ -1,6 +1,6 @@
 //! The calls of a session, read one by one.
 
-ghost use Rattle.std.specs.Prelude.{◌≡◌, ◌∷◌, ◌+◌, ◌++◌, ◌<◌, ◌≤◌, ◌^◌, [], ℕ, List, length, IfOk, IfErr, IsErrOf, IfSome, IfNone, OnOk, OnErr, MatchBool};
+ghost use Rattle.std.specs.Prelude.{◌≡◌, ◌∷◌, ◌+◌, ◌++◌, ◌<◌, ◌^◌, [], ℕ, List, length, IfOk, IfErr, IsErrOf, IfSome, IfNone, OnOk, OnErr, MatchBool};
 ghost use Rattle.esx_types.specs.Ranges.{IsConfig};
 ghost use Rattle.esx_types.specs.declared.config.Config.{Config};
 ghost use Rattle.esx_reading.specs.Fields.{joined};
@@ -85,17 +85,14 @@ fn next_entry(alloc: Global, place: &mut Place, count: u64) -> Result<Option<Ent
     ensures passed { IfOk result (λ next. IfSome next (λ entry. place.old.passed < place.new.passed)) }
     ensures left { IfOk result (λ next. IfSome next (λ entry. length place.new.left < length place.old.left)) }
 {
-    let Some(line) = place.next() else {
-        return Err(TextFault::BadLine(place.passed() + 1));
-    };
-    if is_end(line, count) {
-        return match place.next() {
-            Some(_) => Err(TextFault::BadLine(place.passed())),
+    match place.next() {
+        None => Err(TextFault::BadLine(place.passed() + 1)),
+        Some(line) if is_end(line, count) => match place.next() {
             None => Ok(None),
-        };
+            Some(_) => Err(TextFault::BadLine(place.passed())),
+        },
+        Some(line) => Ok(Some(read_entry(alloc, line, place)?)),
     }
-    let entry = read_entry(alloc, line, place)?;
-    Ok(Some(entry))
 }
 
 /// Passes the first line. Whether it is that of a session.
@@ -126,8 +123,8 @@ fn read_opening(place: &mut Place) -> Result<Config, TextFault>
     Ok(site)
 }
 
-/// The calls of a session's text, read one by one. It holds none of them: each entry that it gives has its own
-/// call and reply, and no memory is taken but for the entry that comes next.
+/// The calls of a session's text, read one by one. It holds none of them: each entry that it gives holds its own
+/// call and reply, and no memory is taken but for that entry.
 #[derive(Drop)]
 pub struct Calls<'a> {
     place: Place<'a>,
