@@ -49,17 +49,17 @@ impl Again {
     }
 
     /// Passes the gate with the number of a call, makes the call again, and tells whether its reply is the one
-    /// that stands with it.
+    /// that stands with it. The entry is given back.
     pub fn has_same_reply<G: Gate>(
         &mut self,
         gate: &mut G,
         number: u64,
-        entry: &Entry,
+        entry: Entry,
     ) -> Result<bool, AllocError>
         requires few { self.old.console.jumps < 2 ^ 63 }
         requires empty { self.old.held ≡ [] }
-        ensures made { OnOk result ((s : Session) → AnswersAs self.old.console s → AnswersAs self.new.console (lined s entry.now.caller entry.now.call)) }
-        ensures same { IfOk result (λ same. (s : Session) → AnswersAs self.old.console s → IsTrue same ↔ (reply_text (next_reply s entry.now.call) ≡ entry.now.reply)) }
+        ensures made { OnOk result ((s : Session) → AnswersAs self.old.console s → AnswersAs self.new.console (lined s entry.caller entry.call)) }
+        ensures same { IfOk result (λ same. (s : Session) → AnswersAs self.old.console s → IsTrue same ↔ (reply_text (next_reply s entry.call) ≡ entry.reply)) }
         ensures few { OnOk result (self.new.console.jumps ≤ self.old.console.jumps + 1) }
         ensures empty { IfOk result (λ same. IsTrue same → self.new.held ≡ []) }
     {

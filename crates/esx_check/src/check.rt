@@ -35,7 +35,7 @@ fn check_calls<G: Gate>(
     let mut count: u64 = 0;
     for entry in entries {
         count += 1;
-        if !again.has_same_reply(gate, count, &entry)? {
+        if !again.has_same_reply(gate, count, entry)? {
             return Ok(Checked::Differs(count));
         }
     }

@@ -1,7 +1,9 @@
 //! The text of a session, read and checked in one pass.
 
-ghost use Rattle.std.specs.Prelude.{◌++◌, ℕ, List, IfOk, IfErr, IsErrOf, OnOk};
+ghost use Rattle.std.specs.Prelude.{◌≡◌, ◌++◌, [], ℕ, List, IfOk, IfErr, IsErrOf, OnOk};
 ghost use Rattle.esx_types.specs.declared.config.Config.{Config};
+ghost use Rattle.esx_console.specs.Calls.{opened_session};
+ghost use Rattle.esx_console.specs.Unlogged.{AnswersAs};
 ghost use Rattle.esx_session.specs.declared.session.Entry.{Entry};
 ghost use Rattle.esx_session.specs.Sessions.{Reads, HasOpening, IsRefused};
 ghost use Rattle.esx_session.specs.Reading.{Follows};
@@ -22,6 +24,34 @@ fn read_on(alloc: Global, calls: &mut Calls) -> Result<(), TextFault>
 {
     while let Some(_entry) = calls.next(alloc)? {}
     Ok(())
+}
+
+/// Makes the calls of a text again as they are read, from the first on, and passes the gate before each.
+fn check_as_read<G: Gate>(
+    alloc: Global,
+    again: &mut Again,
+    calls: &mut Calls,
+    gate: &mut G,
+) -> Result<Checked, TextFault>
+    requires none { (calls.old.count ≡ 0) × (again.old.console.jumps ≡ 0) }
+    requires empty { again.old.held ≡ [] }
+    ensures ok { (text : List ℕ) (site : Config) → Follows text site [] calls.old → AnswersAs again.old.console (opened_session site)
+        → IfOk result (ChecksText text) }
+    ensures only { (text : List ℕ) (site : Config) → Follows text site [] calls.old → AnswersAs again.old.console (opened_session site)
+        → IfErr result (λ e. IsRefused e text) }
+{
+    let mut count: u64 = 0;
+    while let Some(entry) = calls.next(alloc)? {
+        count += 1;
+        let Ok(same) = again.has_same_reply(gate, count, entry) else {
+            return Err(TextFault::OutOfMemory);
+        };
+        if !same {
+            read_on(alloc, calls)?;
+            return Ok(Checked::Differs(count));
+        }
+    }
+    Ok(Checked::Same(count))
 }
 
 /// Reads the session of a text and makes its calls again as they are read, up to the first that has another reply
@@ -53,16 +83,5 @@ pub fn check_text_through<G: Gate>(
     let Ok(mut again) = Again::open(alloc, site) else {
         return Err(TextFault::OutOfMemory);
     };
-    let mut count: u64 = 0;
-    while let Some(entry) = calls.next(alloc)? {
-        count += 1;
-        let Ok(same) = again.has_same_reply(gate, count, &entry) else {
-            return Err(TextFault::OutOfMemory);
-        };
-        if !same {
-            read_on(alloc, &mut calls)?;
-            return Ok(Checked::Differs(count));
-        }
-    }
-    Ok(Checked::Same(count))
+    check_as_read(alloc, &mut again, &mut calls, gate)
 }
