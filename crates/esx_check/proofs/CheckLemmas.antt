@@ -4,8 +4,7 @@ use Rattle.std.proofs.Math.Seq.{take-append_seam}
 use Rattle.std.proofs.lemmas.List.{map-append, length-map, length-append}
 use Rattle.std.specs.Prelude.{slice_get}
 use Rattle.esx_types.specs.declared.config.Config.{Config}
-use Rattle.esx_events.specs.declared.call.Call.{Call}
-use Rattle.esx_model.specs.Console.{Session, next_reply}
+use Rattle.esx_model.specs.Console.{next_reply}
 use Rattle.esx_replies.specs.Replies.{reply_text}
 use Rattle.esx_session.specs.declared.session.Entry.{Entry}
 use Rattle.esx_check.specs.declared.check.Checked.TheVariants.{Differs}

@@ -1,5 +1,5 @@
 -- What a check knows on its way through a text, and at its end.
-use Rattle.std.proofs.Common.{◌≡◌, ℕ, ◌+◌, List, [], ◌∷◌, ◌++◌, sym, ◌∙◌, ap, refl, append_assoc, append-nil, length}
+use Rattle.std.proofs.Common.{◌≡◌, ℕ, ◌+◌, List, [], ◌∷◌, ◌++◌, ◌∙◌, ap, refl, append_assoc, append-nil, length}
 use Rattle.esx_types.specs.declared.config.Config.{Config}
 use Rattle.esx_model.specs.Console.{next_reply, lined}
 use Rattle.esx_console.specs.Calls.{opened_session}
