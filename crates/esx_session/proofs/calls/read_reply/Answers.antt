@@ -1,5 +1,5 @@
 use Rattle.esx_session.proofs.ReplyLemmas.{read_more, takes_reply, lacks_reply, not_empty}
-use Rattle.esx_session.proofs.parse.read_reply.Goals as goal
+use Rattle.esx_session.proofs.calls.read_reply.Goals as goal
 
 pub loop-line-preserved : goal.loop-line-preserved
 loop-line-preserved c =
