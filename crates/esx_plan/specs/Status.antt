@@ -1,6 +1,7 @@
 -- How the program ends.
 use Rattle.std.specs.Prelude.{ℕ, List, Result, Ok, Err, codes}
 use Rattle.esx_types.specs.declared.config.Config.{Config}
+use Rattle.esx_reading.specs.declared.fault.TextFault.{TextFault}
 use Rattle.esx_reading.specs.declared.fault.TextFault.TheVariants as text
 use Rattle.esx_text.specs.declared.fault.ServeFault.TheVariants.{Read, Write, OutOfMemory}
 use Rattle.esx_session.specs.declared.session.Entry.{Entry}
@@ -28,6 +29,16 @@ status_of (Output output.OutOfMemory) = 3
 status_of (Run (run.Refused e)) = 1
 status_of (Run run.Write) = 1
 status_of (Run run.OutOfMemory) = 3
+
+-- a fault of a text, of which this holds
+abbrev pub OfText : (TextFault → Type 0) → Failure → Type 0
+OfText P (Text e) = P e
+OfText P _ = ⊥
+
+-- a fault of what is written
+abbrev pub OfOutput : Failure → Type 0
+OfOutput (Output e) = Unit {0}
+OfOutput _ = ⊥
 
 -- after words that ask for nothing
 abbrev pub status_of_words : WordsFault → ℕ
