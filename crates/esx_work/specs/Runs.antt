@@ -17,7 +17,7 @@ pub record CanRun (desk : LockView) (p : Known) : Type 0 where
   pub is_of : IsOf desk p
   pub below : (k : ℕ) → has p.view.ids k ≡ true → k < desk.callers
 
--- the gate was passed for these lines of a worker's run, once before each call, and is another one after them
+-- the gate before these lines of a worker's run, which became some gate after them
 abbrev pub GatedBy : {G : Type 0} → (G → ℕ → Bool → G → Type 0) → G → Worker → ℕ → End → List Line → Type 0
 GatedBy {G} passes gate w turns end lines = (after : G) × IsGated passes gate after w turns end lines
 
