@@ -5,12 +5,12 @@ ghost use Rattle.std.specs.Prelude.{◌≡◌, ℕ, List, Option, Some, None, Er
 ghost use Rattle.std.specs.Process.{exit_status};
 ghost use Rattle.std.specs.Vec.Iter.{into_iter_items};
 ghost use Rattle.esx_types.specs.Ranges.{IsConfig};
-ghost use Rattle.esx_reading.specs.Whole.{IsOfReading};
+ghost use Rattle.esx_reading.specs.Whole.{GivesWhole, IsOfReading, IsOfText};
 ghost use Rattle.esx_plan.specs.Failing.{DoesAsked, EndsWith, FailsAfter, MayFail, refused_as};
 ghost use Rattle.esx_plan.specs.Given.{GivesWords, open_fault, opened_as, words_failure};
 ghost use Rattle.esx_plan.specs.Opening.{IsNoSite, IsScenarioOf, IsSiteOf};
 ghost use Rattle.esx_plan.specs.Sessions.{IsNoSession, IsSessionOf};
-ghost use Rattle.esx_plan.specs.Status.{status_of, status_of_words, status_of_end, word_of_done, IsCheckOf, OfOutput, OfText};
+ghost use Rattle.esx_plan.specs.Status.{status_of, status_of_words, status_of_end, word_of_done, IsCheckOf, NotChecked, OfText};
 ghost use Rattle.esx_plan.specs.Words.{word_and_file};
 
 mod ends;
@@ -25,7 +25,7 @@ mod streams;
 mod words;
 
 use esx_check::{Checked, OutputFault};
-use esx_reading::TextFault;
+use esx_reading::{TextFault, read_text_of};
 use esx_scenario::Scenario;
 use esx_session::Session;
 use esx_text::ServeFault;
@@ -33,7 +33,7 @@ use esx_types::Config;
 use opening::{scenario_of_reader, site_of_reader};
 use progress::{Progress, Watched};
 use running::{RunFault, run_to};
-use session::{check_to, replay_to, session_of_reader, status_of_check};
+use session::{check_watched, replay_to, session_of_reader, status_of_check, tell_check_to};
 use std::alloc::{AllocGlobal, Global};
 use std::env::{self, Args, Env};
 use std::fs;
@@ -208,6 +208,15 @@ fn session_of_file<R: Files + AllocGlobal>(rt: &R, path: &str) -> Result<Session
     session_of_reader(rt.alloc(), file).map_err(Failure::Text)
 }
 
+/// The text in a file.
+fn text_of_file<R: Files + AllocGlobal>(rt: &R, path: &str) -> Result<String, Failure>
+    ensures text { IfOk result (λ s. (given left : Option (List ℕ)) × GivesWhole given left (string_bytes s)) }
+    ensures fault { IfErr result (OfText IsOfText) }
+{
+    let file = opened(rt, path).map_err(Failure::Text)?;
+    read_text_of(rt.alloc(), file).map_err(Failure::Text)
+}
+
 /// Serves the standard input to the standard output, at the site of a scenario if a file is named.
 fn run_console<R: Files + Input + Print + AllocGlobal>(
     rt: &R,
@@ -273,24 +282,24 @@ fn run_replay<R: Files + Print + AllocGlobal>(
     }
 }
 
-/// Checks a session, and tells on the standard output what came of it.
+/// Checks the session of a text, and tells on the standard output what came of it.
 fn check_told<R: Print + AllocGlobal>(
     rt: &R,
     errors: &Stderr,
-    session: Session,
+    text: &str,
 ) -> Result<Done, Failure>
-    requires { IsConfig session.site }
-    ensures checks { IfOk result (IsCheckOf session.site session.entries) }
+    ensures checks { IfOk result (IsCheckOf text.now) }
     ensures word { IfOk result (λ done. word_of_done done ≡ codes "check") }
-    ensures failure { IfErr result OfOutput }
+    ensures failure { IfErr result (NotChecked text.now) }
 {
-    match check_to(rt.alloc(), session, terminal(errors), io::writer(rt)).ended {
-        Ok(checked) => Ok(Done::Checked(checked)),
+    let checked = check_watched(rt.alloc(), text, terminal(errors)).map_err(Failure::Text)?;
+    match tell_check_to(rt.alloc(), checked, io::writer(rt)).ended {
+        Ok(()) => Ok(Done::Checked(checked)),
         Err(fault) => Err(Failure::Output(fault)),
     }
 }
 
-/// Checks the session in a file.
+/// Checks the session in a file, while its text is read.
 fn run_check<R: Files + Print + AllocGlobal>(
     rt: &R,
     errors: &Stderr,
@@ -299,8 +308,8 @@ fn run_check<R: Files + Print + AllocGlobal>(
     ensures word { IfOk result (λ done. word_of_done done ≡ codes "check") }
     ensures failure { IfErr result (MayFail (codes "check", Some path.now)) }
 {
-    let session = session_of_file(rt, path)?;
-    check_told(rt, errors, session)
+    let text = text_of_file(rt, path)?;
+    check_told(rt, errors, text.as_str())
 }
 
 /// Does what is asked for.
