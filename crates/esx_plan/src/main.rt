@@ -283,11 +283,7 @@ fn run_replay<R: Files + Print + AllocGlobal>(
 }
 
 /// Checks the session of a text, and tells on the standard output what came of it.
-fn check_told<R: Print + AllocGlobal>(
-    rt: &R,
-    errors: &Stderr,
-    text: &str,
-) -> Result<Done, Failure>
+fn check_told<R: Print + AllocGlobal>(rt: &R, errors: &Stderr, text: &str) -> Result<Done, Failure>
     ensures checks { IfOk result (IsCheckOf text.now) }
     ensures word { IfOk result (λ done. word_of_done done ≡ codes "check") }
     ensures failure { IfErr result (NotChecked text.now) }

@@ -55,11 +55,7 @@ pub fn check_watched<P: Print>(
 }
 
 /// Writes what a check came to as a line.
-fn tell_check<W: Sink>(
-    alloc: Global,
-    checked: Checked,
-    writer: &mut W,
-) -> Result<(), OutputFault>
+fn tell_check<W: Sink>(alloc: Global, checked: Checked, writer: &mut W) -> Result<(), OutputFault>
     ensures told { OnOk result (Appends (W.contents writer.old) (W.contents writer.new) (checked_text checked)) }
     ensures fault { IfErr result (λ e. CheckStops e checked (W.contents writer.old) (W.contents writer.new)) }
     ensures failures { W.failures writer.new ≡ W.failures writer.old + write_faults result }

@@ -152,7 +152,8 @@ fn a_full_disk(rt: HostRuntime) {
 #[test]
 fn a_bad_line_behind_a_difference(rt: HostRuntime) {
     let alloc = rt.alloc();
-    let text = "esx session 1\nframes 20 page 16 slots 8 tau 75 levels 6 4 2 1 nodes 16777216\n0 sum\n= ok\nend 2\n";
+    let text =
+        "esx session 1\nframes 20 page 16 slots 8 tau 75 levels 6 4 2 1 nodes 16777216\n0 sum\n= ok\nend 2\n";
     let to: Option<&Screen> = None;
     assert_eq!(rt; check_watched(alloc, text, to), Err(TextFault::BadLine(5)));
 }

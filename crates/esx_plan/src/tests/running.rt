@@ -44,7 +44,10 @@ fn a_run(rt: HostRuntime) -> Result<(), Fail> {
     let Ok(text) = String::from_utf8(ran.writer) else {
         return Err(Fail::new("a text"));
     };
-    assert_eq!(rt; check_watched(alloc, text.as_str(), to), Ok(Checked::Same(32)));
+    assert_eq!(rt;
+        check_watched(alloc, text.as_str(), to),
+        Ok(Checked::Same(32))
+    );
     Ok(())
 }
 
