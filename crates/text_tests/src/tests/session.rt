@@ -81,10 +81,10 @@ fn a_session(rt: HostRuntime) -> Result<(), Fail> {
 
 /// The calls of a text, none of which is read yet.
 fn calls_of(text: &str) -> Result<Calls<'_>, Fail> {
-    match open_calls(text) {
-        Ok((site, calls)) if site == SITE => Ok(calls),
-        _ => Err(Fail::new("the opening")),
-    }
+    let Ok((_, calls)) = open_calls(text) else {
+        return Err(Fail::new("the opening"));
+    };
+    Ok(calls)
 }
 
 /// The calls of a text come one by one, and behind them the end, as often as it is asked for.
