@@ -1,6 +1,6 @@
 //! What an access changes of its machine's row where a sample period is open.
 
-ghost use Rattle.std.specs.Prelude.{◌≡◌, ◌≤◌, ◌<◌, ◌++◌, ◌∷◌, [], length, map, count_by, OnOk, IfOk};
+ghost use Rattle.std.specs.Prelude.{◌≡◌, ◌≤◌, ◌<◌, ◌+◌, ◌++◌, ◌∷◌, [], length, map, count_by, vec_capacity, OnOk, IfOk};
 ghost use Rattle.esx_tables.specs.declared.change.Change.TheVariants.{OfVm};
 ghost use Rattle.esx_average.specs.Means.{Means};
 ghost use Rattle.esx_changes.specs.Counted.{is_first, is_touched_by, turned_from, period_parts, counted_parts, IsOpen, IsOpenOf};
@@ -72,7 +72,8 @@ pub fn room(
 ) -> Result<Vec<Change>, AllocError>
     requires few { others < 8 }
     requires period { IsOpenOf row.now }
-    ensures { IfOk result (λ changes. changes.items ≡ []) }
+    ensures empty { IfOk result (λ changes. changes.items ≡ []) }
+    ensures room { IfOk result (λ changes. vec_capacity changes ≡ others + length (counted_parts row.now page)) }
 {
     Vec::with_capacity(alloc, others + counted_len(row, page))
 }

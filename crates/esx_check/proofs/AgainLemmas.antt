@@ -5,6 +5,7 @@ use Rattle.esx_types.specs.declared.config.Config.{Config}
 use Rattle.esx_events.specs.declared.call.Line.{Line}
 use Rattle.esx_model.specs.Console.{Session, next_reply, lined}
 use Rattle.esx_console.specs.Calls.{Asked, opened_session, lined_all}
+use Rattle.esx_console.specs.Unlogged.{Kept, AnswersAs}
 use Rattle.esx_replies.specs.Replies.{reply_text}
 use Rattle.esx_session.specs.declared.session.Entry.{Entry}
 use Rattle.esx_check.specs.Again.{asked, made, replies_again}
@@ -47,6 +48,13 @@ unfolding made
 made_more site done e =
     ap (lined_all (opened_session site)) (map-append asked done (e ∷ [])) ∙ all_split (opened_session site) (map asked done) (asked e ∷ [])
     ∙ all_one (lined_all (opened_session site) (map asked done)) (asked e)
+
+-- what answers as these calls left it, and then as one more does
+pub first_again : (site : Config) (kept : Kept) → AnswersAs kept (opened_session site) → AnswersAs kept (made site [])
+first_again site kept answers = rw made_nothing answers
+
+pub again_more : (site : Config) (done : List Entry) (e : Entry) (kept : Kept) → AnswersAs kept (lined (made site done) e.caller e.call) → AnswersAs kept (made site (done ++ e ∷ []))
+again_more site done e kept answers = rw (made_more site done e) answers
 
 -- the text of a line's reply
 abbrev pub text_of : Line → List ℕ

@@ -4,8 +4,7 @@ use Rattle.std.proofs.Math.Seq.{take-append_seam}
 use Rattle.std.proofs.lemmas.List.{map-append, length-map, length-append}
 use Rattle.std.specs.Prelude.{slice_get}
 use Rattle.esx_types.specs.declared.config.Config.{Config}
-use Rattle.esx_events.specs.declared.call.Call.{Call}
-use Rattle.esx_model.specs.Console.{Session, next_reply}
+use Rattle.esx_model.specs.Console.{next_reply}
 use Rattle.esx_replies.specs.Replies.{reply_text}
 use Rattle.esx_session.specs.declared.session.Entry.{Entry}
 use Rattle.esx_check.specs.declared.check.Checked.TheVariants.{Differs}
@@ -20,14 +19,9 @@ same_more site done e same is =
     replies_more site done e ∙ ap (λ v. v ++ reply_text (next_reply (made site done) e.call) ∷ []) same
     ∙ ap (λ r. replies_told done ++ r ∷ []) is ∙ sym (map-append (λ (x : Entry). x.reply) done (e ∷ []))
 
--- what a console that is the one of the calls so far replies
-pub reply_is : (s t : Session) (call : Call) (told : List ℕ) → s ≡ t → reply_text (next_reply s call) ≡ told → reply_text (next_reply t call) ≡ told
-reply_is s t call told e is = rw e at is
-
-pub reply_is_not : (s t : Session) (call : Call) (told : List ℕ) (same : Bool) → s ≡ t → (IsTrue same ↔ (reply_text (next_reply s call) ≡ told))
-    → same ≡ false → reply_text (next_reply t call) ≡ told → ⊥
-reply_is_not s t call told same e is other h =
-    let yes = is.1 (reply_is t s call told (sym e) h) in cc
+pub is_not : (same : Bool) (P : Type 0) → (IsTrue same ↔ P) → same ≡ false → P → ⊥
+is_not same P is other p =
+    let yes = is.1 p in cc
 
 pub one_longer : (done : List Entry) (e : Entry) → length done + 1 ≡ length (done ++ e ∷ [])
 one_longer done e = sym (length-append done (e ∷ []))

@@ -4,3 +4,4 @@ pub mod CheckLemmas
 pub mod LawLemmas
 pub mod ReplayLemmas
 pub mod NameLemmas
+pub mod TextLemmas

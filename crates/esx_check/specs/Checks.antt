@@ -8,6 +8,7 @@ use Rattle.esx_events.specs.declared.call.Line.{Line}
 use Rattle.esx_model.specs.Console.{Session}
 use Rattle.esx_words.specs.Commands.{IsInRange}
 use Rattle.esx_session.specs.declared.session.Entry.{Entry}
+use Rattle.esx_session.specs.Sessions.{Reads}
 use Rattle.esx_check.specs.declared.check.Checked.{Checked}
 use Rattle.esx_check.specs.declared.check.Checked.TheVariants.{Same, Differs}
 use Rattle.esx_check.specs.Again.{replies_again}
@@ -25,6 +26,10 @@ pub record PartAt (at : ℕ) (replies others : List (List ℕ)) : Type 0 where
 abbrev pub Checks : Config → List Entry → Checked → Type 0
 Checks site entries (Same count) = (count ≡ length entries) × (replies_again site entries ≡ replies_told entries)
 Checks site entries (Differs number) = (at : ℕ) × (number ≡ at + 1) × PartAt at (replies_told entries) (replies_again site entries)
+
+-- the text is that of a session, and a check of the session comes to this
+abbrev pub ChecksText : List ℕ → Checked → Type 0
+ChecksText text checked = (site : Config) × (entries : List Entry) × Reads text site entries × Checks site entries checked
 
 -- a line that tells it
 abbrev pub checked_text : Checked → List ℕ

@@ -1,10 +1,12 @@
 pub use Rattle.esx_types.specs.Ranges
 pub use Rattle.esx_model.specs.Console
 pub use Rattle.esx_console.specs.Calls
+pub use Rattle.esx_console.specs.Unlogged
 pub use Rattle.esx_words.specs.Commands
 pub use Rattle.esx_replies.specs.Replies
 pub use Rattle.esx_replies.specs.Told
 pub use Rattle.esx_session.specs.Sessions
+pub use Rattle.esx_session.specs.Reading
 pub mod Comparing
 pub mod Again
 pub mod Checks

@@ -1,11 +1,18 @@
 //! The console at which a session is gone through again.
 
-ghost use Rattle.std.specs.Prelude.{◌≡◌, IfOk};
+ghost use Rattle.std.specs.Prelude.{◌≡◌, ◌+◌, ◌<◌, ◌≤◌, ◌^◌, ◌↔◌, [], IfOk, OnOk, IsTrue};
 ghost use Rattle.esx_types.specs.Ranges.{IsConfig};
+ghost use Rattle.esx_model.specs.Console.{Session, next_reply, lined};
 ghost use Rattle.esx_console.specs.Calls.{opened_session};
+ghost use Rattle.esx_console.specs.Unlogged.{AnswersAs};
+ghost use Rattle.esx_replies.specs.Replies.{reply_text};
 
-use esx_console::Console;
+use crate::comparing::has_text;
+use esx_console::{Console, Unlogged};
+use esx_door::Gate;
+use esx_session::Entry;
 use esx_types::Config;
+use esx_writing::AnswerBuffer;
 use std::alloc::{AllocError, Global};
 
 /// A console at a good site, which is refused for want of memory alone.
@@ -16,5 +23,48 @@ pub fn opened(alloc: Global, site: Config) -> Result<Console, AllocError>
     match Console::open(alloc, site) {
         Ok(console) => Ok(console),
         Err(_) => Err(AllocError),
+    }
+}
+
+/// A console that keeps no log, and a buffer for the texts of its replies.
+#[derive(Drop)]
+pub struct Again {
+    pub console: Unlogged,
+    pub held: AnswerBuffer,
+}
+
+impl Again {
+    /// At a good site, which is refused for want of memory alone.
+    pub fn open(alloc: Global, site: Config) -> Result<Again, AllocError>
+        requires { IsConfig site }
+        ensures answers { IfOk result (λ again. AnswersAs again.console (opened_session site)) }
+        ensures none { IfOk result (λ again. again.console.jumps ≡ 0) }
+        ensures empty { IfOk result (λ again. again.held ≡ []) }
+    {
+        let held = AnswerBuffer::new(alloc)?;
+        match Unlogged::open(alloc, site) {
+            Ok(console) => Ok(Again { console, held }),
+            Err(_) => Err(AllocError),
+        }
+    }
+
+    /// Passes the gate with the number of a call, makes the call again, and tells whether its reply is the one
+    /// that stands with it. The entry is given back.
+    pub fn has_same_reply<G: Gate>(
+        &mut self,
+        gate: &mut G,
+        number: u64,
+        entry: Entry,
+    ) -> Result<bool, AllocError>
+        requires few { self.old.console.jumps < 2 ^ 63 }
+        requires empty { self.old.held ≡ [] }
+        ensures made { OnOk result ((s : Session) → AnswersAs self.old.console s → AnswersAs self.new.console (lined s entry.caller entry.call)) }
+        ensures same { IfOk result (λ same. (s : Session) → AnswersAs self.old.console s → IsTrue same ↔ (reply_text (next_reply s entry.call) ≡ entry.reply)) }
+        ensures few { OnOk result (self.new.console.jumps ≤ self.old.console.jumps + 1) }
+        ensures empty { IfOk result (λ same. IsTrue same → self.new.held ≡ []) }
+    {
+        gate.pass_through(u32::try_from(number).unwrap_or(u32::MAX));
+        let reply = self.console.call(&entry.call)?;
+        Ok(has_text(&mut self.held, &reply, entry.reply.as_slice()))
     }
 }

@@ -1,19 +1,14 @@
 //! Whether the calls of a session have the replies that stand with them.
 
-ghost use Rattle.std.specs.Prelude.{◌≡◌, ◌+◌, ◌↔◌, [], OnOk, IfOk, IsTrue};
+ghost use Rattle.std.specs.Prelude.{◌≡◌, ◌+◌, [], OnOk, IfOk};
 ghost use Rattle.esx_types.specs.Ranges.{IsConfig};
-ghost use Rattle.esx_model.specs.Console.{next_reply, lined};
-ghost use Rattle.esx_console.specs.Calls.{opened_session};
-ghost use Rattle.esx_replies.specs.Replies.{reply_text};
 ghost use Rattle.esx_writing.specs.Writing.{Writes, sink_faults};
 ghost use Rattle.esx_check.specs.Checks.{Checks, checked_text};
 
-use crate::again::opened;
-use crate::comparing::has_text;
-use esx_console::Console;
+use crate::again::Again;
 use esx_door::{Gate, Open};
 use esx_session::{Entry, Session};
-use esx_types::{Sink, SinkFailed};
+use esx_types::{Config, Sink, SinkFailed};
 use esx_writing::{AnswerBuffer, Piece, write_pieces};
 use std::alloc::{AllocError, Global};
 
@@ -26,42 +21,21 @@ pub enum Checked {
     Differs(u64),
 }
 
-/// Makes the call of an entry again, and tells whether the reply is the one that stands with it.
-fn has_same_reply(
-    console: &mut Console,
-    held: &mut AnswerBuffer,
-    entry: Entry,
-) -> Result<bool, AllocError>
-    requires { held.old ≡ [] }
-    ensures made { IfOk result (λ same. console.new ≡ lined console.old entry.caller entry.call) }
-    ensures same { IfOk result (λ same. IsTrue same ↔ (reply_text (next_reply console.old entry.call) ≡ entry.reply)) }
-    ensures empty { IfOk result (λ same. IsTrue same → held.new ≡ []) }
-{
-    let Entry {
-        caller,
-        call,
-        reply: told,
-    } = entry;
-    let reply = console.call(caller, call)?;
-    Ok(has_text(held, &reply, told.as_slice()))
-}
-
-/// Makes the calls of entries again at a console that was just opened, and passes the gate before each.
+/// Makes the calls of entries again at a site that is opened for them, and passes the gate before each.
 fn check_calls<G: Gate>(
-    console: &mut Console,
-    held: &mut AnswerBuffer,
+    alloc: Global,
+    site: Config,
     entries: Vec<Entry>,
     gate: &mut G,
 ) -> Result<Checked, AllocError>
-    requires opened { console.old ≡ opened_session console.old.site }
-    requires empty { held.old ≡ [] }
-    ensures { IfOk result (Checks console.old.site entries.items) }
+    requires { IsConfig site }
+    ensures { IfOk result (Checks site entries.items) }
 {
+    let mut again = Again::open(alloc, site)?;
     let mut count: u64 = 0;
     for entry in entries {
         count += 1;
-        gate.pass_through(u32::try_from(count).unwrap_or(u32::MAX));
-        if !has_same_reply(console, held, entry)? {
+        if !again.has_same_reply(gate, count, entry)? {
             return Ok(Checked::Differs(count));
         }
     }
@@ -71,8 +45,8 @@ fn check_calls<G: Gate>(
 /// Makes the calls of a session again, in their order and each by its caller, up to the first that has
 /// another reply than the one that stands with it.
 ///
-/// The calls are moved into the console, and replies are compared as they are told, so that no second
-/// session is made.
+/// No log is kept of the calls, and replies are compared as they are told, so that no second session is made.
+/// Each entry is given back once its reply was compared.
 pub fn check_session(alloc: Global, session: Session) -> Result<Checked, AllocError>
     requires { IsConfig session.site }
     ensures { IfOk result (Checks session.site session.entries) }
@@ -90,9 +64,7 @@ pub fn check_session_through<G: Gate>(
     requires { IsConfig session.site }
     ensures { IfOk result (Checks session.site session.entries) }
 {
-    let mut held = AnswerBuffer::new(alloc)?;
-    let mut console = opened(alloc, session.site)?;
-    check_calls(&mut console, &mut held, session.entries.into_vec(), gate)
+    check_calls(alloc, session.site, session.entries.into_vec(), gate)
 }
 
 /// Writes what a check came to as a line, over an empty buffer.

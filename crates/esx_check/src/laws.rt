@@ -1,6 +1,6 @@
 //! Laws of checks. A function here does nothing: its contract is the law.
 
-ghost use Rattle.std.specs.Prelude.{◌≡◌, List, length, map};
+ghost use Rattle.std.specs.Prelude.{◌≡◌, ℕ, List, length, map};
 ghost use Rattle.esx_types.specs.declared.config.Config.{Config};
 ghost use Rattle.esx_model.specs.Console.{Session, IsLegal};
 ghost use Rattle.esx_session.specs.declared.session.Entry.{Entry};
@@ -8,7 +8,7 @@ ghost use Rattle.esx_session.specs.Sessions.{logged, session_text, Reads};
 ghost use Rattle.esx_check.specs.declared.check.Checked.{Checked};
 ghost use Rattle.esx_check.specs.declared.check.Checked.TheVariants.{Same};
 ghost use Rattle.esx_check.specs.Again.{made};
-ghost use Rattle.esx_check.specs.Checks.{Checks, IsPrintable};
+ghost use Rattle.esx_check.specs.Checks.{Checks, ChecksText, IsPrintable};
 
 use esx_replies::laws::told_reply;
 use esx_session::laws::{one_session, read_as_printed};
@@ -17,6 +17,14 @@ use esx_session::laws::{one_session, read_as_printed};
 pub fn one_check()
     ensures { (site : Config) (entries : List Entry) (checked other : Checked) → Checks site entries checked → Checks site entries other → checked ≡ other }
 {}
+
+/// A check of a text comes to one thing.
+pub fn one_text_check()
+    ensures { (text : List ℕ) (checked other : Checked) → ChecksText text checked → ChecksText text other → checked ≡ other }
+{
+    one_session();
+    one_check();
+}
 
 /// What is told of a legal log is the same when it is gone through again.
 pub fn told_log_is_same()
@@ -34,6 +42,13 @@ pub fn printed_log_is_same()
     read_as_printed();
     told_log_is_same();
     one_check();
+}
+
+/// So a check of what is printed of a legal log finds it the same.
+pub fn printed_text_is_same()
+    ensures { (s : Session) (checked : Checked) → IsLegal s → IsPrintable s → ChecksText (session_text s.site (map logged s.log)) checked → checked ≡ Same (length s.log) }
+{
+    printed_log_is_same();
 }
 
 /// A session is the same only where it is what is told of a log: that of a console at which its calls were made.

@@ -1,4 +1,5 @@
 //! Sessions gone through again: whether the calls have the replies that stand with them, and what they have.
+//! A session's text is checked while it is read, with no session held.
 #![tactic(auto)]
 
 mod again;
@@ -7,7 +8,9 @@ mod comparing;
 mod fault;
 pub mod laws;
 mod replay;
+mod text;
 
 pub use check::{Checked, check_session, check_session_through, write_checked};
 pub use fault::OutputFault;
 pub use replay::replay_session;
+pub use text::{check_text, check_text_through};

@@ -5,3 +5,4 @@ mod Reaching
 mod Lines
 mod Refusing
 mod Branches
+mod Unlogging

@@ -1,6 +1,6 @@
 //! One site under one thread, with the log of all that was asked of it.
 
-ghost use Rattle.std.specs.Prelude.{◌≡◌, ◌≢◌, ◌+◌, ◌<◌, ◌≤◌, ◌^◌, if◌then◌else◌, [], length, Ok, IfOk, IfErr, OnErr};
+ghost use Rattle.std.specs.Prelude.{◌≡◌, ◌≢◌, ◌≤◌, [], length, Ok, IfOk, IfErr, OnErr};
 ghost use Rattle.esx_types.specs.Ranges.{IsConfig};
 ghost use Rattle.esx_model.specs.Replay.{replay_of};
 ghost use Rattle.esx_model.specs.History.{here, scene_at, book_at};
@@ -8,7 +8,7 @@ ghost use Rattle.esx_model.specs.Console.{history, next_reply, lined, IsLegal};
 ghost use Rattle.esx_machine.specs.Machine.{Shows, book_in};
 ghost use Rattle.esx_console.specs.Console.{session_gauge};
 
-use crate::hearing::hear;
+use crate::hearing::{counted, hear};
 use esx_events::{Call, Line, Refusal, Reply};
 use esx_journal::Journal;
 use esx_machine::Machine;
@@ -130,12 +130,4 @@ impl Console {
     {
         self.site
     }
-}
-
-/// The count of jumps after one more call.
-fn counted(jumps: u64, jumped: bool) -> u64
-    requires { jumps < 2 ^ 63 }
-    ensures { result ≡ jumps + (if jumped then 1 else 0) }
-{
-    if jumped { jumps + 1 } else { jumps }
 }

@@ -1,6 +1,6 @@
 //! What a journal answers to a call. What is asked by one kind of call stands in a file of its own.
 
-ghost use Rattle.std.specs.Prelude.{◌≡◌, IfOk, OnErr, false};
+ghost use Rattle.std.specs.Prelude.{◌≡◌, ◌+◌, ◌<◌, ◌^◌, if◌then◌else◌, IfOk, OnErr, false};
 ghost use Rattle.esx_model.specs.History.{History};
 ghost use Rattle.esx_events.specs.declared.call.Said.TheVariants as said;
 ghost use Rattle.esx_journal.specs.Journal.{Holds};
@@ -74,4 +74,12 @@ pub fn hear(journal: &mut Journal, alloc: Global, call: &Call) -> Result<Heard, 
         Call::Stand => hear_stand(journal),
         Call::Marks => hear_marks(journal, alloc),
     }
+}
+
+/// The count of jumps after one more call.
+pub fn counted(jumps: u64, jumped: bool) -> u64
+    requires { jumps < 2 ^ 63 }
+    ensures { result ≡ jumps + (if jumped then 1 else 0) }
+{
+    if jumped { jumps + 1 } else { jumps }
 }

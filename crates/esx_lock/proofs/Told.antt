@@ -1,5 +1,5 @@
 -- What several steps tell together.
-use Rattle.std.proofs.Common.{◌≡◌, ◌⊎◌, ◌||◌, Bool, true, false, ℕ, inl, inr, List, [], ◌∷◌, refl, ap, sym, ◌∙◌, subst, Option, Some, None}
+use Rattle.std.proofs.Common.{◌≡◌, ◌≢◌, ◌⊎◌, ◌||◌, ◌+◌, ◌%◌, ◌<◌, Bool, true, false, true≢false, ℕ, inl, inr, List, [], ◌∷◌, refl, ap, sym, ◌∙◌, subst, Option, Some, None, arith}
 use Rattle.atomic_table.specs.Table.{Me, rest}
 use Rattle.esx_types.specs.declared.ids.Ids.{Ids}
 use Rattle.esx_events.specs.declared.call.Line.{Line}
@@ -8,8 +8,8 @@ use Rattle.esx_types.specs.declared.config.Config.{Config}
 use Rattle.esx_lock.specs.declared.view.View.{View}
 use Rattle.esx_lock.specs.Logs.{Follows}
 use Rattle.esx_lock.specs.Words.{bits}
-use Rattle.esx_lock.specs.Plays.{having_seen, having_read, moving, holding, joined, Sees}
-use Rattle.esx_lock.specs.Passes.{Took, Missed, Learns, IsSame, Meet}
+use Rattle.esx_lock.specs.Plays.{having_seen, having_read, having_failed, moving, holding, joined, Sees}
+use Rattle.esx_lock.specs.Passes.{Took, Missed, FoundBusy, Learns, IsSame, Meet}
 use Rattle.esx_lock.proofs.Logs.{follows_trans, follows_self}
 use Rattle.esx_lock.proofs.Keeps.{joined_cases}
 
@@ -83,3 +83,18 @@ module _ {X : Type 0} (site_of : X → Config) (lines : X → List Line) (legal 
 
   pub missed_on : (v u w : View) (word : ℕ) → IsSame v u → Follows v.callers v.ids v.seen u.seen → Missed legal u w word → IsSame v w × Follows v.callers v.ids v.seen w.seen
   missed_on v u w word same f t = ((t.same.0 ∙ same.0, t.same.1 ∙ same.1, t.same.2 ∙ same.2), (learns_on v u w.seen same f t.learnt).0)
+
+  -- a load that found an odd word
+  pub found_held : (me₀ me₁ : Me (Option X) View) (log : List Line) (bit r : ℕ) → me₁ ≡ (having_read (having_seen me₀.0 log) r, me₀.1) → bit < 2 → r ≡ bits (gauge me₀.0.site log) + bit → r % 2 ≡ 1 → FoundBusy gauge me₁.0 r
+  found_held me₀ me₁ log bit r e small word odd =
+      let held : r ≡ bits (gauge me₀.0.site log) + 1 = omega (arith, odd) in
+      subst (λ (v : View). FoundBusy gauge v r) (sym (ap (λ (m : Me (Option X) View). m.0) e)) ((λ _. held), (λ by. absurd (true≢false (sym by))))
+
+  -- an exchange that found another word than the even one that was loaded
+  pub found_other : (me₀ me₁ me₂ : Me (Option X) View) (log : List Line) (bit r again : ℕ) → me₁ ≡ (having_read (having_seen me₀.0 log) r, me₀.1) → bit < 2 → r ≡ bits (gauge me₀.0.site log) + bit → r % 2 ≢ 1
+      → me₂ ≡ (having_failed me₁.0 again, me₁.1) → again ≢ r → FoundBusy gauge me₂.0 again
+  found_other me₀ me₁ me₂ log bit r again e small word even e' other =
+      let v : View = having_failed (having_read (having_seen me₀.0 log) r) again in
+      let free : r ≡ bits (gauge me₀.0.site log) = omega (arith, even) in
+      let view : me₂.0 ≡ v = ap (λ (m : Me (Option X) View). m.0) e' ∙ ap (λ (m : Me (Option X) View). having_failed m.0 again) e in
+      subst (λ (w : View). FoundBusy gauge w again) (sym view) ((λ by. absurd (true≢false by)), (λ _ same. other (same ∙ sym free)))

@@ -1,5 +1,5 @@
 -- What contracts see of a pass.
-use Rattle.std.specs.Prelude.{◌≡◌, ℕ, ◌%◌, ◌<◌, ◌≤◌, ◌⊎◌, true, false, List, [], ◌∷◌, ◌++◌, Some, slice_get}
+use Rattle.std.specs.Prelude.{◌≡◌, ◌≢◌, ℕ, ◌+◌, ◌%◌, ◌<◌, ◌≤◌, ◌⊎◌, true, false, List, [], ◌∷◌, ◌++◌, Some, slice_get}
 use Rattle.atomic_table.specs.Seated.{TableId}
 use Rattle.esx_types.specs.declared.ids.Ids.{Ids}
 use Rattle.esx_events.specs.declared.call.Line.{Line}
@@ -81,6 +81,10 @@ module _ (legal : Config → List Line → Type 0) where
     pub last : w.last ≡ word
     pub how : ((w.by_exchange ≡ false) × (word % 2 ≡ 1)) ⊎ (w.by_exchange ≡ true)
     pub learnt : Learns legal v w.seen
+
+-- The log that the pass has now seen is that of the word that a load found, with the held bit. An exchange that failed found another word than that log's while the lock is free.
+abbrev pub FoundBusy : (Config → List Line → ℕ × Level) → View → ℕ → Type 0
+FoundBusy gauge w word = (w.by_exchange ≡ false → word ≡ bits (gauge w.site w.seen) + 1) × (w.by_exchange ≡ true → word ≢ bits (gauge w.site w.seen))
 
 -- the log is what the pass has seen, and then lines of its own
 abbrev pub Grows : View → List Line → Type 0

@@ -1,10 +1,10 @@
 //! The lock.
 
-ghost use Rattle.std.specs.Prelude.{◌≡◌, ℕ, ◌+◌, ◌^◌, ◌<◌, ◌≤◌, ◌↔◌, ◌&&◌, ◌||◌, not, IsTrue, true, false, [], MatchResult, IfOk, length};
+ghost use Rattle.std.specs.Prelude.{◌≡◌, ℕ, ◌+◌, ◌^◌, ◌<◌, ◌≤◌, ◌↔◌, ◌&&◌, ◌||◌, not, IsTrue, true, false, [], MatchResult, IfOk, IfErr, length};
 ghost use Rattle.esx_types.specs.Ids.{has};
 ghost use Rattle.esx_lock.specs.declared.view.Hold.TheVariants.{Free, Held};
 ghost use Rattle.esx_lock.specs.Words.{bits};
-ghost use Rattle.esx_lock.specs.Passes.{SomeId, IsSame, ReadAsBefore, Learns, Took, Missed, Grows, IsAlike, Meet, IsNew, AreOpened};
+ghost use Rattle.esx_lock.specs.Passes.{SomeId, IsSame, ReadAsBefore, Learns, Took, Missed, FoundBusy, Grows, IsAlike, Meet, IsNew, AreOpened};
 ghost use Rattle.esx_lock.specs.Plays.{with_ids};
 
 use crate::gauged::Gauged;
@@ -111,6 +111,7 @@ impl<V: Gauged> OwnLock<V> {
         requires free { pass.old.view.hold ≡ Free }
         ensures same { (pass.new.table ≡ pass.old.table) × (pass.new.seat ≡ pass.old.seat) }
         ensures told { MatchResult result (λ x. Took V.legal V.gauge_of pass.old.view pass.new.view (V.site x) (V.lines x)) (λ busy. Missed V.legal pass.old.view pass.new.view busy.0) }
+        ensures word { IfErr result (λ busy. FoundBusy V.gauge_of pass.new.view busy.0) }
     {
         let mut seat = replace(&mut pass.badge, Badge::blank()).into_seat();
         let taken = self.try_seat(&mut seat);
@@ -262,6 +263,7 @@ impl<V: Gauged> OwnLock<V> {
         requires some { SomeId seat.old.me.0.ids }
         ensures same { (seat.new.table_id ≡ seat.old.table_id) × (seat.new.id ≡ seat.old.id) × (seat.new.me.1 ≡ []) }
         ensures told { MatchResult result (λ x. Took V.legal V.gauge_of seat.old.me.0 seat.new.me.0 (V.site x) (V.lines x)) (λ word. Missed V.legal seat.old.me.0 seat.new.me.0 word) }
+        ensures word { IfErr result (λ word. FoundBusy V.gauge_of seat.new.me.0 word) }
     {
         let shared = &self.table.shared;
         let found = shared.load::<Looks<V>>(seat, 0);

@@ -12,7 +12,7 @@ use Rattle.esx_check.specs.declared.check.Checked.{Checked}
 use Rattle.esx_check.specs.declared.check.Checked.TheVariants.{Same, Differs}
 use Rattle.esx_check.specs.declared.fault.OutputFault.{OutputFault}
 use Rattle.esx_check.specs.declared.fault.OutputFault.TheVariants as output
-use Rattle.esx_check.specs.Checks.{Checks, checked_text}
+use Rattle.esx_check.specs.Checks.{checked_text}
 
 -- the bytes that were left are a text, and it is that session's
 pub record IsSessionOf (old new : Option (List ℕ)) (text : List ℕ) (site : Config) (entries : List Entry) : Type 0 where
@@ -28,9 +28,9 @@ IsNoSession old new OutOfMemory = Unit {0}
 IsNoSession old new _ = ⊥
 
 -- after a fault of writing a front of what the check came to was written, and nothing where memory ran out
-abbrev pub CheckStops : OutputFault → Config → List Entry → Option (List ℕ) → Option (List ℕ) → Type 0
-CheckStops output.Write site entries old new = (checked : Checked) × Checks site entries checked × WritesFront old new (checked_text checked)
-CheckStops output.OutOfMemory site entries old new = Appends old new []
+abbrev pub CheckStops : OutputFault → Checked → Option (List ℕ) → Option (List ℕ) → Type 0
+CheckStops output.Write checked old new = WritesFront old new (checked_text checked)
+CheckStops output.OutOfMemory checked old new = Appends old new []
 
 -- all that was taken came out, or after a fault of writing a front of it
 abbrev pub GivenOut : OutputFault → Option (List ℕ) → Option (List ℕ) → Type 0

@@ -1,10 +1,10 @@
 -- How the program ends.
 use Rattle.std.specs.Prelude.{ℕ, List, Result, Ok, Err, codes}
-use Rattle.esx_types.specs.declared.config.Config.{Config}
+use Rattle.esx_reading.specs.declared.fault.TextFault.{TextFault}
 use Rattle.esx_reading.specs.declared.fault.TextFault.TheVariants as text
 use Rattle.esx_text.specs.declared.fault.ServeFault.TheVariants.{Read, Write, OutOfMemory}
-use Rattle.esx_session.specs.declared.session.Entry.{Entry}
-use Rattle.esx_check.specs.Checks.{Checks}
+use Rattle.esx_session.specs.Sessions.{IsRefused}
+use Rattle.esx_check.specs.Checks.{ChecksText}
 use Rattle.esx_check.specs.declared.fault.OutputFault.TheVariants as output
 use Rattle.esx_plan.specs.declared.running.RunFault.TheVariants as run
 use Rattle.esx_plan.specs.declared.words.WordsFault.{WordsFault}
@@ -29,6 +29,11 @@ status_of (Run (run.Refused e)) = 1
 status_of (Run run.Write) = 1
 status_of (Run run.OutOfMemory) = 3
 
+-- a fault of a text, of which this holds
+abbrev pub OfText : (TextFault → Type 0) → Failure → Type 0
+OfText P (Text e) = P e
+OfText P _ = ⊥
+
 -- after words that ask for nothing
 abbrev pub status_of_words : WordsFault → ℕ
 status_of_words words.Wrong = 2
@@ -41,10 +46,16 @@ word_of_done Ran = codes "run"
 word_of_done Replayed = codes "replay"
 word_of_done (Checked checked) = codes "check"
 
--- it is a check of that session, and comes to what such a check comes to
-abbrev pub IsCheckOf : Config → List Entry → Done → Type 0
-IsCheckOf site entries (Checked checked) = Checks site entries checked
-IsCheckOf site entries _ = ⊥
+-- it is a check of that text, and comes to what such a check comes to
+abbrev pub IsCheckOf : List ℕ → Done → Type 0
+IsCheckOf text (Checked checked) = ChecksText text checked
+IsCheckOf text _ = ⊥
+
+-- the text was refused so, or what its check came to was not told
+abbrev pub NotChecked : List ℕ → Failure → Type 0
+NotChecked text (Text e) = IsRefused e text
+NotChecked text (Output e) = Unit {0}
+NotChecked text _ = ⊥
 
 -- 0, but 1 where a session differs
 abbrev pub status_of_done : Done → ℕ

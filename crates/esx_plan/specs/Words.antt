@@ -1,7 +1,7 @@
 -- What the program's words ask for.
-use Rattle.std.specs.Prelude.{List, Option, Some, None, codes, option_map, if◌then◌else◌}
+use Rattle.std.specs.Prelude.{◌≡◌, [], List, Option, Some, None, codes, option_map, if◌then◌else◌}
 use Rattle.std.specs.Str.{bytes_eq}
-use Rattle.clap.specs.Words.{App, Row, Text, first_of, new_app, new_rule, subcommand_of, with_rule, with_subcommand}
+use Rattle.clap.specs.Words.{App, Row, Text, fault_of, first_of, new_app, new_rule, subcommand_of, with_rule, with_subcommand}
 use Rattle.esx_plan.specs.declared.words.Asked.{Asked}
 use Rattle.esx_plan.specs.declared.words.Asked.TheVariants.{Console, Run, Replay, Check}
 
@@ -21,6 +21,10 @@ word_and_file (Console file) = (codes "console", option_map (λ f. f.now) file)
 word_and_file (Run file) = (codes "run", Some file.now)
 word_and_file (Replay file) = (codes "replay", Some file.now)
 word_and_file (Check file) = (codes "check", Some file.now)
+
+-- the words say no less and no more than may stand there, and ask for no help
+abbrev pub HaveNoFault : List Text → Type 0
+HaveNoFault words = fault_of program_app words ≡ []
 
 -- what a word and the file behind it ask for: a console needs no file
 abbrev pub asked_by : Text → Option Text → Option (Text × Option Text)

@@ -1,10 +1,16 @@
 //! The program: a console over the standard streams, sessions gone through again, and runs of scenarios.
 #![tactic(auto)]
 
-ghost use Rattle.std.specs.Prelude.{◌≡◌, codes, IfOk};
+ghost use Rattle.std.specs.Prelude.{◌≡◌, ℕ, List, Option, Some, None, Err, codes, map, option_map, string_bytes, IfOk, IfErr};
 ghost use Rattle.std.specs.Process.{exit_status};
+ghost use Rattle.std.specs.Vec.Iter.{into_iter_items};
 ghost use Rattle.esx_types.specs.Ranges.{IsConfig};
-ghost use Rattle.esx_plan.specs.Status.{status_of, status_of_words, status_of_end, word_of_done, IsCheckOf};
+ghost use Rattle.esx_reading.specs.Whole.{GivesWhole, IsOfReading, IsOfText};
+ghost use Rattle.esx_plan.specs.Failing.{DoesAsked, EndsWith, FailsAfter, MayFail, refused_as};
+ghost use Rattle.esx_plan.specs.Given.{GivesWords, open_fault, opened_as, words_failure};
+ghost use Rattle.esx_plan.specs.Opening.{IsNoSite, IsScenarioOf, IsSiteOf};
+ghost use Rattle.esx_plan.specs.Sessions.{IsNoSession, IsSessionOf};
+ghost use Rattle.esx_plan.specs.Status.{status_of, status_of_words, status_of_end, word_of_done, IsCheckOf, NotChecked, OfText};
 ghost use Rattle.esx_plan.specs.Words.{word_and_file};
 
 mod ends;
@@ -19,7 +25,7 @@ mod streams;
 mod words;
 
 use esx_check::{Checked, OutputFault};
-use esx_reading::TextFault;
+use esx_reading::{TextFault, read_text_of};
 use esx_scenario::Scenario;
 use esx_session::Session;
 use esx_text::ServeFault;
@@ -27,9 +33,9 @@ use esx_types::Config;
 use opening::{scenario_of_reader, site_of_reader};
 use progress::{Progress, Watched};
 use running::{RunFault, run_to};
-use session::{check_to, replay_to, session_of_reader, status_of_check};
-use std::alloc::AllocGlobal;
-use std::env::{self, Env};
+use session::{check_watched, replay_to, session_of_reader, status_of_check, tell_check_to};
+use std::alloc::{AllocGlobal, Global};
+use std::env::{self, Args, Env};
 use std::fs;
 use std::io::{self, Eprint, ErrorKind, Input, IsTerminal, Print, Stderr};
 use std::process::ExitCode;
@@ -114,55 +120,101 @@ impl Done {
     }
 }
 
+/// The words that the program was given, held in memory.
+fn held_words(alloc: Global, args: Args) -> Result<Vec<String>, Failure>
+    ensures ok { IfOk result (λ words. words.items ≡ into_iter_items args) }
+    ensures memory { IfErr result (λ e. e ≡ Failure.Text TextFault.OutOfMemory) }
+{
+    match args.collect(alloc) {
+        Ok(words) => Ok(words),
+        Err(_) => Err(Failure::Text(TextFault::OutOfMemory)),
+    }
+}
+
+/// How the program ends where its words could not be read.
+fn failure_of_kind(kind: ErrorKind) -> Failure
+    ensures { result ≡ words_failure kind }
+{
+    match kind {
+        ErrorKind::OutOfMemory => Failure::Text(TextFault::OutOfMemory),
+        _ => Failure::Words,
+    }
+}
+
 /// The words that the program was given, its name first.
-fn all_words<R: Env + AllocGlobal>(rt: &R) -> Result<Vec<String>, Failure> {
-    match env::args(rt) {
-        Ok(words) => match words.collect(rt.alloc()) {
-            Ok(words) => Ok(words),
-            Err(_) => Err(Failure::Text(TextFault::OutOfMemory)),
-        },
-        Err(error) => {
-            if error.kind() == ErrorKind::OutOfMemory {
-                Err(Failure::Text(TextFault::OutOfMemory))
-            } else {
-                Err(Failure::Words)
-            }
-        }
+fn words_of(alloc: Global, given: io::Result<Args>) -> Result<Vec<String>, Failure>
+    ensures { GivesWords given result }
+{
+    match given {
+        Ok(args) => held_words(alloc, args),
+        Err(error) => Err(failure_of_kind(error.kind())),
+    }
+}
+
+/// What is told of a file that could not be opened.
+fn fault_of_kind(kind: ErrorKind) -> TextFault
+    ensures fault { result ≡ open_fault kind }
+    ensures reading { IsOfReading result }
+{
+    match kind {
+        ErrorKind::OutOfMemory => TextFault::OutOfMemory,
+        _ => TextFault::Read,
+    }
+}
+
+/// A file as it was opened.
+fn file_of<F>(opened: io::Result<F>) -> Result<F, TextFault>
+    ensures file { result ≡ opened_as opened }
+    ensures reading { IfErr result IsOfReading }
+{
+    match opened {
+        Ok(file) => Ok(file),
+        Err(error) => Err(fault_of_kind(error.kind())),
     }
 }
 
 /// A file, opened to be read.
-fn opened<R: Files + AllocGlobal>(rt: &R, path: &str) -> Result<R::File, TextFault> {
-    match fs::open(rt, path) {
-        Ok(file) => Ok(file),
-        Err(error) => {
-            if error.kind() == ErrorKind::OutOfMemory {
-                Err(TextFault::OutOfMemory)
-            } else {
-                Err(TextFault::Read)
-            }
-        }
-    }
+fn opened<R: Files + AllocGlobal>(rt: &R, path: &str) -> Result<R::File, TextFault>
+    ensures { IfErr result IsOfReading }
+{
+    file_of(fs::open(rt, path))
 }
 
 /// The site of the scenario in a file.
 fn site_of_file<R: Files + AllocGlobal>(rt: &R, path: &str) -> Result<Config, TextFault>
-    ensures { IfOk result IsConfig }
+    ensures config { IfOk result IsConfig }
+    ensures site { IfOk result (λ config. (given left : Option (List ℕ)) × (text : List ℕ) × IsSiteOf given left text config) }
+    ensures fault { IfErr result (λ e. (given left : Option (List ℕ)) × IsNoSite given left e) }
 {
     site_of_reader(rt.alloc(), opened(rt, path)?)
 }
 
 /// The scenario in a file.
-fn scenario_of_file<R: Files + AllocGlobal>(rt: &R, path: &str) -> Result<Scenario, TextFault> {
+fn scenario_of_file<R: Files + AllocGlobal>(rt: &R, path: &str) -> Result<Scenario, TextFault>
+    ensures scenario { IfOk result (λ scenario. (given left : Option (List ℕ)) × (text : List ℕ) × IsScenarioOf given left text scenario) }
+    ensures fault { IfErr result (λ e. (given left : Option (List ℕ)) × IsNoSite given left e) }
+{
     scenario_of_reader(rt.alloc(), opened(rt, path)?)
 }
 
 /// The session in a file.
 fn session_of_file<R: Files + AllocGlobal>(rt: &R, path: &str) -> Result<Session, Failure>
-    ensures { IfOk result (λ session. IsConfig session.site) }
+    ensures config { IfOk result (λ session. IsConfig session.site) }
+    ensures session { IfOk result (λ session. (given left : Option (List ℕ)) × (text : List ℕ)
+        × IsSessionOf given left text session.site session.entries) }
+    ensures fault { IfErr result (OfText (λ e. (given left : Option (List ℕ)) × IsNoSession given left e)) }
 {
     let file = opened(rt, path).map_err(Failure::Text)?;
     session_of_reader(rt.alloc(), file).map_err(Failure::Text)
+}
+
+/// The text in a file.
+fn text_of_file<R: Files + AllocGlobal>(rt: &R, path: &str) -> Result<String, Failure>
+    ensures text { IfOk result (λ s. (given left : Option (List ℕ)) × GivesWhole given left (string_bytes s)) }
+    ensures fault { IfErr result (OfText IsOfText) }
+{
+    let file = opened(rt, path).map_err(Failure::Text)?;
+    read_text_of(rt.alloc(), file).map_err(Failure::Text)
 }
 
 /// Serves the standard input to the standard output, at the site of a scenario if a file is named.
@@ -170,7 +222,8 @@ fn run_console<R: Files + Input + Print + AllocGlobal>(
     rt: &R,
     file: Option<&str>,
 ) -> Result<Done, Failure>
-    ensures { IfOk result (λ done. word_of_done done ≡ codes "console") }
+    ensures word { IfOk result (λ done. word_of_done done ≡ codes "console") }
+    ensures failure { IfErr result (MayFail (codes "console", option_map (λ f. f.now) file.entry)) }
 {
     let site = match file {
         Some(path) => site_of_file(rt, path).map_err(Failure::Text)?,
@@ -197,7 +250,8 @@ fn run_scenario<R: Files + Print + AllocGlobal + Threads + Wait + Sync>(
     errors: &Stderr,
     path: &str,
 ) -> Result<Done, Failure>
-    ensures { IfOk result (λ done. word_of_done done ≡ codes "run") }
+    ensures word { IfOk result (λ done. word_of_done done ≡ codes "run") }
+    ensures failure { IfErr result (MayFail (codes "run", Some path.now)) }
 {
     let scenario = scenario_of_file(rt, path).map_err(Failure::Text)?;
     let to = terminal(errors);
@@ -214,7 +268,8 @@ fn run_replay<R: Files + Print + AllocGlobal>(
     errors: &Stderr,
     path: &str,
 ) -> Result<Done, Failure>
-    ensures { IfOk result (λ done. word_of_done done ≡ codes "replay") }
+    ensures word { IfOk result (λ done. word_of_done done ≡ codes "replay") }
+    ensures failure { IfErr result (MayFail (codes "replay", Some path.now)) }
 {
     let session = session_of_file(rt, path)?;
     let progress = Progress::new(terminal(errors), None, "bytes of replies");
@@ -227,32 +282,30 @@ fn run_replay<R: Files + Print + AllocGlobal>(
     }
 }
 
-/// Checks a session, and tells on the standard output what came of it.
-fn check_told<R: Print + AllocGlobal>(
-    rt: &R,
-    errors: &Stderr,
-    session: Session,
-) -> Result<Done, Failure>
-    requires { IsConfig session.site }
-    ensures checks { IfOk result (IsCheckOf session.site session.entries) }
+/// Checks the session of a text, and tells on the standard output what came of it.
+fn check_told<R: Print + AllocGlobal>(rt: &R, errors: &Stderr, text: &str) -> Result<Done, Failure>
+    ensures checks { IfOk result (IsCheckOf text.now) }
     ensures word { IfOk result (λ done. word_of_done done ≡ codes "check") }
+    ensures failure { IfErr result (NotChecked text.now) }
 {
-    match check_to(rt.alloc(), session, terminal(errors), io::writer(rt)).ended {
-        Ok(checked) => Ok(Done::Checked(checked)),
+    let checked = check_watched(rt.alloc(), text, terminal(errors)).map_err(Failure::Text)?;
+    match tell_check_to(rt.alloc(), checked, io::writer(rt)).ended {
+        Ok(()) => Ok(Done::Checked(checked)),
         Err(fault) => Err(Failure::Output(fault)),
     }
 }
 
-/// Checks the session in a file.
+/// Checks the session in a file, while its text is read.
 fn run_check<R: Files + Print + AllocGlobal>(
     rt: &R,
     errors: &Stderr,
     path: &str,
 ) -> Result<Done, Failure>
-    ensures { IfOk result (λ done. word_of_done done ≡ codes "check") }
+    ensures word { IfOk result (λ done. word_of_done done ≡ codes "check") }
+    ensures failure { IfErr result (MayFail (codes "check", Some path.now)) }
 {
-    let session = session_of_file(rt, path)?;
-    check_told(rt, errors, session)
+    let text = text_of_file(rt, path)?;
+    check_told(rt, errors, text.as_str())
 }
 
 /// Does what is asked for.
@@ -261,7 +314,8 @@ fn run_asked<R: Files + Input + Print + AllocGlobal + Threads + Wait + Sync>(
     errors: &Stderr,
     asked: Asked,
 ) -> Result<Done, Failure>
-    ensures { IfOk result (λ done. word_of_done done ≡ (word_and_file asked.entry).0) }
+    ensures word { IfOk result (λ done. word_of_done done ≡ (word_and_file asked.entry).0) }
+    ensures failure { IfErr result (MayFail (word_and_file asked.entry)) }
 {
     match asked {
         Asked::Console(file) => run_console(rt, file),
@@ -273,7 +327,8 @@ fn run_asked<R: Files + Input + Print + AllocGlobal + Threads + Wait + Sync>(
 
 /// How the program ends after words that ask for nothing.
 fn failure_of_words(fault: WordsFault) -> Failure
-    ensures { status_of result ≡ status_of_words fault }
+    ensures status { status_of result ≡ status_of_words fault }
+    ensures failure { result ≡ refused_as fault }
 {
     match fault {
         WordsFault::Wrong => Failure::Words,
@@ -281,16 +336,38 @@ fn failure_of_words(fault: WordsFault) -> Failure
     }
 }
 
-/// Does what the words ask for.
+/// Does what the words ask for, the first of which is the program's name.
+fn run_words<R: Files + Input + Print + AllocGlobal + Threads + Wait + Sync>(
+    rt: &R,
+    errors: &Stderr,
+    words: &[String],
+) -> Result<Done, Failure>
+    ensures done { IfOk result (DoesAsked (map string_bytes words.now)) }
+    ensures failure { IfErr result (FailsAfter (map string_bytes words.now)) }
+{
+    match asked_of_words(rt.alloc(), words) {
+        Ok(asked) => run_asked(rt, errors, asked),
+        Err(fault) => Err(failure_of_words(fault)),
+    }
+}
+
+/// Does what the words ask for that the program was given.
+fn run_given<R: Files + Input + Print + AllocGlobal + Threads + Wait + Sync>(
+    rt: &R,
+    errors: &Stderr,
+    given: io::Result<Args>,
+) -> Result<Done, Failure>
+    ensures { EndsWith given result }
+{
+    let words = words_of(rt.alloc(), given)?;
+    run_words(rt, errors, words.as_slice())
+}
+
 fn run<R: Env + Files + Input + Print + AllocGlobal + Threads + Wait + Sync>(
     rt: &R,
     errors: &Stderr,
 ) -> Result<Done, Failure> {
-    let words = all_words(rt)?;
-    match asked_of_words(rt.alloc(), words.as_slice()) {
-        Ok(asked) => run_asked(rt, errors, asked),
-        Err(fault) => Err(failure_of_words(fault)),
-    }
+    run_given(rt, errors, env::args(rt))
 }
 
 /// What the program ends with. Where it ends otherwise than well, the standard error is told why.

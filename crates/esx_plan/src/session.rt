@@ -1,16 +1,17 @@
 //! The session in a file, gone through again.
 
-ghost use Rattle.std.specs.Prelude.{◌≡◌, ◌+◌, ◌≤◌, [], ℕ, List, Option, IfOk, IfErr, OnOk};
+ghost use Rattle.std.specs.Prelude.{◌≡◌, ◌+◌, ◌≤◌, [], ℕ, List, Option, IfOk, IfErr, IsErrOf, OnOk};
 ghost use Rattle.std.specs.Io.KnownBytes.{Appends};
 ghost use Rattle.esx_types.specs.Ranges.{IsConfig};
-ghost use Rattle.esx_check.specs.Checks.{Checks, checked_text};
+ghost use Rattle.esx_session.specs.Sessions.{HasOpening, IsRefused};
+ghost use Rattle.esx_check.specs.Checks.{ChecksText, checked_text};
 ghost use Rattle.esx_check.specs.Replays.{ReplayStops, replay_text, write_faults};
 ghost use Rattle.esx_plan.specs.Sessions.{IsSessionOf, IsNoSession, CheckStops, GivenOut, check_status};
 
 use crate::gates::Counting;
 use crate::outgoing::{Outgoing, Waiting};
 use crate::progress::Progress;
-use esx_check::{Checked, OutputFault, check_session_through, replay_session, write_checked};
+use esx_check::{Checked, OutputFault, check_text_through, replay_session, write_checked};
 use esx_reading::{TextFault, read_text_of};
 use esx_session::{Session, parse_session};
 use esx_types::{Sink, SinkFailed, WriteSink};
@@ -31,83 +32,76 @@ pub fn session_of_reader<R: Read + Drop>(alloc: Global, reader: R) -> Result<Ses
     parse_session(alloc, text.as_str())
 }
 
-/// Checks a session, tells how far the check is, and then writes what comes of it as a line.
-fn tell_check<P: Print, W: Sink>(
+/// Checks the session of a text while it is read, and tells how many of its calls were made to `to`, where there
+/// is one.
+///
+/// A bad line behind a difference is the fault all the same.
+pub fn check_watched<P: Print>(
     alloc: Global,
-    session: Session,
+    text: &str,
     to: Option<&P>,
-    writer: &mut W,
-) -> Result<Checked, OutputFault>
-    requires { IsConfig session.site }
-    ensures checks { IfOk result (Checks session.site session.entries) }
-    ensures told { IfOk result (λ checked. Appends (W.contents writer.old) (W.contents writer.new) (checked_text checked)) }
-    ensures fault { IfErr result (λ e. CheckStops e session.site session.entries (W.contents writer.old) (W.contents writer.new)) }
+) -> Result<Checked, TextFault>
+    ensures checks { IfOk result (ChecksText text.now) }
+    ensures fault { IfErr result (λ e. IsRefused e text.now) }
+    ensures memory { IsErrOf result TextFault.OutOfMemory → HasOpening text.now }
+{
+    let progress = Progress::new(to, None, "calls");
+    let mut gate = Counting {
+        progress: &progress,
+    };
+    let checked = check_text_through(alloc, text, &mut gate);
+    progress.end();
+    checked
+}
+
+/// Writes what a check came to as a line.
+fn tell_check<W: Sink>(alloc: Global, checked: Checked, writer: &mut W) -> Result<(), OutputFault>
+    ensures told { OnOk result (Appends (W.contents writer.old) (W.contents writer.new) (checked_text checked)) }
+    ensures fault { IfErr result (λ e. CheckStops e checked (W.contents writer.old) (W.contents writer.new)) }
     ensures failures { W.failures writer.new ≡ W.failures writer.old + write_faults result }
 {
     let Ok(mut held) = AnswerBuffer::new(alloc) else {
         return Err(OutputFault::OutOfMemory);
     };
-    let progress = Progress::new(to, Some(session.entries.len() as u64), "calls");
-    let mut gate = Counting {
-        progress: &progress,
-    };
-    let checked = check_session_through(alloc, session, &mut gate);
-    progress.end();
-    let Ok(checked) = checked else {
-        return Err(OutputFault::OutOfMemory);
-    };
     match write_checked(writer, &mut held, checked) {
-        Ok(()) => Ok(checked),
+        Ok(()) => Ok(()),
         Err(SinkFailed) => Err(OutputFault::Write),
     }
 }
 
-/// What a check of a session came to, or why it was not told, and the writer as it is then.
+/// How the telling of a check ended, and the writer as it is then.
 #[derive(Drop)]
 pub struct Told<W: Drop> {
-    pub ended: Result<Checked, OutputFault>,
+    pub ended: Result<(), OutputFault>,
     pub writer: W,
 }
 
-fn check_counted<P: Print, W: Write + Drop, L: Ledger>(
+fn tell_counted<W: Write + Drop, L: Ledger>(
     alloc: Global,
-    session: Session,
-    to: Option<&P>,
+    checked: Checked,
     writer: W,
     calls: Blank,
 ) -> Told<W>
-    requires config { IsConfig session.site }
     requires name { calls.name ≡ L.name }
     requires parts { calls.parts ≡ L.parts }
     requires three { 3 ≤ calls.parts }
-    ensures checks { IfOk result.ended (Checks session.site session.entries) }
-    ensures told { IfOk result.ended (λ checked. Appends (W.contents writer) (W.contents result.writer) (checked_text checked)) }
-    ensures fault { IfErr result.ended (λ e. CheckStops e session.site session.entries (W.contents writer) (W.contents result.writer)) }
+    ensures told { OnOk result.ended (Appends (W.contents writer) (W.contents result.writer) (checked_text checked)) }
+    ensures fault { IfErr result.ended (λ e. CheckStops e checked (W.contents writer) (W.contents result.writer)) }
 {
     let mut sink = WriteSink::<W, L>::new(writer, calls);
-    let ended = tell_check(alloc, session, to, &mut sink);
+    let ended = tell_check(alloc, checked, &mut sink);
     Told {
         ended,
         writer: sink.into_writer(),
     }
 }
 
-/// Checks a session, writes what comes of it as a line to a writer of the standard library, and gives the
-/// writer back.
-///
-/// How many calls were made is told to `to`, where there is one.
-pub fn check_to<P: Print, W: Write + Drop>(
-    alloc: Global,
-    session: Session,
-    to: Option<&P>,
-    writer: W,
-) -> Told<W>
-    requires { IsConfig session.site }
-    ensures checks { IfOk result.ended (Checks session.site session.entries) }
-    ensures told { IfOk result.ended (λ checked. Appends (W.contents writer) (W.contents result.writer) (checked_text checked)) }
-    ensures fault { IfErr result.ended (λ e. CheckStops e session.site session.entries (W.contents writer) (W.contents result.writer)) }
+/// Writes what a check came to as a line to a writer of the standard library, and gives the writer back.
+pub fn tell_check_to<W: Write + Drop>(alloc: Global, checked: Checked, writer: W) -> Told<W>
+    ensures told { OnOk result.ended (Appends (W.contents writer) (W.contents result.writer) (checked_text checked)) }
+    ensures fault { IfErr result.ended (λ e. CheckStops e checked (W.contents writer) (W.contents result.writer)) }
 {
-    check_counted::<_, _, Brand>(alloc, session, to, writer, Blank::new(3))
+    tell_counted::<_, Brand>(alloc, checked, writer, Blank::new(3))
 }
 
 /// The status that the program ends with after a check.

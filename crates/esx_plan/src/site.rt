@@ -10,6 +10,7 @@ use esx_console::Console;
 use esx_text::{ServeFault, give_up, serve};
 use esx_types::{Config, Sink, Source};
 use std::alloc::Global;
+use std::mem;
 
 /// Opens a site and serves the commands that are read, as caller 0. Gives the number of lines.
 ///
@@ -39,7 +40,12 @@ pub fn serve_site<R: Source, W: Sink>(
     ensures sent { (IsErrOf result ServeFault.Write → ⊥) → W.waiting writer.new ≡ [] }
 {
     match Console::open(alloc, config) {
-        Ok(mut console) => serve(alloc, &mut console, 0, reader, writer),
+        Ok(mut console) => {
+            let served = serve(alloc, &mut console, 0, reader, writer);
+            // The program ends with its site, and the system takes the memory back as a whole.
+            mem::forget(console);
+            served
+        }
         Err(_) => Err(give_up(writer)),
     }
 }

@@ -1,9 +1,9 @@
 //! The words that the program is given.
 
-ghost use Rattle.std.specs.Prelude.{◌≡◌, ◌⊎◌, Some, None, false, map, option_map, string_bytes, IfOk, IfErr};
+ghost use Rattle.std.specs.Prelude.{◌≡◌, ◌⊎◌, Some, None, false, map, option_map, string_bytes, IfOk, IfErr, OnOk};
 ghost use Rattle.clap.specs.Words.{app_of, takes};
 ghost use Rattle.clap.specs.declared.builder.command.Command.TheViews.{out-Command as fields_of};
-ghost use Rattle.esx_plan.specs.Words.{with_file, program_app, word_and_file, asked_by, asked_in};
+ghost use Rattle.esx_plan.specs.Words.{with_file, program_app, word_and_file, asked_by, asked_in, HaveNoFault};
 
 use clap::error::ErrorKind;
 use clap::{Arg, Command};
@@ -68,6 +68,7 @@ pub fn asked_of_words<'a>(alloc: Global, words: &'a [String]) -> Result<Asked<'a
     ensures ok { IfOk result (λ asked. asked_in (map string_bytes words.now) ≡ Some (word_and_file asked)) }
     ensures refused { IfErr result (λ e. e ≡ WordsFault.Wrong
         → (takes program_app (map string_bytes words.now) ≡ false) ⊎ (asked_in (map string_bytes words.now) ≡ None)) }
+    ensures taken { OnOk result (HaveNoFault (map string_bytes words.now)) }
 {
     let Ok(command) = program(alloc) else {
         return Err(WordsFault::OutOfMemory);

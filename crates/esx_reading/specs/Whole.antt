@@ -1,5 +1,5 @@
 -- What reading a file whole comes to.
-use Rattle.std.specs.Prelude.{ℕ, List, Option, ◌≤◌, ◌<◌, ◌^◌, length}
+use Rattle.std.specs.Prelude.{ℕ, List, Option, ◌≤◌, ◌<◌, ◌+◌, ◌^◌, length}
 use Rattle.std.specs.Io.KnownBytes.{Consumes, IsAtEnd}
 use Rattle.esx_reading.specs.declared.fault.TextFault.{TextFault}
 use Rattle.esx_reading.specs.declared.fault.TextFault.TheVariants.{NotText, Read, OutOfMemory}
@@ -13,6 +13,13 @@ pub record GivesWhole (old new : Option (List ℕ)) (bytes : List ℕ) : Type 0 
 -- the source gave more bytes than a file may have
 abbrev pub GivesMore : Option (List ℕ) → Option (List ℕ) → Type 0
 GivesMore old new = (bytes : List ℕ) × Consumes old new bytes × (2 ^ 26 < length bytes)
+
+-- The source gave no more bytes than a file may have, by reads of which each gave one at least: none found the end.
+pub record GivesOn (old new : Option (List ℕ)) (before after : ℕ) : Type 0 where
+  pub bytes : List ℕ
+  pub given : Consumes old new bytes
+  pub few : length bytes ≤ 2 ^ 26
+  pub each : after ≤ before + length bytes
 
 -- a fault of reading, or want of memory
 abbrev pub IsOfReading : TextFault → Type 0

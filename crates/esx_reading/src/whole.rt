@@ -1,7 +1,8 @@
 //! Files, read whole.
 
 ghost use Rattle.std.specs.Prelude.{◌≡◌, ◌+◌, ◌≤◌, ◌^◌, ◌⊎◌, ℕ, List, Option, length, string_bytes, IfOk, IfErr, IsErrOf, IsUtf8};
-ghost use Rattle.esx_reading.specs.Whole.{GivesWhole, GivesMore, IsOfReading, IsOfText};
+ghost use Rattle.std.specs.Io.KnownBytes.{Consumes};
+ghost use Rattle.esx_reading.specs.Whole.{GivesWhole, GivesMore, GivesOn, IsOfReading, IsOfText};
 
 use crate::fault::TextFault;
 use esx_types::{ReadSource, Source};
@@ -34,6 +35,14 @@ fn read_through<R: Source>(
         ⊎ ((R.failures source.new ≡ R.failures source.old)
         × ((R.calls source.new ≡ R.calls source.old + 2 ^ 26) ⊎ GivesMore (R.remaining source.old) (R.remaining source.new))) }
     ensures no_read_fault { (IsErrOf result TextFault.Read → ⊥) → R.failures source.new ≡ R.failures source.old }
+
+    // Each read gave a byte at least, but for the last where it failed or found the end. Where memory ran out
+    // no read found it.
+    ensures end { IfOk result (λ v. R.calls source.new ≤ R.calls source.old + length v.items + 1) }
+    ensures each { IsErrOf result TextFault.Read → (bytes : List ℕ) × Consumes (R.remaining source.old) (R.remaining source.new) bytes
+        × (R.calls source.new ≤ R.calls source.old + length bytes + 1) }
+    ensures memory { IsErrOf result TextFault.OutOfMemory
+        → GivesOn (R.remaining source.old) (R.remaining source.new) (R.calls source.old) (R.calls source.new) }
 {
     let mut bytes = Vec::new(alloc);
     for _ in 0..READS {
@@ -67,6 +76,14 @@ pub fn read_whole<R: Source>(alloc: Global, source: &mut R) -> Result<Vec<u8>, T
         ⊎ ((R.failures source.new ≡ R.failures source.old)
         × ((R.calls source.new ≡ R.calls source.old + 2 ^ 26) ⊎ GivesMore (R.remaining source.old) (R.remaining source.new))) }
     ensures no_read_fault { (IsErrOf result TextFault.Read → ⊥) → R.failures source.new ≡ R.failures source.old }
+
+    // Each read gave a byte at least, but for the last where it failed or found the end. Where memory ran out
+    // no read found it.
+    ensures end { IfOk result (λ v. R.calls source.new ≤ R.calls source.old + length v.items + 1) }
+    ensures each { IsErrOf result TextFault.Read → (bytes : List ℕ) × Consumes (R.remaining source.old) (R.remaining source.new) bytes
+        × (R.calls source.new ≤ R.calls source.old + length bytes + 1) }
+    ensures memory { IsErrOf result TextFault.OutOfMemory
+        → GivesOn (R.remaining source.old) (R.remaining source.new) (R.calls source.old) (R.calls source.new) }
 {
     let Ok(mut chunk) = vec![in alloc; 0u8; CHUNK] else {
         return Err(TextFault::OutOfMemory);
@@ -86,6 +103,17 @@ pub fn read_text<R: Source>(alloc: Global, source: &mut R) -> Result<String, Tex
         ⊎ ((R.failures source.new ≡ R.failures source.old)
         × ((R.calls source.new ≡ R.calls source.old + 2 ^ 26) ⊎ GivesMore (R.remaining source.old) (R.remaining source.new))) }
     ensures no_read_fault { (IsErrOf result TextFault.Read → ⊥) → R.failures source.new ≡ R.failures source.old }
+
+    // Each read gave a byte at least, but for the last where it failed or found the end. Where memory ran out
+    // no read found it.
+    ensures end { IfOk result (λ s. R.calls source.new ≤ R.calls source.old + length (string_bytes s) + 1) }
+    ensures not_text_end { IsErrOf result TextFault.NotText
+        → (bytes : List ℕ) × GivesWhole (R.remaining source.old) (R.remaining source.new) bytes
+        × (R.calls source.new ≤ R.calls source.old + length bytes + 1) }
+    ensures each { IsErrOf result TextFault.Read → (bytes : List ℕ) × Consumes (R.remaining source.old) (R.remaining source.new) bytes
+        × (R.calls source.new ≤ R.calls source.old + length bytes + 1) }
+    ensures memory { IsErrOf result TextFault.OutOfMemory
+        → GivesOn (R.remaining source.old) (R.remaining source.new) (R.calls source.old) (R.calls source.new) }
 {
     let bytes = read_whole(alloc, source)?;
     match String::from_utf8(bytes) {

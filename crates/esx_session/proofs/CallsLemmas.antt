@@ -12,26 +12,13 @@ use Rattle.esx_events.specs.declared.call.Call.{Call}
 use Rattle.esx_words.specs.Commands.{spelling}
 use Rattle.esx_session.specs.declared.session.Entry.{Entry}
 use Rattle.esx_session.specs.Sessions.{ended, quoted, call_text, entry_text, end_text, IsEntry, IsEnded}
-use Rattle.esx_session.specs.Reading.{Place, HasNoFeed, QuotesNone, LeavesReply, SpellsCall, SpellsNoCall, TakesEntry, LacksEntry, LacksCalls, TellsCalls, BeginsCalls, IsStuck, StopsCalls}
+use Rattle.esx_session.specs.Reading.{Place, HasNoFeed, QuotesNone, LeavesReply, SpellsCall, SpellsNoCall, TakesEntry, LacksEntry, LacksCalls, TellsCalls, BeginsCalls, IsStuck, StopsCalls, SettledLines, AreRead}
 use Rattle.esx_session.proofs.QuoteLemmas.{Closes, AreAscii, NoQuote, begins_quote}
 use Rattle.esx_session.proofs.CallLemmas.{small_caller}
 use Rattle.esx_session.proofs.FeedLemmas.{AllStay, call_stays, both_stay, decimal_stays, known_stay, no_feed, first_digit}
 use Rattle.esx_session.proofs.ReplyLemmas.{ended_more, one_feed}
 use Rattle.esx_session.proofs.EntryLemmas.{call_line_text}
 use Rattle.esx_session.proofs.FrontLemmas.{same_line, closes_ended, are_ascii, call_line, spells_entry, call_line_feed, call_text_is, first_of_call, no_end_call, no_quote_none, Settled, settled, body, same_front}
-
--- no line of a reply follows, where there is a call
-abbrev pub SettledLines : List Entry → List (List ℕ) → Type 0
-SettledLines [] left = Unit {0}
-SettledLines (e ∷ entries) left = LeavesReply left
-
-pub record AreRead (old new : Place) (entries : List Entry) : Type 0 where
-  pub taken : List (List ℕ)
-  pub left : old.left ≡ taken ++ new.left
-  pub passed : new.passed ≡ old.passed + length taken
-  pub text : ended taken ≡ body entries
-  pub range : AllByRecursion IsEntry entries
-  pub next : SettledLines entries new.left
 
 both_entries : (xs ys : List Entry) → AllByRecursion IsEntry xs → AllByRecursion IsEntry ys → AllByRecursion IsEntry (xs ++ ys)
 both_entries [] ys p q = q

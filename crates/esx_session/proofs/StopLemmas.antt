@@ -1,5 +1,5 @@
 -- Where a text stops being a session.
-use Rattle.std.proofs.Common.{◌⊎◌, ◌≡◌, ◌≤◌, ◌+◌, ℕ, List, [], ◌∷◌, ◌++◌, length, take, drop, arith, refl, sym, ap, ◌∙◌, append_assoc, append-nil, length-append, inl, inr, Result, Err}
+use Rattle.std.proofs.Common.{◌⊎◌, ◌≡◌, ◌≤◌, ◌+◌, ℕ, List, [], ◌∷◌, ◌++◌, length, take, drop, arith, refl, sym, ap, ◌∙◌, append_assoc, append-nil, length-append, inl, inr}
 use Rattle.std.proofs.lemmas.List.{take-append-le, take-append-drop}
 use Rattle.std.proofs.Math.Seq.{take-append_seam}
 use Rattle.std.specs.Str.Lines.{lines}
@@ -8,7 +8,7 @@ use Rattle.esx_types.specs.declared.config.Config.{Config}
 use Rattle.esx_reading.specs.declared.fault.TextFault.{TextFault}
 use Rattle.esx_reading.specs.declared.fault.TextFault.TheVariants.{NotToml, BadKey, BadLine, NotText, Differs, Read, Write, OutOfMemory}
 use Rattle.esx_session.specs.declared.session.Entry.{Entry}
-use Rattle.esx_session.specs.Sessions.{ended, end_text, Tells, TellsNone, Begins, StopsAt, IsRefused}
+use Rattle.esx_session.specs.Sessions.{ended, end_text, Tells, Reads, TellsNone, Begins, StopsAt, IsRefused}
 use Rattle.esx_session.specs.Reading.{Place, HasNoFeed, head_line, calls_text, TellsCalls, IsStuck, StopsCalls, LacksCalls, LacksHead, LacksSite, LacksOpening}
 use Rattle.esx_session.proofs.FeedLemmas.{known_stay, no_feed}
 use Rattle.esx_session.proofs.FrontLemmas.{same_line}
@@ -51,6 +51,9 @@ tells_session site told entries range is = record {
   range = record { opened = range; each = is.range };
   same = ap (λ t. head_line ++ 10 ∷ t) (append_assoc (site_line site) (10 ∷ []) (ended told)) ∙ ap (λ t. head_line ++ 10 ∷ (site_line site ++ 10 ∷ t)) is.same ∙ sym (session_lines site entries);
 }
+
+pub reads_calls : (text : List ℕ) (site : Config) (told : List (List ℕ)) (entries : List Entry) → IsConfig site → lines text ≡ head_line ∷ site_line site ∷ told → TellsCalls told entries → Reads text site entries
+reads_calls text site told entries range whole is = rw whole (tells_session site told entries range is)
 
 -- the least session
 abbrev least_site : Config
@@ -152,7 +155,3 @@ no_session (Differs k) text site at range whole two h = absurd h
 no_session Read text site at range whole two h = absurd h
 no_session Write text site at range whole two h = absurd h
 no_session OutOfMemory text site at range whole two h = tt
-
--- the exit of a `?` that hands on want of memory
-pub for_memory : {T : Type 0} (r : Result T TextFault) (e f : TextFault) → r ≡ Err e → e ≡ f → r ≡ Err OutOfMemory → f ≡ OutOfMemory
-for_memory r e f is same m = cc

@@ -2,6 +2,7 @@
 use Rattle.std.specs.Prelude.{ℕ, List, [], ◌∷◌, ◌++◌, ◌+◌, ◌≡◌, ◌<◌, ◌^◌, ◌⊎◌, codes, decimal, length, flat_map}
 use Rattle.std.specs.List.{AllByRecursion}
 use Rattle.std.specs.Str.{IsAscii}
+use Rattle.std.specs.Str.Lines.{lines}
 use Rattle.esx_types.specs.Ranges.{IsConfig}
 use Rattle.esx_types.specs.declared.config.Config.{Config}
 use Rattle.esx_types.specs.declared.config.TheConstants.{CALLERS}
@@ -108,6 +109,20 @@ pub record TellsCalls (told : List (List ℕ)) (entries : List Entry) : Type 0 w
 abbrev pub BeginsCalls : List (List ℕ) → Type 0
 BeginsCalls told = (later : List (List ℕ)) × (entries : List Entry) × TellsCalls (told ++ later) entries
 
+-- no line of a reply follows, where there is a call
+abbrev pub SettledLines : List Entry → List (List ℕ) → Type 0
+SettledLines [] left = Unit {0}
+SettledLines (e ∷ entries) left = LeavesReply left
+
+-- between two places stand the lines of these calls, and no more of the last reply behind them
+pub record AreRead (old new : Place) (entries : List Entry) : Type 0 where
+  pub taken : List (List ℕ)
+  pub left : old.left ≡ taken ++ new.left
+  pub passed : new.passed ≡ old.passed + length taken
+  pub text : ended taken ≡ flat_map entry_text entries
+  pub range : AllByRecursion IsEntry entries
+  pub next : SettledLines entries new.left
+
 -- behind some lines the next cannot stand, or they cannot end
 abbrev pub IsStuck : List (List ℕ) → List (List ℕ) → Type 0
 IsStuck front [] = (entries : List Entry) → TellsCalls front entries → ⊥
@@ -139,6 +154,20 @@ LacksHead (line ∷ lines) = HasNoFeed line × (line ≡ head_line → ⊥)
 abbrev pub LacksSite : List (List ℕ) → Type 0
 LacksSite [] = Unit {0}
 LacksSite (line ∷ lines) = HasNoFeed line × ((site : Config) → SpellsSite line site → ⊥)
+
+-- a reader of calls: where it is in the lines, and how many calls it has given
+pub record Reader : Type 0 where
+  pub at : Place
+  pub count : ℕ
+
+-- The text begins with the opening of this site and with these calls; the reader is behind them, and has counted them.
+pub record Follows (text : List ℕ) (site : Config) (done : List Entry) (reader : Reader) : Type 0 where
+  pub range : IsConfig site
+  pub start : Place
+  pub opening : lines text ≡ head_line ∷ joined (site_words site) ∷ start.left
+  pub passed : start.passed ≡ 2
+  pub read : AreRead start reader.at done
+  pub count : reader.count ≡ length done
 
 -- the first two lines of a session, and which of them is wrong
 abbrev pub LacksOpening : TextFault → List (List ℕ) → Type 0

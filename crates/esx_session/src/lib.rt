@@ -2,6 +2,7 @@
 //! answered.
 #![tactic(auto)]
 
+mod calls;
 pub mod laws;
 mod line;
 mod parse;
@@ -10,6 +11,7 @@ mod printing;
 pub mod session;
 mod site;
 
+pub use calls::{Calls, open_calls};
 pub use parse::parse_session;
 pub use printing::{print_session, put_session, write_session};
 pub use session::{Entry, Session};

@@ -64,11 +64,11 @@ pub fn reply_of(line: &str) -> Option<&str>
 }
 
 /// Whether the line is the last of a session of so many calls.
-pub fn is_end(line: &str, count: usize) -> bool
+pub fn is_end(line: &str, count: u64) -> bool
     ensures { IsTrue result ↔ (line.now ≡ codes "end " ++ decimal count) }
 {
     match line.strip_prefix("end ") {
-        Some(number) => number_of(number) == Some(count as u64),
+        Some(number) => number_of(number) == Some(count),
         None => false,
     }
 }

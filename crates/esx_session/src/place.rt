@@ -75,6 +75,17 @@ impl<'a> Place<'a> {
         self.passed
     }
 
+    /// The same place, to look ahead from.
+    pub fn ahead(&self) -> Place<'a>
+        ensures value { result ≡ self.now }
+        ensures bound { self.now.passed ≤ 2 ^ 63 }
+    {
+        Place {
+            rest: self.rest,
+            passed: self.passed,
+        }
+    }
+
     /// The next line, which is passed.
     pub fn next(&mut self) -> Option<&'a str>
         ensures left { MatchOption result ((self.old.left ≡ []) × (self.new ≡ self.old)) (λ line. self.old.left ≡ line.now ∷ self.new.left) }
@@ -107,10 +118,7 @@ impl<'a> Place<'a> {
         if !begins_reply(self.rest) {
             return None;
         }
-        let mut ahead = Place {
-            rest: self.rest,
-            passed: self.passed,
-        };
+        let mut ahead = self.ahead();
         let text = reply_of(ahead.next()?)?;
         *self = ahead;
         Some(text)

@@ -1,5 +1,5 @@
 -- What threads give back, and what their passes know together.
-use Rattle.std.proofs.Common.{◌≡◌, ◌⊎◌, ◌<◌, ◌≤◌, ℕ, zero, suc, ◌+◌, ◌||◌, Bool, true, false, List, [], ◌∷◌, ◌++◌, length, length-append, append_assoc, append-nil, slice_get, slice_index, get_or, remove, Option, Some, None, Result, Ok, Err, IfOk, refl, sym, ap, ◌∙◌, subst, inl, inr, ⊎_elim, arith}
+use Rattle.std.proofs.Common.{◌≡◌, ◌⊎◌, ◌<◌, ◌≤◌, ℕ, zero, suc, ◌+◌, ◌||◌, Bool, true, false, List, [], ◌∷◌, ◌++◌, length, length-append, append_assoc, append-nil, slice_get, get_or, remove, Option, Some, None, Result, Ok, Err, IfOk, refl, sym, ap, ◌∙◌, subst, inl, inr, ⊎_elim, arith}
 use Rattle.std.specs.Option.{option_to_list}
 use Rattle.std.proofs.lemmas.Option.{slice_get_cases, slice_get_within, slice_get-get_or, slice_get_read}
 use Rattle.std.proofs.lemmas.List.{append_cancel_left}
@@ -17,11 +17,11 @@ use Rattle.esx_desk.specs.Told.{IsOf}
 use Rattle.esx_work.specs.declared.run.Finished.{Finished}
 use Rattle.esx_workers.specs.declared.end.End.{End}
 use Rattle.esx_workers.specs.declared.worker.Worker.{Worker}
-use Rattle.esx_workers.specs.Runs.{IsRun, Ended}
+use Rattle.esx_workers.specs.Runs.{IsRun, Ended, Gated, IsGated}
 use Rattle.esx_door.specs.Own.{lines_of}
 use Rattle.esx_work.specs.Doors.{IsReady, Leads}
 use Rattle.esx_work.specs.Growth.{callers_joined}
-use Rattle.esx_work.specs.Runs.{CanRun, Ran, AllEnded, IsReturned, AreReturned, AreOwn, Knows, RunsOn}
+use Rattle.esx_work.specs.Runs.{CanRun, Ran, GatedBy, AllEnded, IsReturned, AreReturned, AreOwn, Knows, RunsOn}
 use Rattle.esx_work.proofs.Owns.{lines_append, lines_of_others, least_same, below_others}
 
 module _ {A E : Type 0} where
@@ -32,20 +32,28 @@ module _ {A E : Type 0} where
   pub if_ok_at : (P : A → Type 0) (r : Result A E) (a : A) → r ≡ Ok a → IfOk r P → P a
   if_ok_at P r a e p = subst (λ (x : Result A E). IfOk x P) e p
 
--- one worker, through its door
-pub one_ran : (let_through : Type 0) (desk desk' : LockView) (p : Known) (f : Finished) (k j : ℕ) (w : Worker) (turns : ℕ) → IsReady desk p k → IsReady desk' f.pass j → Leads desk desk' p f.pass
-    → IfOk f.ended (λ end. Ended let_through k w turns end (lines_of k p.view.seen) (lines_of k f.pass.view.seen)) → Ran let_through desk p w turns f
-one_ran let_through desk desk' p f k j w turns ready ready' leads sent =
-    let later : List Line = leads.grown.0 in record {
+-- the lines of a caller that a log went on with
+went_on : (k : ℕ) (seen later seen' lines : List Line) → seen ++ later ≡ seen' → lines_of k seen' ≡ lines_of k seen ++ lines → lines ≡ lines_of k later
+went_on k seen later seen' lines grown more = sym (append_cancel_left (lines_of k seen) (lines_of k later) lines (sym (lines_append k seen later) ∙ (ap (lines_of k) grown ∙ more)))
+
+-- one worker, through its door and its gate
+pub one_ran : {G : Type 0} (is_open : G → Type 0) (passes : G → ℕ → Bool → G → Type 0) (gate after : G) (desk desk' : LockView) (p : Known) (f : Finished) (k j : ℕ) (w : Worker) (turns : ℕ) → IsReady desk p k → IsReady desk' f.pass j → Leads desk desk' p f.pass
+    → IfOk f.ended (λ end. Ended (is_open gate) k w turns end (lines_of k p.view.seen) (lines_of k f.pass.view.seen)) → IfOk f.ended (λ end. Gated passes gate after w turns end (lines_of k p.view.seen) (lines_of k f.pass.view.seen))
+    → Ran is_open passes gate desk p w turns f
+one_ran is_open passes gate after desk desk' p f k j w turns ready ready' leads sent gated =
+    let later : List Line = leads.grown.0 in
+    let old : List Line = lines_of k p.view.seen in
+    let new : List Line = lines_of k f.pass.view.seen in
+    let are : (lines : List Line) → new ≡ old ++ lines → lines ≡ lines_of k later = λ lines more. went_on k p.view.seen later f.pass.view.seen lines leads.grown.1 more in record {
       is_of = subst (λ (d : LockView). IsOf d f.pass) leads.desk_same ready'.0;
       same = leads.same;
       later = later;
       grown = leads.grown.1;
       below = leads.grown.2;
-      done = λ i least. let e : k ≡ i = least_same p.view.ids k i ready.1 least in subst (λ (c : ℕ). IfOk f.ended (λ end. IsRun let_through c w turns end (lines_of c later))) e
-          (if_ok_map (λ end. Ended let_through k w turns end (lines_of k p.view.seen) (lines_of k f.pass.view.seen)) (λ end. IsRun let_through k w turns end (lines_of k later))
-          (λ end s. subst (IsRun let_through k w turns end) (sym (append_cancel_left (lines_of k p.view.seen) (lines_of k later) s.lines (sym (lines_append k p.view.seen later) ∙ (ap (lines_of k) leads.grown.1 ∙ s.more)))) s.run)
-          f.ended sent);
+      done = λ i least. let e : k ≡ i = least_same p.view.ids k i ready.1 least in subst (λ (c : ℕ). IfOk f.ended (λ end. IsRun (is_open gate) c w turns end (lines_of c later))) e
+          (if_ok_map (λ end. Ended (is_open gate) k w turns end old new) (λ end. IsRun (is_open gate) k w turns end (lines_of k later)) (λ end s. subst (IsRun (is_open gate) k w turns end) (are s.lines s.more) s.run) f.ended sent);
+      gated = λ i least. let e : k ≡ i = least_same p.view.ids k i ready.1 least in subst (λ (c : ℕ). IfOk f.ended (λ end. GatedBy passes gate w turns end (lines_of c later))) e
+          (if_ok_map (λ end. Gated passes gate after w turns end old new) (λ end. GatedBy passes gate w turns end (lines_of k later)) (λ end s. (after, subst (IsGated passes gate after w turns end) (are s.lines s.more) s.gate)) f.ended gated);
     }
 
 none_below : (p : Known) (i : ℕ) → ((k : ℕ) → has p.view.ids k ≡ true → k ≡ i) → (j : ℕ) → j < i → (b : Bool) → b ≡ has p.view.ids j → has p.view.ids j ≡ false
@@ -57,9 +65,9 @@ pub one_least : (table : TableId) (n : ℕ) (site : Config) (log : List Line) (i
 one_least table n site log i p o = (o.2, λ j lt. none_below p i o.3 j lt (has p.view.ids j) refl)
 
 -- a pass as the desk opened with it, and what its thread gave back
-pub returned_as : (let_through : Type 0) (desk : LockView) (n : ℕ) (opened : Session) (i : ℕ) (p : Known) (w : Worker) (turns : ℕ) (f : Finished) → IsOpened desk.table n opened.site opened.log i p → Ran let_through desk p w turns f
-    → IsReturned desk opened i f
-returned_as let_through desk n opened i p w turns f o r = record {
+pub returned_as : {G : Type 0} (is_open : G → Type 0) (passes : G → ℕ → Bool → G → Type 0) (gate : G) (desk : LockView) (n : ℕ) (opened : Session) (i : ℕ) (p : Known) (w : Worker) (turns : ℕ) (f : Finished) → IsOpened desk.table n opened.site opened.log i p
+    → Ran is_open passes gate desk p w turns f → IsReturned desk opened i f
+returned_as is_open passes gate desk n opened i p w turns f o r = record {
   is_of = r.is_of;
   site = r.same.0 ∙ o.1.0;
   own = ap (λ (s : Ids). has s i) r.same.1 ∙ o.2;
@@ -195,12 +203,12 @@ module _ {A : Type 0} where
       (end_cases xs x y j (ap (λ (l : List A). slice_get l j) (sym e) ∙ at))
 
 -- the threads of passes that a desk opened with, which are the tasks'
-module _ {T G : Type 0} (pass : T → Known) (gate : T → G) (worker : T → Worker) (turns : T → ℕ) (is_open : G → Type 0) (desk : LockView) (n : ℕ) (opened : Session) (passes : List Known) (tasks : List T)
-    (are : AreOpened desk.table n opened.site opened.log passes) (made : (i : ℕ) (t : T) → slice_get tasks i ≡ Some t → slice_get passes i ≡ Some (pass t)) where
+module _ {T G : Type 0} (pass : T → Known) (gate : T → G) (worker : T → Worker) (turns : T → ℕ) (is_open : G → Type 0) (passes : G → ℕ → Bool → G → Type 0) (desk : LockView) (n : ℕ) (opened : Session) (seats : List Known) (tasks : List T)
+    (are : AreOpened desk.table n opened.site opened.log seats) (made : (i : ℕ) (t : T) → slice_get tasks i ≡ Some t → slice_get seats i ≡ Some (pass t)) where
   pub all_can : desk.callers ≡ n → length tasks ≡ n → (k : ℕ) (d : T) → k < length tasks → CanRun desk (pass (get_or tasks k d))
   all_can e len k d lt = can_run desk n opened.site opened.log k (pass (get_or tasks k d)) e (are k (pass (get_or tasks k d)) (made k (get_or tasks k d) (slice_get-get_or tasks k d lt))) (subst (λ (m : ℕ). k < m) len lt)
 
-  module _ (all : List Finished) (many : length all ≡ length tasks) (each : (i : ℕ) (t : T) (f : Finished) → slice_get tasks i ≡ Some t → slice_get all i ≡ Some f → Ran (is_open (gate t)) desk (pass t) (worker t) (turns t) f) where
+  module _ (all : List Finished) (many : length all ≡ length tasks) (each : (i : ℕ) (t : T) (f : Finished) → slice_get tasks i ≡ Some t → slice_get all i ≡ Some f → Ran is_open passes (gate t) desk (pass t) (worker t) (turns t) f) where
     task_at : (i : ℕ) → i < length all → (t : T) × (slice_get tasks i ≡ Some t)
     task_at i lt = ⊎_elim
         (λ (t : (x : T) × (i < length tasks) × (slice_get tasks i ≡ Some x) × (get_or tasks i x ≡ x)). (t.0, t.2))
@@ -208,7 +216,7 @@ module _ {T G : Type 0} (pass : T → Known) (gate : T → G) (worker : T → Wo
         (slice_get_cases tasks i).1
 
     pub all_returned : AreReturned desk opened all
-    all_returned i f at = let t = task_at i (slice_get_within all i f at) in returned_as (is_open (gate t.0)) desk n opened i (pass t.0) (worker t.0) (turns t.0) f (are i (pass t.0) (made i t.0 t.1)) (each i t.0 f t.1 at)
+    all_returned i f at = let t = task_at i (slice_get_within all i f at) in returned_as is_open passes (gate t.0) desk n opened i (pass t.0) (worker t.0) (turns t.0) f (are i (pass t.0) (made i t.0 t.1)) (each i t.0 f t.1 at)
 
     finished_at : (i : ℕ) → i < length all → (f : Finished) × (slice_get all i ≡ Some f)
     finished_at i lt = ⊎_elim
@@ -216,22 +224,27 @@ module _ {T G : Type 0} (pass : T → Known) (gate : T → G) (worker : T → Wo
         (λ (t : (length all ≤ i) × (slice_get all i ≡ None)). let past : length all ≤ i = t.0 in absurd (omega arith))
         (slice_get_cases all i).1
 
+    -- one worker's run behind its gate
+    abbrev Behind : ℕ → G → Worker → ℕ → End → List Line → Type 0
+    Behind k g w most e lines = IsRun (is_open g) k w most e lines × GatedBy passes g w most e lines
+
     -- what a caller's lines are, where its worker was not ended by want of memory
-    run_at : (k : ℕ) (e : End) (t : T) (f : Finished) → slice_get tasks k ≡ Some t → slice_get all k ≡ Some f → f.ended ≡ Ok e → (later : List Line) → AreOwn opened k f later → IsRun (is_open (gate t)) k (worker t) (turns t) e (lines_of k later)
+    run_at : (k : ℕ) (e : End) (t : T) (f : Finished) → slice_get tasks k ≡ Some t → slice_get all k ≡ Some f → f.ended ≡ Ok e → (later : List Line) → AreOwn opened k f later → Behind k (gate t) (worker t) (turns t) e (lines_of k later)
     run_at k e t f at there ended later own =
         let r = each k t f at there in
         let o = are k (pass t) (made k t at) in
+        let least = one_least desk.table n opened.site opened.log k (pass t) o in
         let grown : opened.log ++ r.later ≡ f.pass.view.seen = ap (λ (l : List Line). l ++ r.later) (sym o.1.1) ∙ r.grown in
         let same : own.0 ≡ r.later = append_cancel_left opened.log own.0 r.later (own.1 ∙ sym grown) in
-        let run : IsRun (is_open (gate t)) k (worker t) (turns t) e (lines_of k r.later) =
-        if_ok_at (λ end. IsRun (is_open (gate t)) k (worker t) (turns t) end (lines_of k r.later)) f.ended e ended (r.done k (one_least desk.table n opened.site opened.log k (pass t) o)) in
-        subst (IsRun (is_open (gate t)) k (worker t) (turns t) e) (sym (own.2 ∙ ap (lines_of k) same)) run
+        let run : IsRun (is_open (gate t)) k (worker t) (turns t) e (lines_of k r.later) = if_ok_at (λ end. IsRun (is_open (gate t)) k (worker t) (turns t) end (lines_of k r.later)) f.ended e ended (r.done k least) in
+        let gated : GatedBy passes (gate t) (worker t) (turns t) e (lines_of k r.later) = if_ok_at (λ end. GatedBy passes (gate t) (worker t) (turns t) end (lines_of k r.later)) f.ended e ended (r.gated k least) in
+        subst (Behind k (gate t) (worker t) (turns t) e) (sym (own.2 ∙ ap (lines_of k) same)) (run, gated)
 
     -- the console that the desk closes with
     pub runs_on : (workers : List Worker) (gates : List G) (most : ℕ) (ends : List End) (p : Known) (closed : Session) → desk.callers ≡ n → length tasks ≡ n
         → ((i : ℕ) (t : T) → slice_get tasks i ≡ Some t → (slice_get gates i ≡ Some (gate t)) × (slice_get workers i ≡ Some (worker t)) × (turns t ≡ most))
         → length ends ≡ length all → AllEnded all ends → Knows desk opened all 0 p → closed.site ≡ p.view.site → closed.log ≡ p.view.seen
-        → RunsOn opened n (λ k e lines. (w : Worker) (y : G) → slice_get workers k ≡ Some w → slice_get gates k ≡ Some y → IsRun (is_open y) k w most e lines) ends closed
+        → RunsOn opened n (λ k e lines. (w : Worker) (y : G) → slice_get workers k ≡ Some w → slice_get gates k ≡ Some y → IsRun (is_open y) k w most e lines × GatedBy passes y w most e lines) ends closed
     runs_on workers gates most ends p closed callers len at_place ended_many ended known site log = record {
       site = site ∙ known.site;
       later = known.later;
@@ -247,6 +260,10 @@ module _ {T G : Type 0} (pass : T → Known) (gate : T → G) (worker : T → Wo
           let same_gate : gate t.0 ≡ y = some_same (gate t.0) y (sym place.0 ∙ y_at) in
           let same_worker : worker t.0 ≡ w = some_same (worker t.0) w (sym place.1 ∙ w_at) in
           let run = run_at k e t.0 f.0 t.1 f.1 (ended k f.0 e f.1 at) known.later (known.runs k f.0 (known.covers k (omega arith) below) f.1) in
-          subst (λ (m : ℕ). IsRun (is_open y) k w m e (lines_of k known.later)) place.2
-          (subst (λ (v : Worker). IsRun (is_open y) k v (turns t.0) e (lines_of k known.later)) same_worker (subst (λ (z : G). IsRun (is_open z) k (worker t.0) (turns t.0) e (lines_of k known.later)) same_gate run));
+          subst (λ (m : ℕ). Behind k y w m e (lines_of k known.later)) place.2
+          (subst (λ (v : Worker). Behind k y v (turns t.0) e (lines_of k known.later)) same_worker (subst (λ (z : G). Behind k z (worker t.0) (turns t.0) e (lines_of k known.later)) same_gate run));
     }
+
+-- the same runs, told otherwise
+pub runs_for : (opened : Session) (n m : ℕ) (P Q : ℕ → End → List Line → Type 0) (ends : List End) (s : Session) → n ≡ m → ((k : ℕ) (e : End) (lines : List Line) → slice_get ends k ≡ Some e → P k e lines → Q k e lines) → RunsOn opened n P ends s → RunsOn opened m Q ends s
+runs_for opened n m P Q ends s same told r = subst (λ (c : ℕ). RunsOn opened c Q ends s) same (record { site = r.site; later = r.later; log = r.log; below = r.below; runs = λ k e at. told k e _ at (r.runs k e at) })

@@ -1,5 +1,5 @@
 -- The lines of a caller, as the log grows.
-use Rattle.std.proofs.Common.{◌≡◌, ◌≢◌, ◌⊎◌, ◌==◌, ◌<◌, ◌≤◌, ℕ, ◌+◌, Bool, true, false, true≢false, cond, List, [], ◌∷◌, ◌++◌, length-append, append_assoc, append-nil, Result, Ok, Err, IfOk, OnErr, refl, sym, ap, ◌∙◌, subst, ⊎_elim, ne_eqb, eq-eqb, arith}
+use Rattle.std.proofs.Common.{◌≡◌, ◌≢◌, ◌⊎◌, ◌==◌, ◌<◌, ℕ, Bool, true, false, true≢false, cond, List, [], ◌∷◌, ◌++◌, append_assoc, append-nil, Result, Ok, Err, IfOk, OnErr, refl, sym, ap, ◌∙◌, subst, ⊎_elim, ne_eqb, eq-eqb, arith}
 use Rattle.std.proofs.lemmas.List.Elements.{filter-append}
 use native.Mathlib.Decide.{ℕ_discrete}
 use mathlib.Core.Logic.{dite}

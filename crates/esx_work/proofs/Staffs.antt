@@ -1,14 +1,13 @@
 -- The workers of a scenario.
-use Rattle.std.proofs.Common.{◌≡◌, ◌∙◌, ◌<◌, ◌≤◌, ◌+◌, ℕ, zero, suc, List, [], ◌∷◌, ◌++◌, length, map, take, get_or, slice_get, Option, Some, None, All, filter, refl, sym, ap, subst, ⊎_elim, arith}
+use Rattle.std.proofs.Common.{◌≡◌, ◌∙◌, ◌<◌, ◌≤◌, ◌+◌, ℕ, Bool, zero, suc, List, [], ◌∷◌, ◌++◌, length, map, take, get_or, slice_get, Some, None, All, refl, sym, ap, subst, ⊎_elim, arith}
 use Rattle.std.proofs.lemmas.List.{map-append, take_all, take_more, length-map}
-use Rattle.std.proofs.lemmas.List.Elements.{All-append, All-filter, All-map}
+use Rattle.std.proofs.lemmas.List.Elements.{All-append, All-filter}
 use Rattle.std.proofs.Math.ListN.{get_or-map}
 use Rattle.std.proofs.lemmas.Option.{slice_get-map, slice_get_read, slice_get_cases, slice_get_within}
 use Rattle.std.specs.Prelude.{option_map, ◌==◌}
 use Rattle.std.specs.Borrow.{Bor}
 use Rattle.esx_types.specs.declared.config.TheConstants.{VM_NUMBERS}
 use Rattle.esx_events.specs.declared.call.Line.{Line}
-use Rattle.esx_model.specs.Console.{Session}
 use Rattle.esx_scenario.specs.declared.plan.Guest.{Guest}
 use Rattle.esx_scenario.specs.declared.plan.Settings.{Settings}
 use Rattle.esx_scenario.specs.Plans.{Plan, IsPlan, IsGuest}
@@ -18,8 +17,8 @@ use Rattle.esx_workers.specs.declared.machine.Machine.{Machine}
 use Rattle.esx_workers.specs.declared.worker.Worker.{Worker}
 use Rattle.esx_workers.specs.declared.worker.Worker.TheVariants as workers
 use Rattle.esx_workers.specs.Runs.{IsRun}
-use Rattle.esx_work.specs.Runs.{RunsOn}
-use Rattle.esx_work.specs.Sites.{told_of, wanted_of, AreMachines, IsGuestAt, IsWorker, IsRunOf}
+use Rattle.esx_work.specs.Runs.{GatedBy}
+use Rattle.esx_work.specs.Sites.{told_of, wanted_of, AreMachines, IsGuestAt, IsWorker, IsRunOf, IsGatedRunOf}
 
 -- the machine behind a reference at a place
 pub guest_at : (refs : List (Bor Guest)) (i : ℕ) (x : Bor Guest) → i < length refs → x ≡ get_or refs i x → slice_get (map (λ g. g.now) refs) i ≡ Some x.now
@@ -64,11 +63,7 @@ all_some p refs plan order k d lt =
     some_pages : {g : Guest} → IsGuest p.site g → 0 < g.spec.max
     some_pages good = let spec = good.spec in omega arith
 
--- the same runs, told otherwise
-pub runs_for : (opened : Session) (n m : ℕ) (P Q : ℕ → End → List Line → Type 0) (ends : List End) (s : Session) → n ≡ m → ((k : ℕ) (e : End) (lines : List Line) → slice_get ends k ≡ Some e → P k e lines → Q k e lines) → RunsOn opened n P ends s → RunsOn opened m Q ends s
-runs_for opened n m P Q ends s same told r = subst (λ (c : ℕ). RunsOn opened c Q ends s) same (record { site = r.site; later = r.later; log = r.log; below = r.below; runs = λ k e at. told k e _ at (r.runs k e at) })
-
-module _ {G : Type 0} (is_open : G → Type 0) (p : Plan) (s : Settings) (same : s ≡ p.settings) (gs : List Guest) (order : gs ≡ in_order p.guests) (ms : List Machine) (are : AreMachines gs ms)
+module _ {G : Type 0} (is_open : G → Type 0) (passes : G → ℕ → Bool → G → Type 0) (p : Plan) (s : Settings) (same : s ≡ p.settings) (gs : List Guest) (order : gs ≡ in_order p.guests) (ms : List Machine) (are : AreMachines gs ms)
     (staff : List Worker) (each : (i : ℕ) (w : Worker) → slice_get staff i ≡ Some w → IsWorker s gs ms i w) (gates : List G) (ends : List End) (many : length ends ≡ length staff) where
   worker_at : (k : ℕ) → k < length staff → (w : Worker) × (slice_get staff k ≡ Some w)
   worker_at k lt = ⊎_elim
@@ -76,15 +71,36 @@ module _ {G : Type 0} (is_open : G → Type 0) (p : Plan) (s : Settings) (same :
       (λ (t : (length staff ≤ k) × (slice_get staff k ≡ None)). let past : length staff ≤ k = t.0 in absurd (omega arith))
       (slice_get_cases staff k).1
 
+  ended_worker : (k : ℕ) (e : End) → slice_get ends k ≡ Some e → (w : Worker) × (slice_get staff k ≡ Some w)
+  ended_worker k e at =
+      let within : k < length ends = slice_get_within ends k e at in
+      let lt : k < length staff = omega arith in
+      worker_at k lt
+
+  ordered : AreMachines (in_order p.guests) ms
+  ordered = subst (λ (l : List Guest). AreMachines l ms) order are
+
+  is_worker : (k : ℕ) (w : Worker) → slice_get staff k ≡ Some w → IsWorker p.settings (in_order p.guests) ms k w
+  is_worker k w at = subst (λ (t : Settings). IsWorker t (in_order p.guests) ms k w) same (subst (λ (l : List Guest). IsWorker s l ms k w) order (each k w at))
+
   pub run_of : (k : ℕ) (e : End) (lines : List Line) → slice_get ends k ≡ Some e → ((w : Worker) (y : G) → slice_get staff k ≡ Some w → slice_get gates k ≡ Some y → IsRun (is_open y) k w s.turns e lines)
       → (y : G) → slice_get gates k ≡ Some y → IsRunOf p (is_open y) k e lines
   run_of k e lines at run y y_at =
-      let within : k < length ends = slice_get_within ends k e at in
-      let lt : k < length staff = omega arith in
-      let w = worker_at k lt in record {
+      let w = ended_worker k e at in record {
         machines = ms;
-        are = subst (λ (l : List Guest). AreMachines l ms) order are;
+        are = ordered;
         worker = w.0;
-        is = subst (λ (t : Settings). IsWorker t (in_order p.guests) ms k w.0) same (subst (λ (l : List Guest). IsWorker s l ms k w.0) order (each k w.0 w.1));
+        is = is_worker k w.0 w.1;
         run = subst (λ (t : Settings). IsRun (is_open y) k w.0 t.turns e lines) same (run w.0 y w.1 y_at);
+      }
+
+  pub gated_of : (k : ℕ) (e : End) (lines : List Line) → slice_get ends k ≡ Some e → ((w : Worker) (y : G) → slice_get staff k ≡ Some w → slice_get gates k ≡ Some y → GatedBy passes y w s.turns e lines)
+      → (y : G) → slice_get gates k ≡ Some y → IsGatedRunOf p passes y k e lines
+  gated_of k e lines at gated y y_at =
+      let w = ended_worker k e at in record {
+        machines = ms;
+        are = ordered;
+        worker = w.0;
+        is = is_worker k w.0 w.1;
+        gated = subst (λ (t : Settings). GatedBy passes y w.0 t.turns e lines) same (gated w.0 y w.1 y_at);
       }

@@ -1,5 +1,5 @@
 -- What workers in threads leave.
-use Rattle.std.specs.Prelude.{◌≡◌, ℕ, ◌<◌, ◌≤◌, true, List, ◌++◌, slice_get, Some, Ok, IfOk}
+use Rattle.std.specs.Prelude.{◌≡◌, ℕ, ◌<◌, ◌≤◌, Bool, true, List, ◌++◌, slice_get, Some, Ok, IfOk}
 use Rattle.esx_events.specs.declared.call.Line.{Line}
 use Rattle.esx_types.specs.Ids.{has, IsLeast}
 use Rattle.esx_model.specs.Console.{Session}
@@ -9,7 +9,7 @@ use Rattle.esx_desk.specs.Told.{IsOf}
 use Rattle.esx_door.specs.Own.{lines_of}
 use Rattle.esx_workers.specs.declared.end.End.{End}
 use Rattle.esx_workers.specs.declared.worker.Worker.{Worker}
-use Rattle.esx_workers.specs.Runs.{IsRun}
+use Rattle.esx_workers.specs.Runs.{IsRun, IsGated}
 use Rattle.esx_work.specs.declared.run.Finished.{Finished}
 
 -- the pass is the desk's, whose callers its own are among
@@ -17,14 +17,19 @@ pub record CanRun (desk : LockView) (p : Known) : Type 0 where
   pub is_of : IsOf desk p
   pub below : (k : ℕ) → has p.view.ids k ≡ true → k < desk.callers
 
--- What a thread gave back for a pass: the later lines of the pass's least caller are its worker's run, if it was not ended by want of memory.
-pub record Ran (let_through : Type 0) (desk : LockView) (p : Known) (w : Worker) (turns : ℕ) (f : Finished) : Type 0 where
+-- the gate before these lines of a worker's run, which became some gate after them
+abbrev pub GatedBy : {G : Type 0} → (G → ℕ → Bool → G → Type 0) → G → Worker → ℕ → End → List Line → Type 0
+GatedBy {G} passes gate w turns end lines = (after : G) × IsGated passes gate after w turns end lines
+
+-- What a thread gave back for a pass and a gate: the later lines of the pass's least caller are its worker's run behind this gate, if it was not ended by want of memory.
+pub record Ran {G : Type 0} (is_open : G → Type 0) (passes : G → ℕ → Bool → G → Type 0) (gate : G) (desk : LockView) (p : Known) (w : Worker) (turns : ℕ) (f : Finished) : Type 0 where
   pub is_of : IsOf desk f.pass
   pub same : IsSame p.view f.pass.view
   pub later : List Line
   pub grown : p.view.seen ++ later ≡ f.pass.view.seen
   pub below : Callers (λ k. k < desk.callers) later
-  pub done : (k : ℕ) → IsLeast p.view.ids k → IfOk f.ended (λ end. IsRun let_through k w turns end (lines_of k later))
+  pub done : (k : ℕ) → IsLeast p.view.ids k → IfOk f.ended (λ end. IsRun (is_open gate) k w turns end (lines_of k later))
+  pub gated : (k : ℕ) → IsLeast p.view.ids k → IfOk f.ended (λ end. GatedBy passes gate w turns end (lines_of k later))
 
 -- these are the ends of all threads
 abbrev pub AllEnded : List Finished → List End → Type 0

@@ -1,5 +1,5 @@
 -- The workers of a scenario.
-use Rattle.std.specs.Prelude.{◌≡◌, ℕ, ◌+◌, ◌%◌, ◌^◌, List, map, length, slice_get, Some}
+use Rattle.std.specs.Prelude.{◌≡◌, ℕ, ◌+◌, ◌%◌, ◌^◌, Bool, List, map, length, slice_get, Some}
 use Rattle.rand_core.specs.Pcg32Seed.{pcg32_seed}
 use Rattle.rand_pcg.specs.Lcg.{Lcg}
 use Rattle.rand_pcg.specs.Pcg.{pcg64_of_seed}
@@ -14,6 +14,7 @@ use Rattle.esx_workers.specs.declared.visiting.Step.TheVariants.{Send}
 use Rattle.esx_workers.specs.declared.worker.Worker.{Worker}
 use Rattle.esx_workers.specs.declared.worker.Worker.TheVariants.{Guest, Sharer, Swapper, Policy}
 use Rattle.esx_workers.specs.Runs.{IsRun}
+use Rattle.esx_work.specs.Runs.{GatedBy}
 
 -- the generator that is made from the seed and a worker's place
 unfoldable pub generator_of : ℕ → ℕ → Lcg
@@ -51,3 +52,11 @@ pub record IsRunOf (p : Plan) (let_through : Type 0) (k : ℕ) (end : End) (line
   pub worker : Worker
   pub is : IsWorker p.settings (in_order p.guests) machines k worker
   pub run : IsRun let_through k worker p.settings.turns end lines
+
+-- the gate was passed for these lines of the scenario's worker at this place
+pub record IsGatedRunOf {G : Type 0} (p : Plan) (passes : G → ℕ → Bool → G → Type 0) (gate : G) (k : ℕ) (end : End) (lines : List Line) : Type 0 where
+  pub machines : List Machine
+  pub are : AreMachines (in_order p.guests) machines
+  pub worker : Worker
+  pub is : IsWorker p.settings (in_order p.guests) machines k worker
+  pub gated : GatedBy passes gate worker p.settings.turns end lines

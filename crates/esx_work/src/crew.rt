@@ -3,7 +3,7 @@
 ghost use Rattle.std.specs.Prelude.{◌≡◌, ◌<◌, ◌≤◌, ℕ, Some, IfOk, All, length, slice_get};
 ghost use Rattle.esx_types.specs.declared.config.TheConstants.{CALLERS};
 ghost use Rattle.esx_workers.specs.Runs.{IsRun};
-ghost use Rattle.esx_work.specs.Runs.{CanRun, Ran, RunsOn};
+ghost use Rattle.esx_work.specs.Runs.{CanRun, Ran, RunsOn, GatedBy};
 
 use crate::run::{Finished, Task, ends_of, meet_all, run_one, tasks_of};
 use esx_console::Console;
@@ -25,11 +25,11 @@ pub fn run_all<'a, R: Threads + Wait + Sync, G: Gate + Send + Drop>(
 ) -> Result<Vec<Finished>, AllocError>
     requires { All (λ t. CanRun desk.now t.pass) tasks.items }
     ensures len { IfOk result (λ all. length all.items ≡ length tasks.entry.items) }
-    ensures each { IfOk result (λ all. (i : ℕ) (t : _) (f : _) → slice_get tasks.entry.items i ≡ Some t → slice_get all.items i ≡ Some f → Ran (G.is_open t.gate) desk.now t.pass t.worker t.turns f) }
+    ensures each { IfOk result (λ all. (i : ℕ) (t : _) (f : _) → slice_get tasks.entry.items i ≡ Some t → slice_get all.items i ≡ Some f → Ran G.is_open G.passes t.gate desk.now t.pass t.worker t.turns f) }
 {
     let work = |task: Task<G>| -> Finished
         requires { CanRun desk.now task.pass }
-        ensures { Ran (G.is_open task.entry.gate) desk.entry.now task.entry.pass task.entry.worker task.entry.turns result }
+        ensures { Ran G.is_open G.passes task.entry.gate desk.entry.now task.entry.pass task.entry.worker task.entry.turns result }
     { run_one(rt, alloc, desk, task) };
     thread::map_vec(rt, tasks, &work)
 }
@@ -48,6 +48,7 @@ pub fn run_workers<'a, R: Threads + Wait + Sync, G: Gate + Send + Drop>(
     requires gates { length gates.items ≡ length workers.items }
     ensures ends { IfOk result (λ r. length r.1.items ≡ length workers.entry.items) }
     ensures runs { IfOk result (λ r. RunsOn console (length workers.entry.items) (λ k e lines. (w : _) (gate : _) → slice_get workers.entry.items k ≡ Some w → slice_get gates.items k ≡ Some gate → IsRun (G.is_open gate) k w turns e lines) r.1.items r.0) }
+    ensures gates { IfOk result (λ r. RunsOn console (length workers.entry.items) (λ k e lines. (w : _) (gate : _) → slice_get workers.entry.items k ≡ Some w → slice_get gates.items k ≡ Some gate → GatedBy G.passes gate w turns e lines) r.1.items r.0) }
 {
     let opened = Snapshot::of(&console);
     let (desk, passes) = Desk::over(alloc, console, workers.len())?;

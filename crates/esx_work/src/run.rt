@@ -30,7 +30,7 @@ pub struct Finished {
     pub ended: Result<End, AllocError>,
 }
 
-/// The worker of a pass.
+/// The worker of a pass, behind its gate.
 pub fn run_one<R: Wait, G: Gate + Drop>(
     rt: &R,
     alloc: Global,
@@ -38,7 +38,7 @@ pub fn run_one<R: Wait, G: Gate + Drop>(
     task: Task<G>,
 ) -> Finished
     requires { CanRun desk.now task.pass }
-    ensures { Ran (G.is_open task.entry.gate) desk.now task.entry.pass task.entry.worker task.entry.turns result }
+    ensures { Ran G.is_open G.passes task.entry.gate desk.now task.entry.pass task.entry.worker task.entry.turns result }
 {
     let Task {
         pass,

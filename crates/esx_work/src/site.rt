@@ -6,7 +6,7 @@ ghost use Rattle.esx_console.specs.Calls.{opened_session};
 ghost use Rattle.esx_opening.specs.Openings.{opening_events, AreAccepted, IsRefusedAt};
 ghost use Rattle.esx_opening.specs.declared.opening.SiteFault.TheVariants as faults;
 ghost use Rattle.esx_work.specs.Runs.{RunsOn};
-ghost use Rattle.esx_work.specs.Sites.{generator_of, AreMachines, IsGuestAt, IsWorker, IsRunOf};
+ghost use Rattle.esx_work.specs.Sites.{generator_of, AreMachines, IsGuestAt, IsWorker, IsRunOf, IsGatedRunOf};
 
 use crate::crew::run_workers;
 use esx_console::Console;
@@ -109,6 +109,7 @@ pub fn run_site<R: Threads + Wait + Sync, G: Gate + Send + Drop>(
     requires { length gates.items ≡ length scenario.now.guests + 3 }
     ensures many { IfOk result (λ r. length r.1.items ≡ length scenario.now.guests + 3) }
     ensures runs { IfOk result (λ r. (opened : _) × AreAccepted (opening_events scenario.now.guests) (opened_session scenario.now.site) opened × RunsOn opened (length scenario.now.guests + 3) (λ k e lines. (gate : _) → slice_get gates.items k ≡ Some gate → IsRunOf scenario.now (G.is_open gate) k e lines) r.1.items r.0) }
+    ensures gates { IfOk result (λ r. (opened : _) × AreAccepted (opening_events scenario.now.guests) (opened_session scenario.now.site) opened × RunsOn opened (length scenario.now.guests + 3) (λ k e lines. (gate : _) → slice_get gates.items k ≡ Some gate → IsGatedRunOf scenario.now G.passes gate k e lines) r.1.items r.0) }
     ensures refused { IfErr result (λ fault. (e : Refusal) → fault ≡ faults.Refused e → IsRefusedAt (opening_events scenario.now.guests) (opened_session scenario.now.site) e) }
 {
     let console = open_site(alloc, scenario)?;

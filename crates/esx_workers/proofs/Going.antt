@@ -16,9 +16,9 @@ use Rattle.esx_workers.specs.declared.visiting.Step.{Step}
 use Rattle.esx_workers.specs.declared.worker.Worker.{Worker}
 use Rattle.esx_workers.specs.declared.worker.Worker.TheVariants.{Guest, Sharer, Swapper, Policy}
 use Rattle.esx_workers.specs.Passed.{is_access, is_passed, is_passed_over, first_of}
-use Rattle.esx_workers.specs.Visiting.{call_at, call_at_line, rest_at}
-use Rattle.esx_workers.specs.Workers.{asks, asked, hears, rest}
-use Rattle.esx_workers.specs.Runs.{goes_on, worker_after, AreAsked, AreAfter, IsStraight, IsRewound, IsOut, Ended, Broken, Since, Running, Gated}
+use Rattle.esx_workers.specs.Visiting.{call_at_line, rest_at}
+use Rattle.esx_workers.specs.Workers.{asks, asked, rest}
+use Rattle.esx_workers.specs.Runs.{goes_on, worker_after, AreAsked, AreAfter, IsStraight, IsRewound, Ended, Broken, Since, Running, Gated}
 
 pub on_err : {T E : Type 0} (P : Type 0) → P → (r : Result T E) → OnErr r P
 on_err P p (Ok x) = tt
@@ -51,12 +51,17 @@ module _ {G : Type 0} (passes : G → ℕ → Bool → G → Type 0) where
   unfolding LetThrough
   let_none g = refl
 
-  pub let_more : (n : ℕ) (g m h : G) → LetThrough passes n g m → passes m (n + 1) true h → LetThrough passes (n + 1) g h
+  -- passed once more, with this answer
+  pub let_more : (n : ℕ) (g m h : G) (b : Bool) → LetThrough passes n g m → passes m (n + 1) b h → b ≡ true → LetThrough passes (n + 1) g h
   unfolding LetThrough
-  let_more n g m h before at = subst (λ (i : ℕ). LetThrough passes i g h) (sym (add-one n)) (m, before, subst (λ (i : ℕ). passes m i true h) (add-one n) at)
+  let_more n g m h b before at is =
+      let through : passes m (n + 1) true h = subst (λ (c : Bool). passes m (n + 1) c h) is at in
+      subst (λ (i : ℕ). LetThrough passes i g h) (sym (add-one n)) (m, before, subst (λ (i : ℕ). passes m i true h) (add-one n) through)
 
-  pub gave_up : (n : ℕ) (g m h : G) → LetThrough passes n g m → passes m (n + 1) false h → GaveUp passes n g h
-  gave_up n g m h before at = (m, before, subst (λ (i : ℕ). passes m i false h) (add-one n) at)
+  pub gave_up : (n : ℕ) (g m h : G) (b : Bool) → LetThrough passes n g m → passes m (n + 1) b h → b ≡ false → GaveUp passes n g h
+  gave_up n g m h b before at is =
+      let up : passes m (n + 1) false h = subst (λ (c : Bool). passes m (n + 1) c h) is at in
+      (m, before, subst (λ (i : ℕ). passes m i false h) (add-one n) up)
 
 pub worker_after_end : (w : Worker) (xs : List Line) (x : Line) → worker_after w (xs ++ x ∷ []) ≡ goes_on (worker_after w xs) x.reply
 unfolding worker_after
@@ -129,12 +134,12 @@ module _ (k : ℕ) (w now : Worker) (first : Option ℕ) (passed turn : ℕ) (a 
       gate = inl (subst (λ (n : ℕ). LetThrough passes n g h) (sym r.many) passed, inr (subst (λ (n : ℕ). (asks (worker_after w r.lines) ≡ None) ⊎ (n ≡ turns)) (sym r.many) (subst (λ (v : Worker). (asks v ≡ None) ⊎ (turn ≡ turns)) r.now_is out)));
     }
 
-    pub gated_up : (g m h : G) (turns : ℕ) (end : End) (call : Call) (d : List Line) → d ≡ b → LetThrough passes turn g m → passes m (turn + 1) false h → turn < turns → asks now ≡ Some call → end.how ≡ rest now → Gated passes g h w turns end a d
-    gated_up g m h turns end call d same passed at lt asks_it rests = record {
+    pub gated_up : (g m h : G) (answer : Bool) (turns : ℕ) (end : End) (call : Call) (d : List Line) → d ≡ b → LetThrough passes turn g m → passes m (turn + 1) answer h → answer ≡ false → turn < turns → asks now ≡ Some call → end.how ≡ rest now → Gated passes g h w turns end a d
+    gated_up g m h answer turns end call d same passed at is lt asks_it rests = record {
       lines = r.lines;
       more = same ∙ r.more;
       gate = inr (
-        subst (λ (n : ℕ). GaveUp passes n g h) (sym r.many) (gave_up passes turn g m h passed at),
+        subst (λ (n : ℕ). GaveUp passes n g h) (sym r.many) (gave_up passes turn g m h answer passed at is),
         rests ∙ asks_rest now call asks_it,
         subst (λ (n : ℕ). n < turns) (sym r.many) lt,
         (call, ap asks (sym r.now_is) ∙ asks_it),

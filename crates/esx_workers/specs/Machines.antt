@@ -1,5 +1,5 @@
 -- Machines that are drawn.
-use Rattle.std.specs.Prelude.{ℕ, ◌%◌, List, [], ◌∷◌, length, slice_get, Option}
+use Rattle.std.specs.Prelude.{◌%◌, List, [], ◌∷◌, length, slice_get, Option}
 use Rattle.rand_pcg.specs.Lcg.{Lcg}
 use Rattle.esx_workers.specs.declared.machine.Machine.{Machine}
 use Rattle.esx_workers.specs.Draws.{word, after_word}

@@ -1,5 +1,5 @@
 -- What the sharing worker asks.
-use Rattle.std.specs.Prelude.{ℕ, ◌%◌, Option, Some, None}
+use Rattle.std.specs.Prelude.{◌%◌, Option, Some, None}
 use Rattle.rand_pcg.specs.Lcg.{Lcg}
 use Rattle.esx_events.specs.declared.call.Call.{Call}
 use Rattle.esx_events.specs.declared.call.Call.TheVariants.{Do}

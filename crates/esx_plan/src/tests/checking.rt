@@ -1,9 +1,10 @@
 //! Checks that tell how far they are, and checks that do not.
 
 use super::opening::Tape;
-use crate::session::{Told, check_to, session_of_reader, status_of_check};
+use super::running::disk;
+use crate::session::{check_watched, session_of_reader, status_of_check, tell_check_to};
 use crate::terminal;
-use esx_check::{Checked, check_session_through};
+use esx_check::{Checked, OutputFault, check_session_through};
 use esx_reading::TextFault;
 use esx_work::Gate;
 use std::alloc::Global;
@@ -15,7 +16,7 @@ use std::test::Fail;
 /// A session, what its check comes to, the line and the status that tell it, and what a terminal is told on the
 /// way.
 struct Row {
-    text: &'static [u8],
+    text: &'static str,
     checked: Checked,
     line: &'static [u8],
     status: u8,
@@ -24,18 +25,18 @@ struct Row {
 
 const ROWS: [Row; 2] = [
     Row {
-        text: b"esx session 1\nframes 20 page 16 slots 8 tau 75 levels 6 4 2 1 nodes 16777216\n0 admit 0 2 6 1 1000 0\n= ok memory 3/20 swap 4/8\n0 start 0\n= ok frame 0 overhead 1/1 running\n0 sum\n= overhead 1 private 0 shared 0 free 19 high\nend 3\n",
+        text: "esx session 1\nframes 20 page 16 slots 8 tau 75 levels 6 4 2 1 nodes 16777216\n0 admit 0 2 6 1 1000 0\n= ok memory 3/20 swap 4/8\n0 start 0\n= ok frame 0 overhead 1/1 running\n0 sum\n= overhead 1 private 0 shared 0 free 19 high\nend 3\n",
         checked: Checked::Same(3),
         line: b"same 3\n",
         status: 0,
-        progress: b"\r1 of 3 calls\r2 of 3 calls\r3 of 3 calls\r3 of 3 calls\n",
+        progress: b"\r3 calls\n",
     },
     Row {
-        text: b"esx session 1\nframes 20 page 16 slots 8 tau 75 levels 6 4 2 1 nodes 16777216\n0 admit 0 2 6 1 1000 0\n= ok memory 3/20 swap 4/8\n0 start 0\n= ok frame 1 overhead 1/1 running\n0 sum\n= overhead 1 private 0 shared 0 free 19 high\nend 3\n",
+        text: "esx session 1\nframes 20 page 16 slots 8 tau 75 levels 6 4 2 1 nodes 16777216\n0 admit 0 2 6 1 1000 0\n= ok memory 3/20 swap 4/8\n0 start 0\n= ok frame 1 overhead 1/1 running\n0 sum\n= overhead 1 private 0 shared 0 free 19 high\nend 3\n",
         checked: Checked::Differs(2),
         line: b"differs 2\n",
         status: 1,
-        progress: b"\r1 of 3 calls\r2 of 3 calls\r2 of 3 calls\n",
+        progress: b"\r2 calls\n",
     },
 ];
 
@@ -80,14 +81,6 @@ impl Print for Screen {
     }
 }
 
-/// Checks a session, and tells how far it is to a screen, where there is one.
-fn check_of(alloc: Global, text: &[u8], to: Option<&Screen>) -> Result<Told<Vec<u8>>, Fail> {
-    match session_of_reader(alloc, text) {
-        Ok(session) => Ok(check_to(alloc, session, to, Vec::new(alloc))),
-        Err(_) => Err(Fail::new("the session")),
-    }
-}
-
 /// What a check comes to and its line are the same with a terminal, with one that fails, and with none.
 #[test]
 fn told_or_not(rt: HostRuntime) -> Result<(), Fail> {
@@ -96,10 +89,11 @@ fn told_or_not(rt: HostRuntime) -> Result<(), Fail> {
         let screen = Screen::new(alloc, false);
         let broken = Screen::new(alloc, true);
         for to in [None, Some(&screen), Some(&broken)] {
-            let told = check_of(alloc, row.text, to)?;
-            assert_eq!(rt; told.ended, Ok(row.checked));
-            assert!(rt; told.writer.as_slice() == row.line);
+            assert_eq!(rt; check_watched(alloc, row.text, to), Ok(row.checked));
         }
+        let told = tell_check_to(alloc, row.checked, Vec::new(alloc));
+        assert_eq!(rt; told.ended, Ok(()));
+        assert!(rt; told.writer.as_slice() == row.line);
         assert_eq!(rt; status_of_check(row.checked), row.status);
         let Ok(told) = screen.told.try_borrow() else {
             panic!(rt; "the screen is in use");
@@ -129,7 +123,7 @@ impl Gate for Closed {
 fn turns_of_a_gate(rt: HostRuntime) -> Result<(), Fail> {
     let alloc = rt.alloc();
     for row in &ROWS {
-        let Ok(session) = session_of_reader(alloc, row.text) else {
+        let Ok(session) = session_of_reader(alloc, row.text.as_bytes()) else {
             return Err(Fail::new("the session"));
         };
         let mut gate = Closed {
@@ -143,6 +137,25 @@ fn turns_of_a_gate(rt: HostRuntime) -> Result<(), Fail> {
         assert!(rt; gate.in_order);
     }
     Ok(())
+}
+
+/// A disk that is full holds a front of the line, and then the check was not told.
+#[test]
+fn a_full_disk(rt: HostRuntime) {
+    let alloc = rt.alloc();
+    let told = tell_check_to(alloc, Checked::Same(3), disk(alloc, 4));
+    assert_eq!(rt; told.ended, Err(OutputFault::Write));
+    assert!(rt; told.writer.bytes.as_slice() == b"same".as_slice());
+}
+
+/// A bad line behind a difference is the fault, also of a check.
+#[test]
+fn a_bad_line_behind_a_difference(rt: HostRuntime) {
+    let alloc = rt.alloc();
+    let text =
+        "esx session 1\nframes 20 page 16 slots 8 tau 75 levels 6 4 2 1 nodes 16777216\n0 sum\n= ok\nend 2\n";
+    let to: Option<&Screen> = None;
+    assert_eq!(rt; check_watched(alloc, text, to), Err(TextFault::BadLine(5)));
 }
 
 /// Where lines may go, which is a terminal or not.

@@ -2,7 +2,7 @@
 
 use super::ends::Disk;
 use crate::running::{RunFault, run_to};
-use crate::session::{check_to, session_of_reader};
+use crate::session::check_watched;
 use esx_check::Checked;
 use esx_events::Refusal;
 use esx_scenario::{Scenario, parse_scenario};
@@ -25,7 +25,7 @@ fn scenario_of(alloc: Global, text: &str) -> Result<Scenario, Fail> {
     }
 }
 
-fn disk(alloc: Global, room: usize) -> Disk {
+pub fn disk(alloc: Global, room: usize) -> Disk {
     Disk {
         room,
         bytes: Vec::new(alloc),
@@ -41,11 +41,13 @@ fn a_run(rt: HostRuntime) -> Result<(), Fail> {
     let ran = run_to(&rt, alloc, &scenario, to, Vec::new(alloc), Vec::new(alloc));
     assert_eq!(rt; ran.ended, Ok(()));
     assert!(rt; ran.errors.as_slice() == ENDS);
-    let Ok(session) = session_of_reader(alloc, ran.writer.as_slice()) else {
-        return Err(Fail::new("the session"));
+    let Ok(text) = String::from_utf8(ran.writer) else {
+        return Err(Fail::new("a text"));
     };
-    let told = check_to(alloc, session, to, Vec::new(alloc));
-    assert_eq!(rt; told.ended, Ok(Checked::Same(32)));
+    assert_eq!(rt;
+        check_watched(alloc, text.as_str(), to),
+        Ok(Checked::Same(32))
+    );
     Ok(())
 }
 

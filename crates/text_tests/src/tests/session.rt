@@ -6,7 +6,7 @@ use esx_events::{
     Answer, Boxed, Call, Event, Line, Name, NameRow, Refusal, Reply, Said, Sides, Stand,
 };
 use esx_reading::TextFault;
-use esx_session::{parse_session, print_session};
+use esx_session::{Calls, open_calls, parse_session, print_session};
 use esx_types::{Config, Rows, VmId};
 use esx_words::parse_command;
 use std::alloc::Global;
@@ -76,6 +76,43 @@ fn a_session(rt: HostRuntime) -> Result<(), Fail> {
     log.push(line(0, tried, sides(alloc)?))?;
     let text = print_session(alloc, &SITE, log.as_slice())?;
     assert!(rt; text.as_str() == SESSION);
+    Ok(())
+}
+
+/// The calls of a text, none of which is read yet.
+fn calls_of(text: &str) -> Result<Calls<'_>, Fail> {
+    let Ok((_, calls)) = open_calls(text) else {
+        return Err(Fail::new("the opening"));
+    };
+    Ok(calls)
+}
+
+/// The calls of a text come one by one, and behind them the end, as often as it is asked for.
+#[test]
+fn calls_one_by_one(rt: HostRuntime) -> Result<(), Fail> {
+    let alloc = rt.alloc();
+    let mut calls = calls_of(SESSION)?;
+    for caller in [3, 63, 0, 0] {
+        let Ok(Some(entry)) = calls.next(alloc) else {
+            return Err(Fail::new("a call"));
+        };
+        assert_eq!(rt; entry.caller, caller);
+    }
+    assert!(rt; matches!(calls.next(alloc), Ok(None)));
+    assert!(rt; matches!(calls.next(alloc), Ok(None)));
+    Ok(())
+}
+
+/// A reader stays at a bad line.
+#[test]
+fn calls_before_a_bad_line(rt: HostRuntime) -> Result<(), Fail> {
+    let alloc = rt.alloc();
+    let text = format!(in alloc; "{OPENING}{CALLS}end 3\n")?;
+    let mut calls = calls_of(text.as_str())?;
+    assert!(rt; matches!(calls.next(alloc), Ok(Some(_))));
+    assert!(rt; matches!(calls.next(alloc), Ok(Some(_))));
+    assert!(rt; matches!(calls.next(alloc), Err(TextFault::BadLine(8))));
+    assert!(rt; matches!(calls.next(alloc), Err(TextFault::BadLine(8))));
     Ok(())
 }
 

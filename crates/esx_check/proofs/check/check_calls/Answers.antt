@@ -1,17 +1,18 @@
-use Rattle.std.proofs.Common.{◌≡◌, ◌∷◌, [], ◌++◌, sym, ◌∙◌, ap, refl, rules, append_assoc, ◌+◌}
-use Rattle.esx_model.specs.Console.{lined}
-use Rattle.esx_check.proofs.AgainLemmas.{made_nothing, made_more, again_nothing}
-use Rattle.esx_check.proofs.CheckLemmas.{same_more, differs_here, reply_is, reply_is_not, one_longer}
+use Rattle.std.proofs.Common.{◌≡◌, ◌∷◌, [], ◌++◌, sym, ◌∙◌, ap, refl, rules, append_assoc, ◌+◌, arith}
+use Rattle.esx_check.specs.Again.{made}
+use Rattle.esx_check.proofs.AgainLemmas.{first_again, again_more, again_nothing}
+use Rattle.esx_check.proofs.CheckLemmas.{same_more, differs_here, is_not, one_longer}
 use Rattle.esx_check.proofs.check.check_calls.Goals as goal
 
 pub loop-entry-init : goal.loop-entry-init
 loop-entry-init g c = record {
   can_next = tt;
   is_finite = tt;
-  console = c.requires.opened ∙ sym (made_nothing _);
+  console = first_again _ _ c.in_ok-again.ensures.answers;
   same = again_nothing _;
   count = refl;
-  held = c.requires.empty;
+  few = omega (arith, c.in_ok-again.ensures.none);
+  held = c.in_ok-again.ensures.empty;
   split = search rules;
 }
 
@@ -25,9 +26,10 @@ loop-entry-preserved g c =
     record {
       can_next = tt;
       is_finite = tt;
-      console = is.made ∙ ap (λ s. lined s e.caller e.call) so_far.console ∙ sym (made_more _ done e);
-      same = same_more _ done e so_far.same (reply_is _ _ e.call e.reply so_far.console (is.same.0 c.if-not-branch.false));
+      console = again_more _ done e _ (is.made (made _ done) so_far.console);
+      same = same_more _ done e so_far.same ((is.same (made _ done) so_far.console).0 c.if-not-branch.false);
       count = ap (λ n. n + 1) so_far.count ∙ one_longer done e;
+      few = omega arith;
       held = is.empty c.if-not-branch.false;
       split = so_far.split ∙ ap (λ v. done ++ v) step ∙ sym (append_assoc done (e ∷ []) c.next.new.self.rest.items);
     }
@@ -40,4 +42,4 @@ returns-then-not-branch g c =
     let step : c.loop-entry.entry-iterator.rest.items ≡ e ∷ c.next.new.self.rest.items = search rules in
     let is = c.in_ok-has_same_reply.ensures in
     differs_here _ c.args.entries.items done c.next.new.self.rest.items e c.loop-entry.count (so_far.split ∙ ap (λ v. done ++ v) step) so_far.same
-    (reply_is_not _ _ e.call e.reply _ so_far.console is.same c.if-not-branch.true) so_far.count
+    (is_not _ _ (is.same (made _ done) so_far.console) c.if-not-branch.true) so_far.count

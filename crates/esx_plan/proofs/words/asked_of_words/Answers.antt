@@ -28,6 +28,7 @@ returns-in-Some-clause-refused c =
 pub returns : goal.returns
 returns c = record {
   ok = tt;
+  taken = tt;
   refused = λ _. inl (not_true _ (λ t.
       c.in_default-kind.not-OutOfMemory (c.kind.ensures ∙ c.in-Err.ensures.passes (ap (λ a. takes a (map string_bytes c.args.words.now)) c.in-Ok.ensures ∙ t))));
 }

@@ -7,5 +7,6 @@ invariant-loop g l = record {
   given : Consumes (g.R.Source.remaining l.initial.source) (g.R.Source.remaining l.source) l.bytes.items;
   failures : g.R.Source.failures l.source ≡ g.R.Source.failures l.initial.source;
   calls : g.R.Source.calls l.source ≡ g.R.Source.calls l.initial.source + l.counter;
+  each : l.counter ≤ length l.bytes.items;
   few : length l.bytes.items ≤ 2 ^ 26;
 }

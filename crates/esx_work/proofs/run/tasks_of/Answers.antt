@@ -1,4 +1,4 @@
-use Rattle.std.proofs.Common.{◌≡◌, ◌∙◌, ◌+◌, ◌<◌, ℕ, Some, ap, length, length-append, slice_get, refl, sym}
+use Rattle.std.proofs.Common.{◌≡◌, ◌∙◌, ◌+◌, ◌<◌, ℕ, Some, ap, length, length-append, slice_get, refl}
 use Rattle.esx_work.specs.declared.run.Task.{Task}
 use Rattle.esx_work.proofs.Meets.{left_on, first_left, end_on}
 use Rattle.esx_work.proofs.run.tasks_of.Goals as goal

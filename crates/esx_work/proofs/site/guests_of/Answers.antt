@@ -1,4 +1,4 @@
-use Rattle.std.proofs.Common.{◌≡◌, ◌∙◌, ◌+◌, ℕ, List, map, ap, length, length-append, refl}
+use Rattle.std.proofs.Common.{◌∙◌, ◌+◌, ℕ, List, map, ap, length, length-append, refl}
 use Rattle.std.specs.Borrow.{Bor}
 use Rattle.esx_scenario.specs.declared.plan.Guest.{Guest}
 use Rattle.esx_workers.specs.declared.worker.Worker.{Worker}

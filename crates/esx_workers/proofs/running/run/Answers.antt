@@ -1,5 +1,4 @@
-use Rattle.std.proofs.Common.{◌≡◌, ◌∙◌, ◌+◌, ◌<◌, ◌≤◌, ◌++◌, ◌∷◌, [], ℕ, Bool, true, false, true≢false, Some, cond, inl, inr, sym, ap, refl, subst, arith}
-use Rattle.esx_events.specs.declared.call.Call.{Call}
+use Rattle.std.proofs.Common.{◌≡◌, ◌∙◌, ◌+◌, ◌<◌, ◌≤◌, ◌++◌, ◌∷◌, [], ℕ, Bool, false, true≢false, Some, cond, inl, inr, sym, ap, refl, subst, arith}
 use Rattle.esx_door.specs.Own.{line, lines_of}
 use Rattle.esx_workers.specs.declared.end.End.{End}
 use Rattle.esx_workers.specs.declared.worker.Worker.{Worker}
@@ -29,7 +28,7 @@ loop-turn-preserved g c =
           (c.if-hear.ensures.passed ∙ ap (λ (b : Bool). c.loop-turn.tally.passed + cond (is_passed b reply.said) 1 0) c.is_access-access.ensures)
           (not_other false _ _ refl c.if-hear.ensures.jumped),
       (λ o. (c.pass_through.ensures.open (inv.4 o)).1),
-      let_more _ _ _ _ _ inv.5 (subst (λ (b : Bool). g.G.Gate.passes c.loop-turn.gate (c.loop-turn.turn + 1) b c.pass_through.new.self) c.if-not-pass_through.false c.pass_through.ensures.passes),
+      let_more _ _ _ _ _ _ inv.5 c.pass_through.ensures.passes c.if-not-pass_through.false,
     )
 
 pub returns-in_err-call-clause-err : goal.returns-in_err-call-clause-err
@@ -88,8 +87,7 @@ returns-in_default-clause-gate g c = gated_rest _ _ _ _ _ _ _ _ c.loop-turn.inva
 
 pub returns-then-not-pass_through-clause-gate : goal.returns-then-not-pass_through-clause-gate
 returns-then-not-pass_through-clause-gate g c =
-    gated_up _ _ _ _ _ _ _ _ c.loop-turn.invariant.3 _ _ c.loop-turn.gate _ c.args.turns c.end-then-not-pass_through.result c.in-Some.call _ refl c.loop-turn.invariant.5
-    (subst (λ (b : Bool). g.G.Gate.passes c.loop-turn.gate (c.loop-turn.turn + 1) b c.pass_through.new.self) c.if-not-pass_through.true c.pass_through.ensures.passes)
+    gated_up _ _ _ _ _ _ _ _ c.loop-turn.invariant.3 _ _ _ _ _ c.args.turns c.end-then-not-pass_through.result c.in-Some.call _ refl c.loop-turn.invariant.5 c.pass_through.ensures.passes c.if-not-pass_through.true
     c.loop-turn-test.true
     (sym c.in_ok-call.ensures.call ∙ c.in-Some.is)
     (ap (λ (e : End). e.how) c.end-then-not-pass_through.ensures ∙ (c.rest-then-not-pass_through.ensures ∙ (ap rest c.in_ok-call.ensures.asked ∙ rest_asked c.loop-turn.worker)))
@@ -104,7 +102,7 @@ returns-then-hear-clause-gate g c =
     gated_rewound _ _ _ _ _ _ _ _ inv.3 call reply _
     (subst (λ (k : ℕ). lines_of k (g.D.Door.seen c.submit.new.self) ≡ lines_of k (g.D.Door.seen c.loop-turn.door) ++ line k call reply ∷ []) inv.2 c.in_ok-reply.ensures.ok)
     asks_it _ _ _ c.args.turns c.end-then-hear.result
-    (let_more _ _ _ _ _ inv.5 (subst (λ (b : Bool). g.G.Gate.passes c.loop-turn.gate (c.loop-turn.turn + 1) b c.pass_through.new.self) c.if-not-pass_through.false c.pass_through.ensures.passes))
+    (let_more _ _ _ _ _ _ inv.5 c.pass_through.ensures.passes c.if-not-pass_through.false)
     (ap (λ (e : End). e.how) c.end-then-hear.ensures)
 
 pub returns-clause-gate : goal.returns-clause-gate

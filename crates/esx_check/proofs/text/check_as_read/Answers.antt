@@ -1,0 +1,54 @@
+use Rattle.std.proofs.Common.{sym, ◌∙◌, ap, arith, ◌+◌, ◌++◌, ◌∷◌, []}
+use Rattle.std.proofs.lemmas.Result.{err_from_is_err_and}
+use Rattle.esx_check.specs.Again.{made}
+use Rattle.esx_check.proofs.CheckLemmas.{is_not}
+use Rattle.esx_check.proofs.TextLemmas.{nothing_so_far, one_more_so_far, all_same, one_differs}
+use Rattle.esx_check.proofs.text.check_as_read.Goals as goal
+
+pub loop-entry-init : goal.loop-entry-init
+loop-entry-init g c = record {
+  so_far = λ text site follows answers. nothing_so_far text site _ _ follows answers;
+  count = sym c.requires.none.0;
+  few = omega (arith, c.requires.none.1);
+  held = c.requires.empty;
+}
+
+pub loop-entry-preserved : goal.loop-entry-preserved
+loop-entry-preserved g c =
+    let is = c.in-Ok.ensures in
+    let entry = c.in_ok-entry.ensures in
+    record {
+      so_far = λ text site follows answers.
+          let so_far = c.loop-entry.invariant.so_far text site follows answers in
+          one_more_so_far text _ _ _ _ _ c.in-Some.entry so_far (rw c.in-Some.is at (entry.some text so_far.site so_far.done so_far.follows))
+          (is.made (made so_far.site so_far.done) so_far.answers) ((is.same (made so_far.site so_far.done) so_far.answers).0 c.if-not-same.false);
+      count = ap (λ n. n + 1) c.loop-entry.invariant.count ∙ sym (rw c.in-Some.is at entry.count);
+      few = omega arith;
+      held = is.empty c.if-not-same.false;
+    }
+
+pub returns-in_err-entry-clause-only : goal.returns-in_err-entry-clause-only
+returns-in_err-entry-clause-only g c = λ text site follows answers.
+    let so_far = c.loop-entry.invariant.so_far text site follows answers in
+    let p = err_from_is_err_and c.from_residual.result c.from_residual.ensures.1 in
+    rw (p.1, p.2) (c.in_err-entry.ensures.only text so_far.site so_far.done so_far.follows)
+
+pub returns-in_err-read_on-clause-only : goal.returns-in_err-read_on-clause-only
+returns-in_err-read_on-clause-only g c = λ text site follows answers.
+    let so_far = c.loop-entry.invariant.so_far text site follows answers in
+    let p = err_from_is_err_and c.from_residual-in_err-read_on.result c.from_residual-in_err-read_on.ensures.1 in
+    let next = rw c.in-Some.is at (c.in_ok-entry.ensures.some text so_far.site so_far.done so_far.follows) in
+    rw (p.1, p.2) (c.in_err-read_on.ensures.only text so_far.site (so_far.done ++ c.in-Some.entry ∷ []) next)
+
+pub returns-then-not-same-clause-ok : goal.returns-then-not-same-clause-ok
+returns-then-not-same-clause-ok g c = λ text site follows answers.
+    let so_far = c.loop-entry.invariant.so_far text site follows answers in
+    let next = rw c.in-Some.is at (c.in_ok-entry.ensures.some text so_far.site so_far.done so_far.follows) in
+    let on = c.in_ok-read_on.ensures.ok text so_far.site (so_far.done ++ c.in-Some.entry ∷ []) next in
+    one_differs text _ _ _ c.in-Some.entry so_far on.0 on.1
+    (is_not _ _ (c.in-Ok.ensures.same (made so_far.site so_far.done) so_far.answers) c.if-not-same.true)
+
+pub returns-clause-ok : goal.returns-clause-ok
+returns-clause-ok g c = λ text site follows answers.
+    let so_far = c.loop-entry.invariant.so_far text site follows answers in
+    all_same text _ _ _ so_far (rw c.in_default.is at (c.in_ok-entry.ensures.none text so_far.site so_far.done so_far.follows))

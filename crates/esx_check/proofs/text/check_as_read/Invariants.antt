@@ -1,0 +1,18 @@
+use Rattle.std.proofs.Common.{◌≡◌, ◌≤◌, ℕ, List, [], length}
+use Rattle.esx_types.specs.declared.config.Config.{Config}
+use Rattle.esx_console.specs.Calls.{opened_session}
+use Rattle.esx_console.specs.Unlogged.{AnswersAs}
+use Rattle.esx_session.specs.Reading.{Follows}
+use Rattle.esx_check.proofs.TextLemmas.{SoFar}
+use Rattle.esx_check.proofs.text.check_as_read.Given as goal
+
+abbrev pub invariant-loop-entry : goal.invariant-loop-entry
+invariant-loop-entry g l = record {
+  so_far : (text : List ℕ) (site : Config) → Follows text site [] l.initial.calls → AnswersAs l.initial.again.console (opened_session site) → SoFar text l.calls l.again.console l.count;
+  count : l.count ≡ l.calls.count;
+  few : l.again.console.jumps ≤ l.count;
+  held : l.again.held ≡ [];
+}
+
+abbrev pub decreases-loop-entry : goal.decreases-loop-entry
+decreases-loop-entry g l = length l.calls.at.left

@@ -1,0 +1,87 @@
+//! The text of a session, read and checked in one pass.
+
+ghost use Rattle.std.specs.Prelude.{◌≡◌, ◌++◌, [], ℕ, List, IfOk, IfErr, IsErrOf, OnOk};
+ghost use Rattle.esx_types.specs.declared.config.Config.{Config};
+ghost use Rattle.esx_console.specs.Calls.{opened_session};
+ghost use Rattle.esx_console.specs.Unlogged.{AnswersAs};
+ghost use Rattle.esx_session.specs.declared.session.Entry.{Entry};
+ghost use Rattle.esx_session.specs.Sessions.{Reads, HasOpening, IsRefused};
+ghost use Rattle.esx_session.specs.Reading.{Follows};
+ghost use Rattle.esx_check.specs.Checks.{ChecksText};
+
+use crate::again::Again;
+use crate::check::Checked;
+use esx_door::{Gate, Open};
+use esx_reading::TextFault;
+use esx_session::{Calls, open_calls};
+use std::alloc::Global;
+
+/// Reads the calls that are left, up to the end of the text.
+fn read_on(alloc: Global, calls: &mut Calls) -> Result<(), TextFault>
+    ensures ok { (text : List ℕ) (site : Config) (done : List Entry) → Follows text site done calls.old
+        → OnOk result ((later : List Entry) × Reads text site (done ++ later)) }
+    ensures only { (text : List ℕ) (site : Config) (done : List Entry) → Follows text site done calls.old → IfErr result (λ e. IsRefused e text) }
+{
+    while let Some(_entry) = calls.next(alloc)? {}
+    Ok(())
+}
+
+/// Makes the calls of a text again as they are read, from the first on, and passes the gate before each.
+fn check_as_read<G: Gate>(
+    alloc: Global,
+    again: &mut Again,
+    calls: &mut Calls,
+    gate: &mut G,
+) -> Result<Checked, TextFault>
+    requires none { (calls.old.count ≡ 0) × (again.old.console.jumps ≡ 0) }
+    requires empty { again.old.held ≡ [] }
+    ensures ok { (text : List ℕ) (site : Config) → Follows text site [] calls.old → AnswersAs again.old.console (opened_session site)
+        → IfOk result (ChecksText text) }
+    ensures only { (text : List ℕ) (site : Config) → Follows text site [] calls.old → AnswersAs again.old.console (opened_session site)
+        → IfErr result (λ e. IsRefused e text) }
+{
+    let mut count: u64 = 0;
+    while let Some(entry) = calls.next(alloc)? {
+        count += 1;
+        let Ok(same) = again.has_same_reply(gate, count, entry) else {
+            return Err(TextFault::OutOfMemory);
+        };
+        if !same {
+            read_on(alloc, calls)?;
+            return Ok(Checked::Differs(count));
+        }
+    }
+    Ok(Checked::Same(count))
+}
+
+/// Reads the session of a text and makes its calls again as they are read, up to the first that has another reply
+/// than the one that stands with it. From there on the text is only read: a bad line behind a difference is
+/// the fault all the same.
+///
+/// Beside the text and the tables of the site there is one entry at a time. Memory is taken behind the first two
+/// lines alone.
+pub fn check_text(alloc: Global, text: &str) -> Result<Checked, TextFault>
+    ensures ok { IfOk result (ChecksText text.now) }
+    ensures only { IfErr result (λ e. IsRefused e text.now) }
+    ensures memory { IsErrOf result TextFault.OutOfMemory → HasOpening text.now }
+{
+    check_text_through(alloc, text, &mut Open)
+}
+
+/// As `check_text`, and passes the gate before each call, with the number of the call as its turn (past
+/// 2^32 - 1 with that number). What the check comes to is the same whatever the gate answers.
+pub fn check_text_through<G: Gate>(
+    alloc: Global,
+    text: &str,
+    gate: &mut G,
+) -> Result<Checked, TextFault>
+    ensures ok { IfOk result (ChecksText text.now) }
+    ensures only { IfErr result (λ e. IsRefused e text.now) }
+    ensures memory { IsErrOf result TextFault.OutOfMemory → HasOpening text.now }
+{
+    let (site, mut calls) = open_calls(text)?;
+    let Ok(mut again) = Again::open(alloc, site) else {
+        return Err(TextFault::OutOfMemory);
+    };
+    check_as_read(alloc, &mut again, &mut calls, gate)
+}

@@ -1,0 +1,29 @@
+use Rattle.std.proofs.Common.{◌∙◌, ap, refl, length}
+use Rattle.std.proofs.lemmas.Result.{err_from_is_err_and}
+use Rattle.esx_session.specs.Reading.{Place}
+use Rattle.esx_session.proofs.CallsLemmas.{end_line, late_line, not_end, lacks_entry, ends_early, one_more}
+use Rattle.esx_session.proofs.calls.next_entry.Goals as goal
+
+pub returns-in-None-clause-only : goal.returns-in-None-clause-only
+returns-in-None-clause-only c = λ start done is count.
+    let at = c.passed.ensures.value ∙ ap (λ (p : Place). p.passed) c.in-None.ensures.left.1 in
+    rw at (ends_early start c.args.place.now done is c.in-None.ensures.left.0)
+
+pub returns-in-Some-next-clause-only : goal.returns-in-Some-next-clause-only
+returns-in-Some-next-clause-only c = λ start done is count.
+    let end = c.if-is_end.ensures.0 refl ∙ ap end_line count in
+    rw c.passed-in-Some-next.ensures.value (late_line start c.args.place.now c.next.new.self c.next-in-Some.new.self done c.in-Some.line.now c.in-Some-next.field-0.now
+    is c.in-Some.ensures.left c.in-Some.ensures.passed end c.in-Some-next.ensures.left c.in-Some-next.ensures.passed)
+
+pub returns-in_err-read_entry-in-Some-2-clause-only : goal.returns-in_err-read_entry-in-Some-2-clause-only
+returns-in_err-read_entry-in-Some-2-clause-only c = λ start done is count.
+    let p = err_from_is_err_and c.from_residual.result c.from_residual.ensures.1 in
+    rw (p.1, p.2) (lacks_entry c.in_err-read_entry-in-Some-2.field-0.0 start c.args.place.now c.next.new.self done c.in-Some.line.now is
+    c.in-Some.ensures.left c.in-Some.ensures.passed c.in-Some.ensures.line
+    (not_end c.in-Some.line.now c.is_end.result c.args.count (length done) count c.is_end.ensures c.if-is_end.false)
+    c.in_err-read_entry-in-Some-2.ensures.only)
+
+pub returns-in_ok-read_entry-in-Some-2-clause-some : goal.returns-in_ok-read_entry-in-Some-2-clause-some
+returns-in_ok-read_entry-in-Some-2-clause-some c = λ start done is.
+    one_more start c.args.place.now c.next.new.self c.read_entry.new.place done c.in-Some.line.now c.in_ok-read_entry-in-Some-2.field-0 is
+    c.in-Some.ensures.left c.in-Some.ensures.passed c.in_ok-read_entry-in-Some-2.ensures.ok

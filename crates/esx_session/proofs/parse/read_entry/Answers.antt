@@ -1,5 +1,0 @@
-use Rattle.esx_session.proofs.EntryLemmas.{takes_entry}
-use Rattle.esx_session.proofs.parse.read_entry.Goals as goal
-
-pub returns-clause-ok : goal.returns-clause-ok
-returns-clause-ok c = takes_entry c.args.line.now c.args.place.now c.read_reply.new.place c.in-Ok.found.0 c.in-Ok.found.1 c.in_ok-reply.reply c.in-Ok.ensures.found c.in_ok-reply.ensures.ok

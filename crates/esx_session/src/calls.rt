@@ -1,0 +1,187 @@
+//! The calls of a session, read one by one.
+
+ghost use Rattle.std.specs.Prelude.{◌≡◌, ◌∷◌, ◌+◌, ◌++◌, ◌<◌, ◌^◌, [], ℕ, List, length, IfOk, IfErr, IsErrOf, IfSome, IfNone, OnOk, OnErr, MatchBool};
+ghost use Rattle.esx_types.specs.Ranges.{IsConfig};
+ghost use Rattle.esx_types.specs.declared.config.Config.{Config};
+ghost use Rattle.esx_reading.specs.Fields.{joined};
+ghost use Rattle.esx_session.specs.declared.session.Entry.{Entry};
+ghost use Rattle.esx_session.specs.Sessions.{site_words, IsEntry, Reads, HasOpening, IsRefused};
+ghost use Rattle.esx_session.specs.Reading.{head_line, placed, TakesReply, LacksReply, TakesEntry, LacksEntry, AreRead, TellsCalls, LacksCalls, LacksHead, LacksOpening, Follows};
+
+use crate::line::{call_of, is_end};
+use crate::place::Place;
+use crate::session::Entry;
+use crate::site::site_of;
+use esx_reading::TextFault;
+use esx_types::{Bytes, Config};
+use std::alloc::{AllocError, Global};
+use std::marker::Model;
+
+/// The first line of each session.
+const HEAD: &str = "esx session 1";
+
+/// Adds a line to the text of a reply.
+fn add_line(reply: &mut Vec<u8>, line: &str) -> Result<(), AllocError>
+    ensures { OnOk result (reply.new.items ≡ reply.old.items ++ (line.now ++ 10 ∷ [])) }
+{
+    reply.reserve(line.len() + 1)?;
+    reply.extend_from_slice(line.as_bytes())?;
+    reply.push(b'\n')?;
+    Ok(())
+}
+
+/// The lines of a reply, of which there is at least one.
+fn read_reply(alloc: Global, place: &mut Place) -> Result<Bytes, TextFault>
+    ensures ok { IfOk result (TakesReply place.old place.new) }
+    ensures only { IfErr result (λ e. LacksReply e place.old) }
+{
+    let mut reply = Vec::new(alloc);
+    while let Some(line) = place.next_reply() {
+        let Ok(()) = add_line(&mut reply, line) else {
+            return Err(TextFault::OutOfMemory);
+        };
+    }
+    if reply.is_empty() {
+        return Err(TextFault::BadLine(place.passed() + 1));
+    }
+    Ok(Bytes::from_vec(reply))
+}
+
+/// The same fault at a line of the text.
+fn at_line(fault: TextFault, number: u64) -> TextFault
+    ensures { result ≡ placed fault number }
+{
+    match fault {
+        TextFault::BadLine(_) => TextFault::BadLine(number),
+        other => other,
+    }
+}
+
+/// A call, of which the first line was passed, and its reply.
+fn read_entry(alloc: Global, line: &str, place: &mut Place) -> Result<Entry, TextFault>
+    ensures ok { IfOk result (TakesEntry line.now place.old place.new) }
+    ensures only { IfErr result (λ e. LacksEntry e line.now place.old) }
+{
+    let (caller, call) = match call_of(alloc, line) {
+        Ok(found) => found,
+        Err(fault) => return Err(at_line(fault, place.passed())),
+    };
+    let reply = read_reply(alloc, place)?;
+    Ok(Entry {
+        caller,
+        call,
+        reply,
+    })
+}
+
+/// The next call behind so many, with its reply. `None` at the last line, behind which nothing stands.
+fn next_entry(alloc: Global, place: &mut Place, count: u64) -> Result<Option<Entry>, TextFault>
+    ensures some { (start : Place) (done : List Entry) → AreRead start place.old done
+        → IfOk result (λ next. IfSome next (λ entry. AreRead start place.new (done ++ entry ∷ []))) }
+    ensures none { (start : Place) (done : List Entry) → AreRead start place.old done → count ≡ length done
+        → IfOk result (λ next. IfNone next (TellsCalls start.left done)) }
+    ensures only { (start : Place) (done : List Entry) → AreRead start place.old done → count ≡ length done → IfErr result (λ e. LacksCalls e start) }
+    ensures entry { IfOk result (λ next. IfSome next IsEntry) }
+    ensures passed { IfOk result (λ next. IfSome next (λ entry. place.old.passed < place.new.passed)) }
+    ensures left { IfOk result (λ next. IfSome next (λ entry. length place.new.left < length place.old.left)) }
+{
+    match place.next() {
+        None => Err(TextFault::BadLine(place.passed() + 1)),
+        Some(line) if is_end(line, count) => match place.next() {
+            None => Ok(None),
+            Some(_) => Err(TextFault::BadLine(place.passed())),
+        },
+        Some(line) => Ok(Some(read_entry(alloc, line, place)?)),
+    }
+}
+
+/// Passes the first line. Whether it is that of a session.
+fn pass_head(place: &mut Place) -> bool
+    ensures { MatchBool result ((place.old.left ≡ head_line ∷ place.new.left) × (place.new.passed ≡ place.old.passed + 1)) (LacksHead place.old.left) }
+{
+    match place.next() {
+        Some(line) => line == HEAD,
+        None => false,
+    }
+}
+
+/// The site, from the first two lines.
+fn read_opening(place: &mut Place) -> Result<Config, TextFault>
+    ensures ok { IfOk result (λ site. IsConfig site × (place.old.left ≡ head_line ∷ joined (site_words site) ∷ place.new.left)) }
+    ensures passed { IfOk result (λ site. place.new.passed ≡ place.old.passed + 2) }
+    ensures only { IfErr result (λ e. LacksOpening e place.old.left) }
+{
+    if !pass_head(place) {
+        return Err(TextFault::BadLine(1));
+    }
+    let Some(line) = place.next() else {
+        return Err(TextFault::BadLine(2));
+    };
+    let Some(site) = site_of(line) else {
+        return Err(TextFault::BadLine(2));
+    };
+    Ok(site)
+}
+
+/// The calls of a session's text, read one by one. It holds none of them: each entry that it gives holds its own
+/// call and reply, and no memory is taken but for that entry.
+#[derive(Drop)]
+pub struct Calls<'a> {
+    place: Place<'a>,
+    count: u64,
+}
+
+impl<'a> Model for Calls<'a> {
+    ghost use Rattle.std.specs.Prelude.{◌+◌, ◌≤◌};
+    ghost use Rattle.esx_session.specs.Reading.{Reader};
+
+    ghost Value = { Reader };
+
+    ghost view = { λ c. record { at = c.place; count = c.count } };
+
+    ghost invariant = { λ c. c.count + 2 ≤ c.place.passed };
+}
+
+/// The site of a text, and its calls, of which none is read yet. `BadLine(1)` and `BadLine(2)` where the first line,
+/// or the one behind it, is that of no session. No memory is taken.
+pub fn open_calls<'a>(text: &'a str) -> Result<(Config, Calls<'a>), TextFault>
+    ensures ok { IfOk result (λ p. Follows text.now p.0 [] p.1) }
+    ensures site { IfOk result (λ p. IsConfig p.0) }
+    ensures opening { OnOk result (HasOpening text.now) }
+    ensures only { IfErr result (λ e. IsRefused e text.now) }
+    ensures memory { IsErrOf result TextFault.OutOfMemory → ⊥ }
+{
+    let mut place = Place::start(text);
+    let site = read_opening(&mut place)?;
+    Ok((site, Calls { place, count: 0 }))
+}
+
+impl<'a> Calls<'a> {
+    /// The next call, with its reply. `None` behind the last of them, where the text ends with the number of its
+    /// calls and nothing else. `BadLine` has the first line at which the text is no session, from 1 on: one past
+    /// its last line where it ends too early. `OutOfMemory` where there is none for the entry.
+    ///
+    /// The reader goes on behind the entry that it gives, and else stays where it is: after the end it says the end
+    /// again, after a bad line the same line, and after want of memory it tries the same entry once more.
+    pub fn next(&mut self, alloc: Global) -> Result<Option<Entry>, TextFault>
+        ensures some { (text : List ℕ) (site : Config) (done : List Entry) → Follows text site done self.old
+            → IfOk result (λ next. IfSome next (λ entry. Follows text site (done ++ entry ∷ []) self.new)) }
+        ensures none { (text : List ℕ) (site : Config) (done : List Entry) → Follows text site done self.old
+            → IfOk result (λ next. IfNone next (Reads text site done)) }
+        ensures only { (text : List ℕ) (site : Config) (done : List Entry) → Follows text site done self.old → IfErr result (λ e. IsRefused e text) }
+        ensures entry { IfOk result (λ next. IfSome next IsEntry) }
+        ensures count { IfOk result (λ next. IfSome next (λ entry. self.new.count ≡ self.old.count + 1)) }
+        ensures bound { IfOk result (λ next. IfSome next (λ entry. self.new.count < 2 ^ 63)) }
+        ensures left { IfOk result (λ next. IfSome next (λ entry. length self.new.at.left < length self.old.at.left)) }
+        ensures end { IfOk result (λ next. IfNone next (self.new ≡ self.old)) }
+        ensures refused { OnErr result (self.new ≡ self.old) }
+    {
+        let mut ahead = self.place.ahead();
+        let Some(entry) = next_entry(alloc, &mut ahead, self.count)? else {
+            return Ok(None);
+        };
+        self.place = ahead;
+        self.count += 1;
+        Ok(Some(entry))
+    }
+}
