@@ -10,4 +10,5 @@ pub use Rattle.esx_session.specs.Reading
 pub mod Comparing
 pub mod Again
 pub mod Checks
+pub mod Gates
 pub mod Replays

@@ -1,11 +1,12 @@
 //! The console at which a session is gone through again.
 
-ghost use Rattle.std.specs.Prelude.{◌≡◌, ◌+◌, ◌<◌, ◌≤◌, ◌^◌, ◌↔◌, [], IfOk, OnOk, IsTrue};
+ghost use Rattle.std.specs.Prelude.{◌≡◌, ◌+◌, ◌<◌, ◌≤◌, ◌^◌, ◌↔◌, [], Bool, IfOk, OnOk, IsTrue};
 ghost use Rattle.esx_types.specs.Ranges.{IsConfig};
 ghost use Rattle.esx_model.specs.Console.{Session, next_reply, lined};
 ghost use Rattle.esx_console.specs.Calls.{opened_session};
 ghost use Rattle.esx_console.specs.Unlogged.{AnswersAs};
 ghost use Rattle.esx_replies.specs.Replies.{reply_text};
+ghost use Rattle.esx_check.specs.Gates.{turn_of};
 
 use crate::comparing::has_text;
 use esx_console::{Console, Unlogged};
@@ -62,6 +63,7 @@ impl Again {
         ensures same { IfOk result (λ same. (s : Session) → AnswersAs self.old.console s → IsTrue same ↔ (reply_text (next_reply s entry.call) ≡ entry.reply)) }
         ensures few { OnOk result (self.new.console.jumps ≤ self.old.console.jumps + 1) }
         ensures empty { IfOk result (λ same. IsTrue same → self.new.held ≡ []) }
+        ensures gate { (answer : Bool) × G.passes gate.old (turn_of number) answer gate.new }
     {
         gate.pass_through(u32::try_from(number).unwrap_or(u32::MAX));
         let reply = self.console.call(&entry.call)?;

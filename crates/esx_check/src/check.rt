@@ -1,9 +1,10 @@
 //! Whether the calls of a session have the replies that stand with them.
 
-ghost use Rattle.std.specs.Prelude.{◌≡◌, ◌+◌, [], OnOk, IfOk};
+ghost use Rattle.std.specs.Prelude.{◌≡◌, ◌+◌, [], OnOk, OnErr, IfOk};
 ghost use Rattle.esx_types.specs.Ranges.{IsConfig};
 ghost use Rattle.esx_writing.specs.Writing.{Writes, sink_faults};
 ghost use Rattle.esx_check.specs.Checks.{Checks, checked_text};
+ghost use Rattle.esx_check.specs.Gates.{calls_made, PassedFor, PassedForSome};
 
 use crate::again::Again;
 use esx_door::{Gate, Open};
@@ -29,7 +30,9 @@ fn check_calls<G: Gate>(
     gate: &mut G,
 ) -> Result<Checked, AllocError>
     requires { IsConfig site }
-    ensures { IfOk result (Checks site entries.items) }
+    ensures ok { IfOk result (Checks site entries.items) }
+    ensures gate { IfOk result (λ checked. PassedFor G.passes (calls_made checked) gate.old gate.new) }
+    ensures some { OnErr result (PassedForSome G.passes gate.old gate.new) }
 {
     let mut again = Again::open(alloc, site)?;
     let mut count: u64 = 0;
@@ -62,7 +65,9 @@ pub fn check_session_through<G: Gate>(
     gate: &mut G,
 ) -> Result<Checked, AllocError>
     requires { IsConfig session.site }
-    ensures { IfOk result (Checks session.site session.entries) }
+    ensures ok { IfOk result (Checks session.site session.entries) }
+    ensures gate { IfOk result (λ checked. PassedFor G.passes (calls_made checked) gate.old gate.new) }
+    ensures some { OnErr result (PassedForSome G.passes gate.old gate.new) }
 {
     check_calls(alloc, session.site, session.entries.into_vec(), gate)
 }

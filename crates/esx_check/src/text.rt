@@ -1,6 +1,6 @@
 //! The text of a session, read and checked in one pass.
 
-ghost use Rattle.std.specs.Prelude.{◌≡◌, ◌++◌, [], ℕ, List, IfOk, IfErr, IsErrOf, OnOk};
+ghost use Rattle.std.specs.Prelude.{◌≡◌, ◌++◌, [], ℕ, List, IfOk, IfErr, IsErrOf, OnOk, OnErr};
 ghost use Rattle.esx_types.specs.declared.config.Config.{Config};
 ghost use Rattle.esx_console.specs.Calls.{opened_session};
 ghost use Rattle.esx_console.specs.Unlogged.{AnswersAs};
@@ -8,6 +8,7 @@ ghost use Rattle.esx_session.specs.declared.session.Entry.{Entry};
 ghost use Rattle.esx_session.specs.Sessions.{Reads, HasOpening, IsRefused};
 ghost use Rattle.esx_session.specs.Reading.{Follows};
 ghost use Rattle.esx_check.specs.Checks.{ChecksText};
+ghost use Rattle.esx_check.specs.Gates.{calls_made, PassedFor, PassedForSome};
 
 use crate::again::Again;
 use crate::check::Checked;
@@ -39,6 +40,8 @@ fn check_as_read<G: Gate>(
         → IfOk result (ChecksText text) }
     ensures only { (text : List ℕ) (site : Config) → Follows text site [] calls.old → AnswersAs again.old.console (opened_session site)
         → IfErr result (λ e. IsRefused e text) }
+    ensures gate { IfOk result (λ checked. PassedFor G.passes (calls_made checked) gate.old gate.new) }
+    ensures some { OnErr result (PassedForSome G.passes gate.old gate.new) }
 {
     let mut count: u64 = 0;
     while let Some(entry) = calls.next(alloc)? {
@@ -78,6 +81,8 @@ pub fn check_text_through<G: Gate>(
     ensures ok { IfOk result (ChecksText text.now) }
     ensures only { IfErr result (λ e. IsRefused e text.now) }
     ensures memory { IsErrOf result TextFault.OutOfMemory → HasOpening text.now }
+    ensures gate { IfOk result (λ checked. PassedFor G.passes (calls_made checked) gate.old gate.new) }
+    ensures some { OnErr result (PassedForSome G.passes gate.old gate.new) }
 {
     let (site, mut calls) = open_calls(text)?;
     let Ok(mut again) = Again::open(alloc, site) else {

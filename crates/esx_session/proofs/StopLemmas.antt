@@ -8,7 +8,7 @@ use Rattle.esx_types.specs.declared.config.Config.{Config}
 use Rattle.esx_reading.specs.declared.fault.TextFault.{TextFault}
 use Rattle.esx_reading.specs.declared.fault.TextFault.TheVariants.{NotToml, BadKey, BadLine, NotText, Differs, Read, Write, OutOfMemory}
 use Rattle.esx_session.specs.declared.session.Entry.{Entry}
-use Rattle.esx_session.specs.Sessions.{ended, end_text, Tells, Reads, TellsNone, Begins, StopsAt, IsRefused}
+use Rattle.esx_session.specs.Sessions.{ended, end_text, Tells, Reads, TellsNone, Begins, StopsAt, IsRefused, HasOpening}
 use Rattle.esx_session.specs.Reading.{Place, HasNoFeed, head_line, calls_text, TellsCalls, IsStuck, StopsCalls, LacksCalls, LacksHead, LacksSite, LacksOpening}
 use Rattle.esx_session.proofs.FeedLemmas.{known_stay, no_feed}
 use Rattle.esx_session.proofs.FrontLemmas.{same_line}
@@ -127,6 +127,28 @@ no_opening (Differs k) text h = absurd h
 no_opening Read text h = absurd h
 no_opening Write text h = absurd h
 no_opening OutOfMemory text h = absurd h
+
+-- neither of the first two lines of a session is wrong
+lacks_head : (told others : List (List ℕ)) → told ≡ head_line ∷ others → LacksHead told → ⊥
+lacks_head told others e lacks = (rw e at lacks).1 refl
+
+lacks_site : (left others : List (List ℕ)) (site : Config) → IsConfig site → left ≡ site_line site ∷ others → LacksSite left → ⊥
+lacks_site left others site range e lacks = (rw e at lacks).1 site (record { range = range; spelled = refl })
+
+abbrev behind_first_line : List (List ℕ) → List (List ℕ)
+behind_first_line [] = []
+behind_first_line (line ∷ others) = others
+
+pub lost_opening : (fault : TextFault) (text : List ℕ) → LacksOpening fault (lines text) → HasOpening text → ⊥
+lost_opening NotToml text h o = h
+lost_opening (BadKey path) text h o = h
+lost_opening (BadLine n) text (inl h) o = lacks_head (lines text) _ o.3 h.1
+lost_opening (BadLine n) text (inr h) o = lacks_site h.1.0 o.1 o.0 o.2 (ap behind_first_line (sym h.1.1 ∙ o.3)) h.1.2
+lost_opening NotText text h o = h
+lost_opening (Differs k) text h o = h
+lost_opening Read text h o = h
+lost_opening Write text h o = h
+lost_opening OutOfMemory text h o = h
 
 -- the calls of a session with these first two lines
 calls_of : (site other : Config) (told : List (List ℕ)) (entries : List Entry) → IsConfig site → Tells (head_line ∷ site_line site ∷ told) other entries → TellsCalls told entries

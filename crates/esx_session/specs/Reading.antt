@@ -123,6 +123,11 @@ pub record AreRead (old new : Place) (entries : List Entry) : Type 0 where
   pub range : AllByRecursion IsEntry entries
   pub next : SettledLines entries new.left
 
+-- a line stands there, and it is not the last of a session of so many calls
+abbrev pub GoesOn : ℕ → List (List ℕ) → Type 0
+GoesOn count [] = ⊥
+GoesOn count (line ∷ lines) = line ≡ codes "end " ++ decimal count → ⊥
+
 -- behind some lines the next cannot stand, or they cannot end
 abbrev pub IsStuck : List (List ℕ) → List (List ℕ) → Type 0
 IsStuck front [] = (entries : List Entry) → TellsCalls front entries → ⊥

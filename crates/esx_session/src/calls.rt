@@ -6,7 +6,7 @@ ghost use Rattle.esx_types.specs.declared.config.Config.{Config};
 ghost use Rattle.esx_reading.specs.Fields.{joined};
 ghost use Rattle.esx_session.specs.declared.session.Entry.{Entry};
 ghost use Rattle.esx_session.specs.Sessions.{site_words, IsEntry, Reads, HasOpening, IsRefused};
-ghost use Rattle.esx_session.specs.Reading.{head_line, placed, TakesReply, LacksReply, TakesEntry, LacksEntry, AreRead, TellsCalls, LacksCalls, LacksHead, LacksOpening, Follows};
+ghost use Rattle.esx_session.specs.Reading.{head_line, placed, TakesReply, LacksReply, TakesEntry, LacksEntry, AreRead, TellsCalls, LacksCalls, LacksHead, LacksOpening, GoesOn, Follows};
 
 use crate::line::{call_of, is_end};
 use crate::place::Place;
@@ -81,6 +81,7 @@ fn next_entry(alloc: Global, place: &mut Place, count: u64) -> Result<Option<Ent
     ensures none { (start : Place) (done : List Entry) → AreRead start place.old done → count ≡ length done
         → IfOk result (λ next. IfNone next (TellsCalls start.left done)) }
     ensures only { (start : Place) (done : List Entry) → AreRead start place.old done → count ≡ length done → IfErr result (λ e. LacksCalls e start) }
+    ensures memory { IsErrOf result TextFault.OutOfMemory → GoesOn count place.old.left }
     ensures entry { IfOk result (λ next. IfSome next IsEntry) }
     ensures passed { IfOk result (λ next. IfSome next (λ entry. place.old.passed < place.new.passed)) }
     ensures left { IfOk result (λ next. IfSome next (λ entry. length place.new.left < length place.old.left)) }
@@ -149,6 +150,7 @@ pub fn open_calls<'a>(text: &'a str) -> Result<(Config, Calls<'a>), TextFault>
     ensures site { IfOk result (λ p. IsConfig p.0) }
     ensures opening { OnOk result (HasOpening text.now) }
     ensures only { IfErr result (λ e. IsRefused e text.now) }
+    ensures none { OnErr result (HasOpening text.now → ⊥) }
     ensures memory { IsErrOf result TextFault.OutOfMemory → ⊥ }
 {
     let mut place = Place::start(text);
@@ -169,6 +171,7 @@ impl<'a> Calls<'a> {
         ensures none { (text : List ℕ) (site : Config) (done : List Entry) → Follows text site done self.old
             → IfOk result (λ next. IfNone next (Reads text site done)) }
         ensures only { (text : List ℕ) (site : Config) (done : List Entry) → Follows text site done self.old → IfErr result (λ e. IsRefused e text) }
+        ensures memory { IsErrOf result TextFault.OutOfMemory → GoesOn self.old.count self.old.at.left }
         ensures entry { IfOk result (λ next. IfSome next IsEntry) }
         ensures count { IfOk result (λ next. IfSome next (λ entry. self.new.count ≡ self.old.count + 1)) }
         ensures bound { IfOk result (λ next. IfSome next (λ entry. self.new.count < 2 ^ 63)) }

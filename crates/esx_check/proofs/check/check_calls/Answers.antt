@@ -1,6 +1,7 @@
 use Rattle.std.proofs.Common.{◌≡◌, ◌∷◌, [], ◌++◌, sym, ◌∙◌, ap, refl, rules, append_assoc, ◌+◌, arith}
 use Rattle.esx_check.specs.Again.{made}
 use Rattle.esx_check.proofs.AgainLemmas.{first_again, again_more, again_nothing}
+use Rattle.esx_check.proofs.GateLemmas.{passed_none, passed_more, some_none, some_more, on_err}
 use Rattle.esx_check.proofs.CheckLemmas.{same_more, differs_here, is_not, one_longer}
 use Rattle.esx_check.proofs.check.check_calls.Goals as goal
 
@@ -13,6 +14,7 @@ loop-entry-init g c = record {
   count = refl;
   few = omega (arith, c.in_ok-again.ensures.none);
   held = c.in_ok-again.ensures.empty;
+  gate = passed_none _ _;
   split = search rules;
 }
 
@@ -31,11 +33,12 @@ loop-entry-preserved g c =
       count = ap (λ n. n + 1) so_far.count ∙ one_longer done e;
       few = omega arith;
       held = is.empty c.if-not-branch.false;
+      gate = passed_more _ _ _ _ _ so_far.gate is.gate;
       split = so_far.split ∙ ap (λ v. done ++ v) step ∙ sym (append_assoc done (e ∷ []) c.next.new.self.rest.items);
     }
 
-pub returns-then-not-branch : goal.returns-then-not-branch
-returns-then-not-branch g c =
+pub returns-then-not-branch-clause-ok : goal.returns-then-not-branch-clause-ok
+returns-then-not-branch-clause-ok g c =
     let so_far = c.loop-entry.invariant in
     let done = c.loop-entry.yielded in
     let e = c.in-Some.entry in
@@ -43,3 +46,13 @@ returns-then-not-branch g c =
     let is = c.in_ok-has_same_reply.ensures in
     differs_here _ c.args.entries.items done c.next.new.self.rest.items e c.loop-entry.count (so_far.split ∙ ap (λ v. done ++ v) step) so_far.same
     (is_not _ _ (is.same (made _ done) so_far.console) c.if-not-branch.true) so_far.count
+
+pub returns-in_err-again-clause-some : goal.returns-in_err-again-clause-some
+returns-in_err-again-clause-some g c = on_err c.from_residual.result (some_none _ _)
+
+pub returns-in_err-has_same_reply-clause-some : goal.returns-in_err-has_same_reply-clause-some
+returns-in_err-has_same_reply-clause-some g c =
+    on_err c.from_residual-in_err-has_same_reply.result (some_more _ _ _ _ _ c.loop-entry.invariant.gate c.in_err-has_same_reply.ensures.gate)
+
+pub returns-then-not-branch-clause-gate : goal.returns-then-not-branch-clause-gate
+returns-then-not-branch-clause-gate g c = passed_more _ _ _ _ _ c.loop-entry.invariant.gate c.in_ok-has_same_reply.ensures.gate

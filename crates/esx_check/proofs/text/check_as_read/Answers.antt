@@ -2,6 +2,7 @@ use Rattle.std.proofs.Common.{sym, ◌∙◌, ap, arith, ◌+◌, ◌++◌, ◌�
 use Rattle.std.proofs.lemmas.Result.{err_from_is_err_and}
 use Rattle.esx_check.specs.Again.{made}
 use Rattle.esx_check.proofs.CheckLemmas.{is_not}
+use Rattle.esx_check.proofs.GateLemmas.{passed_none, passed_more, some_more, on_err}
 use Rattle.esx_check.proofs.TextLemmas.{nothing_so_far, one_more_so_far, all_same, one_differs}
 use Rattle.esx_check.proofs.text.check_as_read.Goals as goal
 
@@ -11,6 +12,7 @@ loop-entry-init g c = record {
   count = sym c.requires.none.0;
   few = omega (arith, c.requires.none.1);
   held = c.requires.empty;
+  gate = passed_none _ _;
 }
 
 pub loop-entry-preserved : goal.loop-entry-preserved
@@ -25,6 +27,7 @@ loop-entry-preserved g c =
       count = ap (λ n. n + 1) c.loop-entry.invariant.count ∙ sym (rw c.in-Some.is at entry.count);
       few = omega arith;
       held = is.empty c.if-not-same.false;
+      gate = passed_more _ _ _ _ _ c.loop-entry.invariant.gate is.gate;
     }
 
 pub returns-in_err-entry-clause-only : goal.returns-in_err-entry-clause-only
@@ -52,3 +55,13 @@ pub returns-clause-ok : goal.returns-clause-ok
 returns-clause-ok g c = λ text site follows answers.
     let so_far = c.loop-entry.invariant.so_far text site follows answers in
     all_same text _ _ _ so_far (rw c.in_default.is at (c.in_ok-entry.ensures.none text so_far.site so_far.done so_far.follows))
+
+pub returns-in_default-has_same_reply-clause-some : goal.returns-in_default-has_same_reply-clause-some
+returns-in_default-has_same_reply-clause-some g c = some_more _ _ _ _ _ c.loop-entry.invariant.gate c.in_default-has_same_reply.ensures.gate
+
+pub returns-in_err-read_on-clause-some : goal.returns-in_err-read_on-clause-some
+returns-in_err-read_on-clause-some g c =
+    on_err c.from_residual-in_err-read_on.result (some_more _ _ _ _ _ c.loop-entry.invariant.gate c.in-Ok.ensures.gate)
+
+pub returns-then-not-same-clause-gate : goal.returns-then-not-same-clause-gate
+returns-then-not-same-clause-gate g c = passed_more _ _ _ _ _ c.loop-entry.invariant.gate c.in-Ok.ensures.gate

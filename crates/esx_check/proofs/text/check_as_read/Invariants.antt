@@ -3,6 +3,7 @@ use Rattle.esx_types.specs.declared.config.Config.{Config}
 use Rattle.esx_console.specs.Calls.{opened_session}
 use Rattle.esx_console.specs.Unlogged.{AnswersAs}
 use Rattle.esx_session.specs.Reading.{Follows}
+use Rattle.esx_check.specs.Gates.{PassedFor}
 use Rattle.esx_check.proofs.TextLemmas.{SoFar}
 use Rattle.esx_check.proofs.text.check_as_read.Given as goal
 
@@ -12,6 +13,7 @@ invariant-loop-entry g l = record {
   count : l.count ≡ l.calls.count;
   few : l.again.console.jumps ≤ l.count;
   held : l.again.held ≡ [];
+  gate : PassedFor g.G.Gate.passes l.count l.initial.gate l.gate;
 }
 
 abbrev pub decreases-loop-entry : goal.decreases-loop-entry

@@ -27,3 +27,7 @@ pub returns-in_ok-read_entry-in-Some-2-clause-some : goal.returns-in_ok-read_ent
 returns-in_ok-read_entry-in-Some-2-clause-some c = λ start done is.
     one_more start c.args.place.now c.next.new.self c.read_entry.new.place done c.in-Some.line.now c.in_ok-read_entry-in-Some-2.field-0 is
     c.in-Some.ensures.left c.in-Some.ensures.passed c.in_ok-read_entry-in-Some-2.ensures.ok
+
+pub returns-in_err-read_entry-in-Some-2-clause-memory : goal.returns-in_err-read_entry-in-Some-2-clause-memory
+returns-in_err-read_entry-in-Some-2-clause-memory c = λ wants.
+    rw c.in-Some.ensures.left (not_end c.in-Some.line.now c.is_end.result c.args.count c.args.count refl c.is_end.ensures c.if-is_end.false)
