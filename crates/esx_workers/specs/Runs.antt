@@ -1,5 +1,5 @@
 -- The lines of a worker's run, and why it ended.
-use Rattle.std.specs.Prelude.{◌≡◌, ◌≢◌, ◌⊎◌, ℕ, ◌<◌, ◌≤◌, Bool, List, [], ◌∷◌, ◌++◌, length, count_by, Option, Some, None}
+use Rattle.std.specs.Prelude.{◌≡◌, ◌≢◌, ◌⊎◌, ℕ, ◌+◌, ◌<◌, ◌≤◌, Bool, List, [], ◌∷◌, ◌++◌, length, count_by, Option, Some, None}
 use Rattle.esx_events.specs.declared.call.Call.{Call}
 use Rattle.esx_events.specs.declared.call.Reply.{Reply}
 use Rattle.esx_events.specs.declared.call.Line.{Line}
@@ -73,6 +73,16 @@ module _ {G : Type 0} (passes : G → ℕ → Bool → G → Type 0) where
   abbrev pub IsGated : G → G → Worker → ℕ → End → List Line → Type 0
   IsGated g h w turns end lines = StaysOpen g h w turns end lines ⊎ GivesUp g h w turns end lines
 
+  -- The gate let through once before each line, and once more before a call that found no memory, if it was that far.
+  abbrev pub StopsShort : G → G → Worker → List Line → Type 0
+  StopsShort g h w lines = LetThrough passes (length lines) g h ⊎ (LetThrough passes (length lines + 1) g h × ((call : Call) × (asks (worker_after w lines) ≡ Some call)))
+
+  -- the gate before and after a worker's run that memory was wanting for
+  pub record Stopped (g h : G) (w : Worker) (before after : List Line) : Type 0 where
+    pub lines : List Line
+    pub more : after ≡ before ++ lines
+    pub gate : StopsShort g h w lines
+
   -- the gate before and after a worker's run, which made the caller's lines longer
   pub record Gated (g h : G) (w : Worker) (turns : ℕ) (end : End) (before after : List Line) : Type 0 where
     pub lines : List Line
@@ -85,12 +95,12 @@ pub record Ended (let_through : Type 0) (k : ℕ) (w : Worker) (turns : ℕ) (en
   pub more : after ≡ before ++ lines
   pub run : IsRun let_through k w turns end lines
 
--- the caller's lines where memory was wanting
+-- the caller's lines where memory was wanting for one more
 pub record Broken (k : ℕ) (w : Worker) (turns : ℕ) (before after : List Line) : Type 0 where
   pub lines : List Line
   pub more : after ≡ before ++ lines
   pub are : AreAsked k w lines
-  pub most : length lines ≤ turns
+  pub most : length lines < turns
   pub straight : IsStraight lines
 
 -- the jumps of the first reply, if there was one
