@@ -5,12 +5,12 @@ ghost use Rattle.std.specs.Prelude.{◌≡◌, ℕ, List, Option, Some, None, Er
 ghost use Rattle.std.specs.Process.{exit_status};
 ghost use Rattle.std.specs.Vec.Iter.{into_iter_items};
 ghost use Rattle.esx_types.specs.Ranges.{IsConfig};
-ghost use Rattle.esx_reading.specs.Whole.{GivesWhole, IsOfReading, IsOfText};
+ghost use Rattle.esx_reading.specs.Whole.{IsOfReading, IsOfText};
 ghost use Rattle.esx_plan.specs.Failing.{DoesAsked, EndsWith, FailsAfter, MayFail, refused_as};
 ghost use Rattle.esx_plan.specs.Given.{GivesWords, open_fault, opened_as, words_failure};
 ghost use Rattle.esx_plan.specs.Opening.{IsNoSite, IsScenarioOf, IsSiteOf};
 ghost use Rattle.esx_plan.specs.Sessions.{IsNoSession, IsSessionOf};
-ghost use Rattle.esx_plan.specs.Status.{status_of, status_of_words, status_of_end, word_of_done, IsCheckOf, NotChecked, OfText};
+ghost use Rattle.esx_plan.specs.Status.{status_of, status_of_words, status_of_end, word_of_done, AreInFile, IsCheckOf, IsNoTextOfFile, NotChecked, NotCheckedInFile, OfText, TellsCheck, TellsNoCheck};
 ghost use Rattle.esx_plan.specs.Words.{word_and_file};
 
 mod ends;
@@ -37,7 +37,7 @@ use session::{check_watched, replay_to, session_of_reader, status_of_check, tell
 use std::alloc::{AllocGlobal, Global};
 use std::env::{self, Args, Env};
 use std::fs;
-use std::io::{self, Eprint, ErrorKind, Input, IsTerminal, Print, Stderr};
+use std::io::{self, Eprint, ErrorKind, Input, IsTerminal, Print, Stderr, Write};
 use std::process::ExitCode;
 use std::rt::Files;
 use std::sync::Wait;
@@ -210,8 +210,9 @@ fn session_of_file<R: Files + AllocGlobal>(rt: &R, path: &str) -> Result<Session
 
 /// The text in a file.
 fn text_of_file<R: Files + AllocGlobal>(rt: &R, path: &str) -> Result<String, Failure>
-    ensures text { IfOk result (λ s. (given left : Option (List ℕ)) × GivesWhole given left (string_bytes s)) }
+    ensures text { IfOk result (λ s. AreInFile R.File.remaining (string_bytes s)) }
     ensures fault { IfErr result (OfText IsOfText) }
+    ensures no_text { IfErr result (OfText (IsNoTextOfFile R.File.remaining)) }
 {
     let file = opened(rt, path).map_err(Failure::Text)?;
     read_text_of(rt.alloc(), file).map_err(Failure::Text)
@@ -282,17 +283,49 @@ fn run_replay<R: Files + Print + AllocGlobal>(
     }
 }
 
+/// How a check ended, and the writer as it is then.
+#[derive(Drop)]
+struct ToldCheck<W: Drop> {
+    ended: Result<Done, Failure>,
+    writer: W,
+}
+
+/// Checks the session of a text, and tells a writer what came of it.
+fn check_to<P: Print, W: Write + Drop>(
+    alloc: Global,
+    text: &str,
+    to: Option<&P>,
+    writer: W,
+) -> ToldCheck<W>
+    ensures told { IfOk result.ended (λ done. TellsCheck text.now done (W.contents writer) (W.contents result.writer)) }
+    ensures failure { IfErr result.ended (λ e. TellsNoCheck text.now e (W.contents writer) (W.contents result.writer)) }
+{
+    match check_watched(alloc, text, to) {
+        Ok(checked) => {
+            let told = tell_check_to(alloc, checked, writer);
+            let ended = match told.ended {
+                Ok(()) => Ok(Done::Checked(checked)),
+                Err(fault) => Err(Failure::Output(fault)),
+            };
+            ToldCheck {
+                ended,
+                writer: told.writer,
+            }
+        }
+        Err(fault) => ToldCheck {
+            ended: Err(Failure::Text(fault)),
+            writer,
+        },
+    }
+}
+
 /// Checks the session of a text, and tells on the standard output what came of it.
 fn check_told<R: Print + AllocGlobal>(rt: &R, errors: &Stderr, text: &str) -> Result<Done, Failure>
     ensures checks { IfOk result (IsCheckOf text.now) }
     ensures word { IfOk result (λ done. word_of_done done ≡ codes "check") }
     ensures failure { IfErr result (NotChecked text.now) }
 {
-    let checked = check_watched(rt.alloc(), text, terminal(errors)).map_err(Failure::Text)?;
-    match tell_check_to(rt.alloc(), checked, io::writer(rt)).ended {
-        Ok(()) => Ok(Done::Checked(checked)),
-        Err(fault) => Err(Failure::Output(fault)),
-    }
+    check_to(rt.alloc(), text, terminal(errors), io::writer(rt)).ended
 }
 
 /// Checks the session in a file, while its text is read.
@@ -302,7 +335,9 @@ fn run_check<R: Files + Print + AllocGlobal>(
     path: &str,
 ) -> Result<Done, Failure>
     ensures word { IfOk result (λ done. word_of_done done ≡ codes "check") }
+    ensures checks { IfOk result (λ done. (text : List ℕ) × AreInFile R.File.remaining text × IsCheckOf text done) }
     ensures failure { IfErr result (MayFail (codes "check", Some path.now)) }
+    ensures not_checked { IfErr result (NotCheckedInFile R.File.remaining) }
 {
     let text = text_of_file(rt, path)?;
     check_told(rt, errors, text.as_str())
