@@ -5,7 +5,9 @@ use Rattle.esx_reading.specs.declared.fault.TextFault.{TextFault}
 use Rattle.esx_reading.specs.declared.fault.TextFault.TheVariants as text
 use Rattle.esx_text.specs.declared.fault.ServeFault.TheVariants.{Read, Write, OutOfMemory}
 use Rattle.esx_reading.specs.Whole.{GivesWhole}
-use Rattle.esx_session.specs.Sessions.{HasOpening, IsRefused}
+use Rattle.esx_types.specs.declared.config.Config.{Config}
+use Rattle.esx_session.specs.declared.session.Entry.{Entry}
+use Rattle.esx_session.specs.Sessions.{HasOpening, IsRefused, Reads}
 use Rattle.esx_check.specs.Checks.{ChecksText, checked_text}
 use Rattle.esx_check.specs.declared.check.Checked.{Checked as Outcome}
 use Rattle.esx_check.specs.declared.fault.OutputFault.TheVariants as output
@@ -84,10 +86,29 @@ IsNoTextOfFile remaining text.Read = Unit {0}
 IsNoTextOfFile remaining text.OutOfMemory = Unit {0}
 IsNoTextOfFile remaining _ = ⊥
 
+-- Why there is no session of a file: the same, or its bytes are a text that is refused so.
+abbrev pub IsNoSessionOfFile : {F : Type 0} → (F → Option (List ℕ)) → TextFault → Type 0
+IsNoSessionOfFile remaining (text.BadLine n) = (bytes : List ℕ) × AreInFile remaining bytes × IsRefused (text.BadLine n) bytes
+IsNoSessionOfFile remaining e = IsNoTextOfFile remaining e
+
+-- a file had a text that is that session's
+abbrev pub IsSessionOfFile : {F : Type 0} → (F → Option (List ℕ)) → Config → List Entry → Type 0
+IsSessionOfFile remaining site entries = (bytes : List ℕ) × AreInFile remaining bytes × Reads bytes site entries
+
+-- a session of a file was gone through again
+abbrev pub ReplaysFile : {F : Type 0} → (F → Option (List ℕ)) → Done → Type 0
+ReplaysFile remaining Replayed = (site : Config) × (entries : List Entry) × IsSessionOfFile remaining site entries
+ReplaysFile remaining _ = ⊥
+
+-- Why no session of a file was gone through again, or not to its end.
+abbrev pub NotReplayedInFile : {F : Type 0} → (F → Option (List ℕ)) → Failure → Type 0
+NotReplayedInFile remaining (Text e) = IsNoSessionOfFile remaining e
+NotReplayedInFile remaining (Output e) = (site : Config) × (entries : List Entry) × IsSessionOfFile remaining site entries
+NotReplayedInFile remaining _ = ⊥
+
 -- Why no session of a file was checked, or what its check came to not told.
 abbrev pub NotCheckedInFile : {F : Type 0} → (F → Option (List ℕ)) → Failure → Type 0
-NotCheckedInFile remaining (Text (text.BadLine n)) = (bytes : List ℕ) × AreInFile remaining bytes × IsRefused (text.BadLine n) bytes
-NotCheckedInFile remaining (Text e) = IsNoTextOfFile remaining e
+NotCheckedInFile remaining (Text e) = IsNoSessionOfFile remaining e
 NotCheckedInFile remaining (Output e) = (bytes : List ℕ) × AreInFile remaining bytes × (checked : Outcome) × ChecksText bytes checked
 NotCheckedInFile remaining _ = ⊥
 

@@ -1,16 +1,15 @@
 //! The program: a console over the standard streams, sessions gone through again, and runs of scenarios.
 #![tactic(auto)]
 
-ghost use Rattle.std.specs.Prelude.{◌≡◌, ℕ, List, Option, Some, None, Err, codes, map, option_map, string_bytes, IfOk, IfErr};
+ghost use Rattle.std.specs.Prelude.{◌≡◌, ℕ, List, Some, None, Err, codes, map, option_map, string_bytes, IfOk, IfErr};
 ghost use Rattle.std.specs.Process.{exit_status};
 ghost use Rattle.std.specs.Vec.Iter.{into_iter_items};
 ghost use Rattle.esx_types.specs.Ranges.{IsConfig};
 ghost use Rattle.esx_reading.specs.Whole.{IsOfReading, IsOfText};
 ghost use Rattle.esx_plan.specs.Failing.{DoesAsked, EndsWith, FailsAfter, MayFail, refused_as};
 ghost use Rattle.esx_plan.specs.Given.{GivesWords, open_fault, opened_as, words_failure};
-ghost use Rattle.esx_plan.specs.Opening.{IsNoSite, IsScenarioOf, IsSiteOf};
-ghost use Rattle.esx_plan.specs.Sessions.{IsNoSession, IsSessionOf};
-ghost use Rattle.esx_plan.specs.Status.{status_of, status_of_words, status_of_end, word_of_done, AreInFile, IsCheckOf, IsNoTextOfFile, NotChecked, NotCheckedInFile, OfText, TellsCheck, TellsNoCheck};
+ghost use Rattle.esx_plan.specs.Opening.{IsNoSiteOfFile, IsScenarioOfFile, IsSiteOfFile};
+ghost use Rattle.esx_plan.specs.Status.{status_of, status_of_words, status_of_end, word_of_done, AreInFile, IsCheckOf, IsNoSessionOfFile, IsNoTextOfFile, IsSessionOfFile, NotChecked, NotCheckedInFile, NotReplayedInFile, OfText, ReplaysFile, TellsCheck, TellsNoCheck};
 ghost use Rattle.esx_plan.specs.Words.{word_and_file};
 
 mod ends;
@@ -183,16 +182,16 @@ fn opened<R: Files + AllocGlobal>(rt: &R, path: &str) -> Result<R::File, TextFau
 /// The site of the scenario in a file.
 fn site_of_file<R: Files + AllocGlobal>(rt: &R, path: &str) -> Result<Config, TextFault>
     ensures config { IfOk result IsConfig }
-    ensures site { IfOk result (λ config. (given left : Option (List ℕ)) × (text : List ℕ) × IsSiteOf given left text config) }
-    ensures fault { IfErr result (λ e. (given left : Option (List ℕ)) × IsNoSite given left e) }
+    ensures site { IfOk result (IsSiteOfFile R.File.remaining) }
+    ensures fault { IfErr result (IsNoSiteOfFile R.File.remaining) }
 {
     site_of_reader(rt.alloc(), opened(rt, path)?)
 }
 
 /// The scenario in a file.
 fn scenario_of_file<R: Files + AllocGlobal>(rt: &R, path: &str) -> Result<Scenario, TextFault>
-    ensures scenario { IfOk result (λ scenario. (given left : Option (List ℕ)) × (text : List ℕ) × IsScenarioOf given left text scenario) }
-    ensures fault { IfErr result (λ e. (given left : Option (List ℕ)) × IsNoSite given left e) }
+    ensures scenario { IfOk result (IsScenarioOfFile R.File.remaining) }
+    ensures fault { IfErr result (IsNoSiteOfFile R.File.remaining) }
 {
     scenario_of_reader(rt.alloc(), opened(rt, path)?)
 }
@@ -200,9 +199,8 @@ fn scenario_of_file<R: Files + AllocGlobal>(rt: &R, path: &str) -> Result<Scenar
 /// The session in a file.
 fn session_of_file<R: Files + AllocGlobal>(rt: &R, path: &str) -> Result<Session, Failure>
     ensures config { IfOk result (λ session. IsConfig session.site) }
-    ensures session { IfOk result (λ session. (given left : Option (List ℕ)) × (text : List ℕ)
-        × IsSessionOf given left text session.site session.entries) }
-    ensures fault { IfErr result (OfText (λ e. (given left : Option (List ℕ)) × IsNoSession given left e)) }
+    ensures session { IfOk result (λ session. IsSessionOfFile R.File.remaining session.site session.entries) }
+    ensures fault { IfErr result (OfText (IsNoSessionOfFile R.File.remaining)) }
 {
     let file = opened(rt, path).map_err(Failure::Text)?;
     session_of_reader(rt.alloc(), file).map_err(Failure::Text)
@@ -270,7 +268,9 @@ fn run_replay<R: Files + Print + AllocGlobal>(
     path: &str,
 ) -> Result<Done, Failure>
     ensures word { IfOk result (λ done. word_of_done done ≡ codes "replay") }
+    ensures replays { IfOk result (ReplaysFile R.File.remaining) }
     ensures failure { IfErr result (MayFail (codes "replay", Some path.now)) }
+    ensures not_replayed { IfErr result (NotReplayedInFile R.File.remaining) }
 {
     let session = session_of_file(rt, path)?;
     let progress = Progress::new(terminal(errors), None, "bytes of replies");
