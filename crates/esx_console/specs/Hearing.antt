@@ -18,7 +18,7 @@ pub record Hears (new : Kept) (h : History) (call : Call) (heard : Heard) : Type
   pub copy_is : heard.copy ≡ (outcome h call).0
   pub jumps : (after h call).jumps ≡ h.jumps + (if heard.jumped then 1 else 0)
 
--- a call for whose answer memory may be taken: any but a move of the cursor and a prune
+-- a call that may take memory: an event, a mark, a trial, or a question that is answered by rows
 abbrev pub MayLackMemory : Call → Type 0
 MayLackMemory (calls.Do e) = Unit {0}
 MayLackMemory (calls.Undo k) = ⊥
@@ -28,12 +28,12 @@ MayLackMemory (calls.Visit name) = ⊥
 MayLackMemory (calls.Mark name) = Unit {0}
 MayLackMemory (calls.Prune n) = ⊥
 MayLackMemory (calls.WhatIf events) = Unit {0}
-MayLackMemory calls.Sum = Unit {0}
+MayLackMemory calls.Sum = ⊥
 MayLackMemory calls.Table = Unit {0}
-MayLackMemory (calls.OfVm n) = Unit {0}
-MayLackMemory (calls.OfPage n page) = Unit {0}
-MayLackMemory (calls.Advise n page) = Unit {0}
-MayLackMemory calls.Stand = Unit {0}
+MayLackMemory (calls.OfVm n) = ⊥
+MayLackMemory (calls.OfPage n page) = ⊥
+MayLackMemory (calls.Advise n page) = ⊥
+MayLackMemory calls.Stand = ⊥
 MayLackMemory calls.Marks = Unit {0}
 
 -- the same for the caller and for the log

@@ -110,7 +110,7 @@ running_none k w log = record { lines = []; more = sym (append-nil log); are = t
 
 module _ (k : ℕ) (w now : Worker) (first : Option ℕ) (passed turn : ℕ) (a b : List Line) (r : Running k w now first passed turn a b) where
   pub broken : (turns : ℕ) (d : List Line) → turn < turns → d ≡ b → Broken k w turns a d
-  broken turns d lt same = record { lines = r.lines; more = same ∙ r.more; are = r.are; most = subst (λ (n : ℕ). n < turns) (sym r.many) lt; straight = since_straight first r.lines r.since }
+  broken turns d lt same = record { lines = r.lines; more = same ∙ r.more; run = record { are = r.are; most = subst (λ (n : ℕ). n < turns) (sym r.many) lt; straight = since_straight first r.lines r.since } }
 
   pub ended_rest : (let_through : Type 0) (turns : ℕ) (end : End) (how : How) → turn ≤ turns → end ≡ record { how = how; passed = passed } → how ≡ rest now
       → (let_through → (asks now ≡ None) ⊎ (turn ≡ turns)) → Ended let_through k w turns end a b

@@ -60,6 +60,12 @@ pub record IsRun (let_through : Type 0) (k : ℕ) (w : Worker) (turns : ℕ) (en
   pub why : Why w lines end.how
   pub all : let_through → end.how ≢ Rewound → IsOut w turns lines
 
+-- The lines of a worker's run that memory was wanting for: what it asks, call after call, in fewer turns than it has, and with no jump.
+pub record IsBroken (k : ℕ) (w : Worker) (turns : ℕ) (lines : List Line) : Type 0 where
+  pub are : AreAsked k w lines
+  pub most : length lines < turns
+  pub straight : IsStraight lines
+
 module _ {G : Type 0} (passes : G → ℕ → Bool → G → Type 0) where
   -- The gate let through once before each line, and was passed no more: there was a jump, nothing was left to ask, or no turn was left.
   abbrev pub StaysOpen : G → G → Worker → ℕ → End → List Line → Type 0
@@ -99,9 +105,7 @@ pub record Ended (let_through : Type 0) (k : ℕ) (w : Worker) (turns : ℕ) (en
 pub record Broken (k : ℕ) (w : Worker) (turns : ℕ) (before after : List Line) : Type 0 where
   pub lines : List Line
   pub more : after ≡ before ++ lines
-  pub are : AreAsked k w lines
-  pub most : length lines < turns
-  pub straight : IsStraight lines
+  pub run : IsBroken k w turns lines
 
 -- the jumps of the first reply, if there was one
 abbrev pub Since : Option ℕ → List Line → Type 0
