@@ -51,18 +51,6 @@ word_of_done Ran = codes "run"
 word_of_done Replayed = codes "replay"
 word_of_done (Checked checked) = codes "check"
 
--- it is a check of that text, and comes to what such a check comes to
-abbrev pub IsCheckOf : List ℕ → Done → Type 0
-IsCheckOf text (Checked checked) = ChecksText text checked
-IsCheckOf text _ = ⊥
-
--- The text was refused so. Or its check came to something, and that was not told.
-abbrev pub NotChecked : List ℕ → Failure → Type 0
-NotChecked bytes (Text text.OutOfMemory) = HasOpening bytes
-NotChecked bytes (Text e) = IsRefused e bytes
-NotChecked bytes (Output e) = (checked : Outcome) × ChecksText bytes checked
-NotChecked bytes _ = ⊥
-
 -- it is a check of that text, and the line of what it comes to was written
 abbrev pub TellsCheck : List ℕ → Done → Option (List ℕ) → Option (List ℕ) → Type 0
 TellsCheck bytes (Checked checked) old new = ChecksText bytes checked × Appends old new (checked_text checked)
@@ -94,23 +82,6 @@ IsNoSessionOfFile remaining e = IsNoTextOfFile remaining e
 -- a file had a text that is that session's
 abbrev pub IsSessionOfFile : {F : Type 0} → (F → Option (List ℕ)) → Config → List Entry → Type 0
 IsSessionOfFile remaining site entries = (bytes : List ℕ) × AreInFile remaining bytes × Reads bytes site entries
-
--- a session of a file was gone through again
-abbrev pub ReplaysFile : {F : Type 0} → (F → Option (List ℕ)) → Done → Type 0
-ReplaysFile remaining Replayed = (site : Config) × (entries : List Entry) × IsSessionOfFile remaining site entries
-ReplaysFile remaining _ = ⊥
-
--- Why no session of a file was gone through again, or not to its end.
-abbrev pub NotReplayedInFile : {F : Type 0} → (F → Option (List ℕ)) → Failure → Type 0
-NotReplayedInFile remaining (Text e) = IsNoSessionOfFile remaining e
-NotReplayedInFile remaining (Output e) = (site : Config) × (entries : List Entry) × IsSessionOfFile remaining site entries
-NotReplayedInFile remaining _ = ⊥
-
--- Why no session of a file was checked, or what its check came to not told.
-abbrev pub NotCheckedInFile : {F : Type 0} → (F → Option (List ℕ)) → Failure → Type 0
-NotCheckedInFile remaining (Text e) = IsNoSessionOfFile remaining e
-NotCheckedInFile remaining (Output e) = (bytes : List ℕ) × AreInFile remaining bytes × (checked : Outcome) × ChecksText bytes checked
-NotCheckedInFile remaining _ = ⊥
 
 -- 0, but 1 where a session differs
 abbrev pub status_of_done : Done → ℕ
