@@ -154,11 +154,13 @@ fn a_site_is_run(rt: HostRuntime) -> Result<(), Fail> {
     if gates.len() != scenario.guests().len() + 3 {
         return Err(Fail::new("the gates"));
     }
-    let Ok(Outcome {
-        console,
-        ends,
-        gates,
-    }) = run_site(&rt, rt.alloc(), &scenario, gates)
+    let Ok(
+        Outcome {
+            console,
+            ends,
+            gates,
+        },
+    ) = run_site(&rt, rt.alloc(), &scenario, gates)
     else {
         return Err(Fail::new("the run"));
     };
@@ -232,11 +234,13 @@ fn five_workers_at_once(rt: HostRuntime) -> Result<(), Fail> {
     if gates.len() != scenario.guests().len() + 3 {
         return Err(Fail::new("the gates"));
     }
-    let Ok(Outcome {
-        console,
-        ends,
-        gates,
-    }) = run_site(&rt, rt.alloc(), &scenario, gates)
+    let Ok(
+        Outcome {
+            console,
+            ends,
+            gates,
+        },
+    ) = run_site(&rt, rt.alloc(), &scenario, gates)
     else {
         return Err(Fail::new("the run"));
     };
