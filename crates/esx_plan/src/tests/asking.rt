@@ -1,7 +1,7 @@
 //! What words ask for, done on streams in memory.
 
 use super::opening::words_of;
-use crate::commands::Streams;
+use crate::commands::{Ended, Streams};
 use crate::{Done, run_words};
 use std::alloc::Global;
 use std::io::Stderr;
@@ -45,13 +45,21 @@ fn nothing_done(rt: HostRuntime) -> Result<(), Fail> {
     ];
     for (line, status) in &rows {
         let words = words_of(alloc, *line)?;
-        let done = run_words(&rt, words.as_slice(), to, streams(alloc));
-        let Err(failure) = done.ended else {
+        let Ended {
+            ended,
+            streams: left,
+        } = run_words(&rt, words.as_slice(), to, streams(alloc));
+        let Err(failure) = ended else {
             panic!(rt; "there is such a file");
         };
         assert_eq!(rt; failure.status(), *status);
-        assert!(rt; done.streams.reader == b"sum\n".as_slice());
-        assert!(rt; done.streams.errors.is_empty() && done.streams.writer.is_empty());
+        let Streams {
+            reader,
+            errors,
+            writer,
+        } = left;
+        assert!(rt; reader == b"sum\n".as_slice());
+        assert!(rt; errors.is_empty() && writer.is_empty());
     }
     Ok(())
 }
