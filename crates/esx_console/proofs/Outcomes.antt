@@ -33,7 +33,7 @@ stays h = omega arith
 
 -- A question: the history stays as it is.
 
-asked : (new : Kept) (h : History) (call : Call) (s : Said) → outcome h call ≡ beside h s → Holds new h → Hears new h call (twice s false)
+pub asked : (new : Kept) (h : History) (call : Call) (s : Said) → outcome h call ≡ beside h s → Holds new h → Hears new h call (twice s false)
 asked new h call s is holds = hears new h h call s false is holds (stays h)
 
 pub asks : {E : Type 0} (new : Kept) (call : Call) (s : Said) → ((h : History) → Holds new h → outcome h call ≡ beside h s) → (r : Result Heard E) → IfOk r (λ x. x ≡ twice s false)

@@ -2,6 +2,7 @@
 use Rattle.std.specs.Prelude.{◌≡◌, ℕ, ◌+◌, Bool, Result, Ok, Err, if◌then◌else◌}
 use Rattle.esx_events.specs.declared.event.Refusal.{Refusal}
 use Rattle.esx_events.specs.declared.call.Call.{Call}
+use Rattle.esx_events.specs.declared.call.Call.TheVariants as calls
 use Rattle.esx_events.specs.declared.call.Said.{Said}
 use Rattle.esx_events.specs.declared.call.Said.TheVariants as said
 use Rattle.esx_events.specs.declared.call.Stand.{Stand}
@@ -16,6 +17,24 @@ pub record Hears (new : Kept) (h : History) (call : Call) (heard : Heard) : Type
   pub said_is : heard.said ≡ (outcome h call).0
   pub copy_is : heard.copy ≡ (outcome h call).0
   pub jumps : (after h call).jumps ≡ h.jumps + (if heard.jumped then 1 else 0)
+
+-- a call that may take memory: an event, a mark, a trial, or a question that is answered by rows
+abbrev pub MayLackMemory : Call → Type 0
+MayLackMemory (calls.Do e) = Unit {0}
+MayLackMemory (calls.Undo k) = ⊥
+MayLackMemory (calls.Redo k) = ⊥
+MayLackMemory (calls.Goto n) = ⊥
+MayLackMemory (calls.Visit name) = ⊥
+MayLackMemory (calls.Mark name) = Unit {0}
+MayLackMemory (calls.Prune n) = ⊥
+MayLackMemory (calls.WhatIf events) = Unit {0}
+MayLackMemory calls.Sum = ⊥
+MayLackMemory calls.Table = Unit {0}
+MayLackMemory (calls.OfVm n) = ⊥
+MayLackMemory (calls.OfPage n page) = ⊥
+MayLackMemory (calls.Advise n page) = ⊥
+MayLackMemory calls.Stand = ⊥
+MayLackMemory calls.Marks = Unit {0}
 
 -- the same for the caller and for the log
 abbrev pub twice : Said → Bool → Heard

@@ -4,7 +4,7 @@ ghost use Rattle.std.specs.Prelude.{◌≡◌, ◌+◌, ◌<◌, ◌^◌, if◌t
 ghost use Rattle.esx_model.specs.History.{History};
 ghost use Rattle.esx_events.specs.declared.call.Said.TheVariants as said;
 ghost use Rattle.esx_journal.specs.Journal.{Holds};
-ghost use Rattle.esx_console.specs.Hearing.{Hears, twice};
+ghost use Rattle.esx_console.specs.Hearing.{Hears, MayLackMemory, twice};
 
 mod events;
 mod marks;
@@ -41,7 +41,7 @@ fn refused(refusal: Refusal) -> Heard
     }
 }
 
-/// What is said to a question.
+/// What is said to a question whose answer stands on the heap.
 fn told(said: Said) -> Result<Heard, AllocError>
     ensures { IfOk result (λ heard. heard ≡ twice said false) }
 {
@@ -56,6 +56,7 @@ fn told(said: Said) -> Result<Heard, AllocError>
 pub fn hear(journal: &mut Journal, alloc: Global, call: &Call) -> Result<Heard, AllocError>
     ensures ok { IfOk result (λ heard. (h : History) → Holds journal.old h → Hears journal.new h call.now heard) }
     ensures err { (h : History) → Holds journal.old h → OnErr result (journal.new ≡ journal.old) }
+    ensures room { OnErr result (MayLackMemory call.now) }
 {
     match call {
         Call::Do { event } => hear_event(journal, event),
@@ -66,12 +67,12 @@ pub fn hear(journal: &mut Journal, alloc: Global, call: &Call) -> Result<Heard, 
         Call::Mark { name } => hear_mark(journal, name),
         Call::Prune { node } => Ok(hear_prune(journal, *node)),
         Call::WhatIf { events } => hear_what_if(journal, alloc, events),
-        Call::Sum => hear_sum(journal),
+        Call::Sum => Ok(hear_sum(journal)),
         Call::Table => hear_table(journal, alloc),
-        Call::OfVm { vm } => hear_vm(journal, *vm),
-        Call::OfPage { vm, page } => hear_page(journal, *vm, *page),
-        Call::Advise { vm, page } => hear_advise(journal, *vm, *page),
-        Call::Stand => hear_stand(journal),
+        Call::OfVm { vm } => Ok(hear_vm(journal, *vm)),
+        Call::OfPage { vm, page } => Ok(hear_page(journal, *vm, *page)),
+        Call::Advise { vm, page } => Ok(hear_advise(journal, *vm, *page)),
+        Call::Stand => Ok(hear_stand(journal)),
         Call::Marks => hear_marks(journal, alloc),
     }
 }

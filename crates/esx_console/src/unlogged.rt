@@ -4,6 +4,7 @@ ghost use Rattle.std.specs.Prelude.{◌≡◌, ◌≢◌, ◌+◌, ◌<◌, ◌�
 ghost use Rattle.esx_types.specs.Ranges.{IsConfig};
 ghost use Rattle.esx_model.specs.Console.{Session, next_reply, lined};
 ghost use Rattle.esx_console.specs.Calls.{opened_session};
+ghost use Rattle.esx_console.specs.Hearing.{MayLackMemory};
 ghost use Rattle.esx_console.specs.Unlogged.{AnswersAs};
 
 use crate::hearing::{counted, hear};
@@ -59,6 +60,7 @@ impl Unlogged {
         ensures lined { OnOk result ((s : Session) (caller : ℕ) → AnswersAs self.old s → AnswersAs self.new (lined s caller call.now)) }
         ensures few { OnOk result (self.new.jumps ≤ self.old.jumps + 1) }
         ensures err { OnErr result (self.new ≡ self.old) }
+        ensures room { OnErr result (MayLackMemory call.now) }
     {
         let heard = hear(&mut self.journal, self.alloc, call)?;
         let jumps = counted(self.jumps, heard.jumped);

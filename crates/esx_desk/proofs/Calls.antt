@@ -29,4 +29,4 @@ module _ {T E : Type 0} where
   pub had_it : (r : Result T E) (v u w : View) (site : Config) (log : List Line) → Took legal_for gauge_for v u site log → IsSame u w → ReadAsBefore u w → OnErr r (w.seen ≡ u.seen) → OnErr r (HadIt w)
   had_it (Ok a) v u w site log t same last seen = tt
   had_it (Err e) v u w site log t same last seen =
-      (last.0 ∙ t.word ∙ ap (λ (s : Config). bits (gauge_for s log)) (t.at_site ∙ sym (same.0 ∙ t.same.0)) ∙ ap (λ (l : List Line). bits (gauge_for w.site l)) (sym (seen ∙ t.seen)), last.1 ∙ t.loaded)
+      (last.0 ∙ t.word ∙ ap (λ (s : Config). bits (gauge_for s log)) (t.at_site ∙ sym (same.0 ∙ t.same.0)) ∙ ap (λ (l : List Line). bits (gauge_for w.site l)) (sym (seen ∙ t.seen)), last.1 ∙ t.exchanged)

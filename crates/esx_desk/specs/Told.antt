@@ -9,7 +9,7 @@ use Rattle.esx_lock.specs.declared.view.Hold.TheVariants.{Free}
 use Rattle.esx_lock.specs.declared.view.View.{View}
 use Rattle.esx_lock.specs.Logs.{OthersOf, Follows}
 use Rattle.esx_lock.specs.Words.{bits}
-use Rattle.esx_lock.specs.Passes.{LockView, Known}
+use Rattle.esx_lock.specs.Passes.{LockView, Known, FoundBusy}
 use Rattle.esx_desk.specs.Legal.{session, legal_for, gauge_for}
 
 -- the pass is this desk's, and holds nothing
@@ -34,10 +34,10 @@ pub record Looks (v w : View) : Type 0 where
   pub follows : Follows v.callers v.ids v.seen w.seen
   pub legal : legal_for v.site w.seen
 
--- The pass had the console, and wrote no line: the word that was read last was loaded, and it is that of the log that the pass has now seen, free.
+-- The pass had the console, and wrote no line: an exchange read the word that was read last, and it is that of the log that the pass has now seen, free. One that failed reads another word (IsBusy).
 abbrev pub HadIt : View → Type 0
-HadIt w = (w.last ≡ bits (gauge_for w.site w.seen)) × (w.by_exchange ≡ false)
+HadIt w = (w.last ≡ bits (gauge_for w.site w.seen)) × (w.by_exchange ≡ true)
 
--- the word that was read last is odd and was loaded, or an exchange that failed read it
+-- The word that was read last is odd and was loaded, or an exchange that failed read it. A loaded one is that of the log that the pass has now seen, held; one of an exchange is another than that log's, free.
 abbrev pub IsBusy : View → ℕ → Type 0
-IsBusy w word = (w.last ≡ word) × (((w.by_exchange ≡ false) × (word % 2 ≡ 1)) ⊎ (w.by_exchange ≡ true))
+IsBusy w word = (w.last ≡ word) × (((w.by_exchange ≡ false) × (word % 2 ≡ 1)) ⊎ (w.by_exchange ≡ true)) × FoundBusy gauge_for w word

@@ -22,7 +22,7 @@ use Rattle.esx_lock.specs.declared.view.View.{View}
 use Rattle.esx_lock.specs.Logs.{OnlyOf, Follows}
 use Rattle.esx_lock.specs.Words.{bits}
 use Rattle.esx_lock.specs.Rule.{Where, home, with_seat, no_note, newcomer, spent, held_bit, homes_of, Fits, Roll, Holds, OthersFree, Stands, Kept}
-use Rattle.esx_lock.specs.Plays.{having_seen, having_read, having_failed, moving, holding, released, compared, with_ids, joined, Sees, looked, taken, settled, fetched, gave, recalled}
+use Rattle.esx_lock.specs.Plays.{having_seen, having_read, having_exchanged, moving, holding, released, compared, with_ids, joined, Sees, looked, taken, settled, fetched, gave, recalled}
 use Rattle.esx_lock.proofs.Logs.{callers_append, callers_map, prefix_trans, prefix_of, follows_self, follows_more, follows_shorter, follows_either, follows_fewer, follows_whole}
 use Rattle.atomic_table.proofs.Lists.{at_set, set_else}
 use Rattle.esx_lock.proofs.Seats.{off, set_swap, roll_set, alone, roll_end, free_set, free_end, holds_other, holds_own, holds_end, holder_is}
@@ -184,7 +184,7 @@ module _ {X : Type 0} (site_of : X → Config) (lines : X → List Line) (legal 
       let zero_bit : held_bit r.at ≡ 0 = free_at_home s r r.at (word_is s r) (ap (λ (z : ℕ). z % 2) hit ∙ even) in
       let t = take_at s r r.at zero_bit r.homes r.stands in
       let x : X = t.0 in
-      let w : View = moving (having_seen me.0 (lines x)) in
+      let w : View = moving (having_exchanged (having_seen me.0 (lines x)) found) in
       let free_word : found ≡ bits (gauge site r.log) = word_is s r ∙ (ap (λ (z : ℕ). bits (gauge site r.log) + z) zero_bit ∙ add-zero _) in
       let word : new ≡ bits (gauge site r.log) + 1 = up ∙ ap (λ (z : ℕ). z + 1) (sym hit ∙ free_word) in (
         w,
@@ -205,7 +205,7 @@ module _ {X : Type 0} (site_of : X → Config) (lines : X → List Line) (legal 
         },
         ((λ _. (x, t.2 ∙ sym f.at_site, free_word ∙ (λ i. bits (gauge (sym f.at_site i) (sym t.3 i))), subst (Sees site_of lines legal gauge me.0) (sym t.3) (sees s r me.0 f), λ i. (w, (0, Some x) ∷ empty i))), λ miss. absurd (miss hit)),
       ))
-      (λ miss. let w : View = having_failed me.0 found in (
+      (λ miss. let w : View = having_exchanged me.0 found in (
         w,
         keeps,
         tt,

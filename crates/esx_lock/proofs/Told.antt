@@ -8,7 +8,7 @@ use Rattle.esx_types.specs.declared.config.Config.{Config}
 use Rattle.esx_lock.specs.declared.view.View.{View}
 use Rattle.esx_lock.specs.Logs.{Follows}
 use Rattle.esx_lock.specs.Words.{bits}
-use Rattle.esx_lock.specs.Plays.{having_seen, having_read, having_failed, moving, holding, joined, Sees}
+use Rattle.esx_lock.specs.Plays.{having_seen, having_read, having_exchanged, moving, holding, joined, Sees}
 use Rattle.esx_lock.specs.Passes.{Took, Missed, FoundBusy, Learns, IsSame, Meet}
 use Rattle.esx_lock.proofs.Logs.{follows_trans, follows_self}
 use Rattle.esx_lock.proofs.Keeps.{joined_cases}
@@ -41,7 +41,7 @@ met ids v u = joined_cases ids v u (λ z. Follows z.callers z.note.ids z.note.se
 module _ {X : Type 0} (site_of : X → Config) (lines : X → List Line) (legal : Config → List Line → Type 0) (gauge : Config → List Line → ℕ × Level) where
   pub took : (me₀ me₁ me₂ me₃ me₄ : Me (Option X) View) (log : List Line) (r again : ℕ) (x y : X) (result : Option X)
       → me₁ ≡ (having_read (having_seen me₀.0 log) r, me₀.1) → Sees site_of lines legal gauge me₀.0 log → again ≡ r
-      → me₂ ≡ (moving (having_seen me₁.0 (lines x)), (0, Some x) ∷ []) → site_of x ≡ me₁.0.site → again ≡ bits (gauge me₁.0.site (lines x)) → Sees site_of lines legal gauge me₁.0 (lines x)
+      → me₂ ≡ (moving (having_exchanged (having_seen me₁.0 (lines x)) again), (0, Some x) ∷ []) → site_of x ≡ me₁.0.site → again ≡ bits (gauge me₁.0.site (lines x)) → Sees site_of lines legal gauge me₁.0 (lines x)
       → me₂.1 ≡ (0, result) ∷ rest me₂.1 → me₃ ≡ (me₂.0, (0, None) ∷ rest me₂.1)
       → me₄ ≡ (holding me₃.0, []) → result ≡ Some y
       → Took legal gauge me₀.0 me₄.0 (site_of y) (lines y)
@@ -49,12 +49,12 @@ module _ {X : Type 0} (site_of : X → Config) (lines : X → List Line) (legal 
       let v : View = me₀.0 in
       let a : View = having_read (having_seen v log) r in
       let v₁ : me₁.0 ≡ a = ap (λ (m : Me (Option X) View). m.0) e₁ in
-      let b : View = holding (moving (having_seen a (lines x))) in
-      let v₄ : me₄.0 ≡ b = ap (λ (m : Me (Option X) View). m.0) e₄ ∙ ap holding (ap (λ (m : Me (Option X) View). m.0) e₃ ∙ (ap (λ (m : Me (Option X) View). m.0) e₂ ∙ ap (λ (z : View). moving (having_seen z (lines x))) v₁)) in
+      let b : View = holding (moving (having_exchanged (having_seen a (lines x)) again)) in
+      let v₄ : me₄.0 ≡ b = ap (λ (m : Me (Option X) View). m.0) e₄ ∙ ap holding (ap (λ (m : Me (Option X) View). m.0) e₃ ∙ (ap (λ (m : Me (Option X) View). m.0) e₂ ∙ ap (λ (z : View). moving (having_exchanged (having_seen z (lines x)) again)) v₁)) in
       let same : x ≡ y = ap (λ (l : List (ℕ × Option X)). some_or x (slot_or (Some x) l)) (sym (ap (λ (m : Me (Option X) View). m.1) e₂) ∙ had) ∙ ap (some_or x) is in
       let s₂' : Sees site_of lines legal gauge a (lines x) = subst (λ (z : View). Sees site_of lines legal gauge z (lines x)) v₁ s₂ in
       let there : site_of x ≡ v.site = at ∙ ap (λ (z : View). z.site) v₁ in
-      let found : r ≡ bits (gauge (site_of x) (lines x)) = sym hit ∙ (word ∙ ap (λ (z : Config). bits (gauge z (lines x))) (sym at)) in
+      let found : again ≡ bits (gauge (site_of x) (lines x)) = word ∙ ap (λ (z : Config). bits (gauge z (lines x))) (sym at) in
       subst (λ (z : X). Took legal gauge v me₄.0 (site_of z) (lines z)) same
       (subst (λ (z : View). Took legal gauge v z (site_of x) (lines x)) (sym v₄) record {
         same = (refl, refl, refl);
@@ -63,7 +63,7 @@ module _ {X : Type 0} (site_of : X → Config) (lines : X → List Line) (legal 
         seen = refl;
         learnt = (follows_trans v.callers v.ids v.seen log (lines x) s₁.0 s₂'.0, s₂'.1);
         word = found;
-        loaded = refl;
+        exchanged = refl;
       })
 
   -- what is known of a pass, from a view that it had before
@@ -78,7 +78,7 @@ module _ {X : Type 0} (site_of : X → Config) (lines : X → List Line) (legal 
     seen = t.seen;
     learnt = learns_on v u log same f t.learnt;
     word = t.word;
-    loaded = t.loaded;
+    exchanged = t.exchanged;
   }
 
   pub missed_on : (v u w : View) (word : ℕ) → IsSame v u → Follows v.callers v.ids v.seen u.seen → Missed legal u w word → IsSame v w × Follows v.callers v.ids v.seen w.seen
@@ -92,9 +92,9 @@ module _ {X : Type 0} (site_of : X → Config) (lines : X → List Line) (legal 
 
   -- an exchange that found another word than the even one that was loaded
   pub found_other : (me₀ me₁ me₂ : Me (Option X) View) (log : List Line) (bit r again : ℕ) → me₁ ≡ (having_read (having_seen me₀.0 log) r, me₀.1) → bit < 2 → r ≡ bits (gauge me₀.0.site log) + bit → r % 2 ≢ 1
-      → me₂ ≡ (having_failed me₁.0 again, me₁.1) → again ≢ r → FoundBusy gauge me₂.0 again
+      → me₂ ≡ (having_exchanged me₁.0 again, me₁.1) → again ≢ r → FoundBusy gauge me₂.0 again
   found_other me₀ me₁ me₂ log bit r again e small word even e' other =
-      let v : View = having_failed (having_read (having_seen me₀.0 log) r) again in
+      let v : View = having_exchanged (having_read (having_seen me₀.0 log) r) again in
       let free : r ≡ bits (gauge me₀.0.site log) = omega (arith, even) in
-      let view : me₂.0 ≡ v = ap (λ (m : Me (Option X) View). m.0) e' ∙ ap (λ (m : Me (Option X) View). having_failed m.0 again) e in
+      let view : me₂.0 ≡ v = ap (λ (m : Me (Option X) View). m.0) e' ∙ ap (λ (m : Me (Option X) View). having_exchanged m.0 again) e in
       subst (λ (w : View). FoundBusy gauge w again) (sym view) ((λ by. absurd (true≢false by)), (λ _ same. other (same ∙ sym free)))

@@ -71,7 +71,7 @@ module _ (legal : Config → List Line → Type 0) (gauge : Config → List Line
     pub seen : w.seen ≡ log
     pub learnt : Learns legal v log
     pub word : w.last ≡ bits (gauge site log)
-    pub loaded : w.by_exchange ≡ false
+    pub exchanged : w.by_exchange ≡ true
 
 module _ (legal : Config → List Line → Type 0) where
   -- the word that was read last is odd and was loaded, or an exchange that failed read it

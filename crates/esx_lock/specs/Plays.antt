@@ -18,8 +18,8 @@ having_seen v log = record { site = v.site; callers = v.callers; ids = v.ids; se
 abbrev pub having_read : View → ℕ → View
 having_read v found = record { site = v.site; callers = v.callers; ids = v.ids; seen = v.seen; last = found; by_exchange = false; hold = v.hold; note = v.note }
 
-abbrev pub having_failed : View → ℕ → View
-having_failed v found = record { site = v.site; callers = v.callers; ids = v.ids; seen = v.seen; last = found; by_exchange = true; hold = v.hold; note = v.note }
+abbrev pub having_exchanged : View → ℕ → View
+having_exchanged v found = record { site = v.site; callers = v.callers; ids = v.ids; seen = v.seen; last = found; by_exchange = true; hold = v.hold; note = v.note }
 
 abbrev pub moving : View → View
 moving v = record { site = v.site; callers = v.callers; ids = v.ids; seen = v.seen; last = v.last; by_exchange = v.by_exchange; hold = Moving; note = v.note }
@@ -57,8 +57,8 @@ module _ {X : Type 0} (site_of : X → Config) (lines : X → List Line) (legal 
   -- an exchange: where the word was the one expected, the seat has the lock and the slot
   abbrev pub taken : Step (Option X) → Sat → ℕ → Sat → Type 0
   taken st m r m' =
-      (r ≡ st.first → (x : X) × (site_of x ≡ m.0.site) × (r ≡ bits (gauge m.0.site (lines x))) × Sees m.0 (lines x) × (m' ≡ (moving (having_seen m.0 (lines x)), (0, Some x) ∷ [])))
-      × (r ≢ st.first → m' ≡ (having_failed m.0 r, m.1))
+      (r ≡ st.first → (x : X) × (site_of x ≡ m.0.site) × (r ≡ bits (gauge m.0.site (lines x))) × Sees m.0 (lines x) × (m' ≡ (moving (having_exchanged (having_seen m.0 (lines x)) r), (0, Some x) ∷ [])))
+      × (r ≢ st.first → m' ≡ (having_exchanged m.0 r, m.1))
 
   -- the empty slot goes home, and comes back
   abbrev pub settled : Step (Option X) → Sat → ℕ → Sat → Type 0

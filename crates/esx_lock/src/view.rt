@@ -30,7 +30,7 @@ pub struct View {
     pub seen: LinkedList<Line>,
     /// The word that was read last.
     pub last: u64,
-    /// Did an exchange that failed read that word? Otherwise a load did.
+    /// Did an exchange read that word, one that took the lock or one that failed? Otherwise a load did.
     pub by_exchange: bool,
     pub hold: Hold,
     pub note: Note,

@@ -3,3 +3,5 @@ pub mod WordLemmas
 pub mod SessionLemmas
 pub mod EndLemmas
 pub mod RunLemmas
+pub mod DoingLemmas
+pub mod GivenLemmas

@@ -27,3 +27,17 @@ IsNoSite old new NotText = (bytes : List ℕ) × GivesWhole old new bytes × (Is
 IsNoSite old new Read = Unit {0}
 IsNoSite old new OutOfMemory = Unit {0}
 IsNoSite old new _ = ⊥
+
+-- a file had a text that is that scenario
+abbrev pub IsScenarioOfFile : {F : Type 0} → (F → Option (List ℕ)) → Plan → Type 0
+IsScenarioOfFile {F} remaining plan = (file : F) × (left : Option (List ℕ)) × (text : List ℕ) × IsScenarioOf (remaining file) left text plan
+
+-- a file had a text that is a scenario of that site
+abbrev pub IsSiteOfFile : {F : Type 0} → (F → Option (List ℕ)) → Config → Type 0
+IsSiteOfFile {F} remaining config = (file : F) × (left : Option (List ℕ)) × (text : List ℕ) × IsSiteOf (remaining file) left text config
+
+-- The same as of bytes: a file had them, or reading failed, or memory ran out.
+abbrev pub IsNoSiteOfFile : {F : Type 0} → (F → Option (List ℕ)) → TextFault → Type 0
+IsNoSiteOfFile remaining Read = Unit {0}
+IsNoSiteOfFile remaining OutOfMemory = Unit {0}
+IsNoSiteOfFile {F} remaining e = (file : F) × (left : Option (List ℕ)) × IsNoSite (remaining file) left e

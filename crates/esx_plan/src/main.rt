@@ -1,19 +1,17 @@
 //! The program: a console over the standard streams, sessions gone through again, and runs of scenarios.
 #![tactic(auto)]
 
-ghost use Rattle.std.specs.Prelude.{◌≡◌, ℕ, List, Option, Some, None, Err, codes, map, option_map, string_bytes, IfOk, IfErr};
+ghost use Rattle.std.specs.Prelude.{◌≡◌, map, string_bytes, IfOk, IfErr};
 ghost use Rattle.std.specs.Process.{exit_status};
 ghost use Rattle.std.specs.Vec.Iter.{into_iter_items};
-ghost use Rattle.esx_types.specs.Ranges.{IsConfig};
-ghost use Rattle.esx_reading.specs.Whole.{GivesWhole, IsOfReading, IsOfText};
-ghost use Rattle.esx_plan.specs.Failing.{DoesAsked, EndsWith, FailsAfter, MayFail, refused_as};
-ghost use Rattle.esx_plan.specs.Given.{GivesWords, open_fault, opened_as, words_failure};
-ghost use Rattle.esx_plan.specs.Opening.{IsNoSite, IsScenarioOf, IsSiteOf};
-ghost use Rattle.esx_plan.specs.Sessions.{IsNoSession, IsSessionOf};
-ghost use Rattle.esx_plan.specs.Status.{status_of, status_of_words, status_of_end, word_of_done, IsCheckOf, NotChecked, OfText};
-ghost use Rattle.esx_plan.specs.Words.{word_and_file};
+ghost use Rattle.esx_plan.specs.Doing.{DoesGiven, DoesWords};
+ghost use Rattle.esx_plan.specs.Failing.{DoesAsked, EndsWith, FailsAfter, refused_as};
+ghost use Rattle.esx_plan.specs.Given.{GivesWords, words_failure};
+ghost use Rattle.esx_plan.specs.Status.{status_of, status_of_words, status_of_end};
 
+mod commands;
 mod ends;
+mod files;
 mod gates;
 mod opening;
 mod outgoing;
@@ -24,27 +22,22 @@ mod site;
 mod streams;
 mod words;
 
+use commands::{Ended, Streams, run_asked};
 use esx_check::{Checked, OutputFault};
-use esx_reading::{TextFault, read_text_of};
-use esx_scenario::Scenario;
-use esx_session::Session;
+use esx_reading::TextFault;
 use esx_text::ServeFault;
 use esx_types::Config;
-use opening::{scenario_of_reader, site_of_reader};
-use progress::{Progress, Watched};
-use running::{RunFault, run_to};
-use session::{check_watched, replay_to, session_of_reader, status_of_check, tell_check_to};
+use running::RunFault;
+use session::status_of_check;
 use std::alloc::{AllocGlobal, Global};
 use std::env::{self, Args, Env};
-use std::fs;
-use std::io::{self, Eprint, ErrorKind, Input, IsTerminal, Print, Stderr};
+use std::io::{self, Eprint, ErrorKind, Input, IsTerminal, Print, Read, Stderr, Write};
 use std::process::ExitCode;
 use std::rt::Files;
 use std::sync::Wait;
 use std::thread::Threads;
-use streams::serve_streams;
 use thiserror::Error;
-use words::{Asked, WordsFault, asked_of_words};
+use words::{WordsFault, asked_of_words};
 
 /// The site of a console that is given no scenario: 20 frames of 16 bytes and 8 swap slots.
 const SITE: Config = Config {
@@ -151,180 +144,6 @@ fn words_of(alloc: Global, given: io::Result<Args>) -> Result<Vec<String>, Failu
     }
 }
 
-/// What is told of a file that could not be opened.
-fn fault_of_kind(kind: ErrorKind) -> TextFault
-    ensures fault { result ≡ open_fault kind }
-    ensures reading { IsOfReading result }
-{
-    match kind {
-        ErrorKind::OutOfMemory => TextFault::OutOfMemory,
-        _ => TextFault::Read,
-    }
-}
-
-/// A file as it was opened.
-fn file_of<F>(opened: io::Result<F>) -> Result<F, TextFault>
-    ensures file { result ≡ opened_as opened }
-    ensures reading { IfErr result IsOfReading }
-{
-    match opened {
-        Ok(file) => Ok(file),
-        Err(error) => Err(fault_of_kind(error.kind())),
-    }
-}
-
-/// A file, opened to be read.
-fn opened<R: Files + AllocGlobal>(rt: &R, path: &str) -> Result<R::File, TextFault>
-    ensures { IfErr result IsOfReading }
-{
-    file_of(fs::open(rt, path))
-}
-
-/// The site of the scenario in a file.
-fn site_of_file<R: Files + AllocGlobal>(rt: &R, path: &str) -> Result<Config, TextFault>
-    ensures config { IfOk result IsConfig }
-    ensures site { IfOk result (λ config. (given left : Option (List ℕ)) × (text : List ℕ) × IsSiteOf given left text config) }
-    ensures fault { IfErr result (λ e. (given left : Option (List ℕ)) × IsNoSite given left e) }
-{
-    site_of_reader(rt.alloc(), opened(rt, path)?)
-}
-
-/// The scenario in a file.
-fn scenario_of_file<R: Files + AllocGlobal>(rt: &R, path: &str) -> Result<Scenario, TextFault>
-    ensures scenario { IfOk result (λ scenario. (given left : Option (List ℕ)) × (text : List ℕ) × IsScenarioOf given left text scenario) }
-    ensures fault { IfErr result (λ e. (given left : Option (List ℕ)) × IsNoSite given left e) }
-{
-    scenario_of_reader(rt.alloc(), opened(rt, path)?)
-}
-
-/// The session in a file.
-fn session_of_file<R: Files + AllocGlobal>(rt: &R, path: &str) -> Result<Session, Failure>
-    ensures config { IfOk result (λ session. IsConfig session.site) }
-    ensures session { IfOk result (λ session. (given left : Option (List ℕ)) × (text : List ℕ)
-        × IsSessionOf given left text session.site session.entries) }
-    ensures fault { IfErr result (OfText (λ e. (given left : Option (List ℕ)) × IsNoSession given left e)) }
-{
-    let file = opened(rt, path).map_err(Failure::Text)?;
-    session_of_reader(rt.alloc(), file).map_err(Failure::Text)
-}
-
-/// The text in a file.
-fn text_of_file<R: Files + AllocGlobal>(rt: &R, path: &str) -> Result<String, Failure>
-    ensures text { IfOk result (λ s. (given left : Option (List ℕ)) × GivesWhole given left (string_bytes s)) }
-    ensures fault { IfErr result (OfText IsOfText) }
-{
-    let file = opened(rt, path).map_err(Failure::Text)?;
-    read_text_of(rt.alloc(), file).map_err(Failure::Text)
-}
-
-/// Serves the standard input to the standard output, at the site of a scenario if a file is named.
-fn run_console<R: Files + Input + Print + AllocGlobal>(
-    rt: &R,
-    file: Option<&str>,
-) -> Result<Done, Failure>
-    ensures word { IfOk result (λ done. word_of_done done ≡ codes "console") }
-    ensures failure { IfErr result (MayFail (codes "console", option_map (λ f. f.now) file.entry)) }
-{
-    let site = match file {
-        Some(path) => site_of_file(rt, path).map_err(Failure::Text)?,
-        None => SITE,
-    };
-    match serve_streams(rt.alloc(), site, rt.reader(), io::writer(rt)).ended {
-        Ok(_) => Ok(Done::Served),
-        Err(fault) => Err(Failure::Serve(fault)),
-    }
-}
-
-/// Where it is told how far a work is: a terminal.
-fn terminal<E: IsTerminal>(errors: &E) -> Option<&E> {
-    if errors.is_terminal() {
-        Some(errors)
-    } else {
-        None
-    }
-}
-
-/// Runs a scenario, and writes the session that its workers made to the standard output.
-fn run_scenario<R: Files + Print + AllocGlobal + Threads + Wait + Sync>(
-    rt: &R,
-    errors: &Stderr,
-    path: &str,
-) -> Result<Done, Failure>
-    ensures word { IfOk result (λ done. word_of_done done ≡ codes "run") }
-    ensures failure { IfErr result (MayFail (codes "run", Some path.now)) }
-{
-    let scenario = scenario_of_file(rt, path).map_err(Failure::Text)?;
-    let to = terminal(errors);
-    let told = io::writer(errors);
-    match run_to(rt, rt.alloc(), &scenario, to, told, io::writer(rt)).ended {
-        Ok(()) => Ok(Done::Ran),
-        Err(fault) => Err(Failure::Run(fault)),
-    }
-}
-
-/// Writes the replies of a session anew to the standard output.
-fn run_replay<R: Files + Print + AllocGlobal>(
-    rt: &R,
-    errors: &Stderr,
-    path: &str,
-) -> Result<Done, Failure>
-    ensures word { IfOk result (λ done. word_of_done done ≡ codes "replay") }
-    ensures failure { IfErr result (MayFail (codes "replay", Some path.now)) }
-{
-    let session = session_of_file(rt, path)?;
-    let progress = Progress::new(terminal(errors), None, "bytes of replies");
-    let writer = Watched::new(io::writer(rt), &progress);
-    let ended = replay_to(rt.alloc(), session, writer).ended;
-    progress.end();
-    match ended {
-        Ok(()) => Ok(Done::Replayed),
-        Err(fault) => Err(Failure::Output(fault)),
-    }
-}
-
-/// Checks the session of a text, and tells on the standard output what came of it.
-fn check_told<R: Print + AllocGlobal>(rt: &R, errors: &Stderr, text: &str) -> Result<Done, Failure>
-    ensures checks { IfOk result (IsCheckOf text.now) }
-    ensures word { IfOk result (λ done. word_of_done done ≡ codes "check") }
-    ensures failure { IfErr result (NotChecked text.now) }
-{
-    let checked = check_watched(rt.alloc(), text, terminal(errors)).map_err(Failure::Text)?;
-    match tell_check_to(rt.alloc(), checked, io::writer(rt)).ended {
-        Ok(()) => Ok(Done::Checked(checked)),
-        Err(fault) => Err(Failure::Output(fault)),
-    }
-}
-
-/// Checks the session in a file, while its text is read.
-fn run_check<R: Files + Print + AllocGlobal>(
-    rt: &R,
-    errors: &Stderr,
-    path: &str,
-) -> Result<Done, Failure>
-    ensures word { IfOk result (λ done. word_of_done done ≡ codes "check") }
-    ensures failure { IfErr result (MayFail (codes "check", Some path.now)) }
-{
-    let text = text_of_file(rt, path)?;
-    check_told(rt, errors, text.as_str())
-}
-
-/// Does what is asked for.
-fn run_asked<R: Files + Input + Print + AllocGlobal + Threads + Wait + Sync>(
-    rt: &R,
-    errors: &Stderr,
-    asked: Asked,
-) -> Result<Done, Failure>
-    ensures word { IfOk result (λ done. word_of_done done ≡ (word_and_file asked.entry).0) }
-    ensures failure { IfErr result (MayFail (word_and_file asked.entry)) }
-{
-    match asked {
-        Asked::Console(file) => run_console(rt, file),
-        Asked::Run(path) => run_scenario(rt, errors, path),
-        Asked::Replay(path) => run_replay(rt, errors, path),
-        Asked::Check(path) => run_check(rt, errors, path),
-    }
-}
-
 /// How the program ends after words that ask for nothing.
 fn failure_of_words(fault: WordsFault) -> Failure
     ensures status { status_of result ≡ status_of_words fault }
@@ -337,37 +156,68 @@ fn failure_of_words(fault: WordsFault) -> Failure
 }
 
 /// Does what the words ask for, the first of which is the program's name.
-fn run_words<R: Files + Input + Print + AllocGlobal + Threads + Wait + Sync>(
-    rt: &R,
-    errors: &Stderr,
-    words: &[String],
-) -> Result<Done, Failure>
-    ensures done { IfOk result (DoesAsked (map string_bytes words.now)) }
-    ensures failure { IfErr result (FailsAfter (map string_bytes words.now)) }
+fn run_words<
+    R: Files + AllocGlobal + Threads + Wait + Sync,
+    P: Print + Sync,
+    I: Read + Drop,
+    E: Write + Drop,
+    W: Write + Drop,
+>(rt: &R, words: &[String], to: Option<&P>, streams: Streams<I, E, W>) -> Ended<I, E, W>
+    ensures done { IfOk result.ended (DoesAsked (map string_bytes words.now)) }
+    ensures failure { IfErr result.ended (FailsAfter (map string_bytes words.now)) }
+    ensures does { DoesWords R.File.remaining (map string_bytes words.now) result.ended (I.remaining streams.reader) (I.remaining result.streams.reader)
+        (E.contents streams.errors) (E.contents result.streams.errors) (W.contents streams.writer) (W.contents result.streams.writer) }
 {
     match asked_of_words(rt.alloc(), words) {
-        Ok(asked) => run_asked(rt, errors, asked),
-        Err(fault) => Err(failure_of_words(fault)),
+        Ok(asked) => run_asked(rt, asked, to, streams),
+        Err(fault) => Ended {
+            ended: Err(failure_of_words(fault)),
+            streams,
+        },
     }
 }
 
 /// Does what the words ask for that the program was given.
-fn run_given<R: Files + Input + Print + AllocGlobal + Threads + Wait + Sync>(
-    rt: &R,
-    errors: &Stderr,
-    given: io::Result<Args>,
-) -> Result<Done, Failure>
-    ensures { EndsWith given result }
+fn run_given<
+    R: Files + AllocGlobal + Threads + Wait + Sync,
+    P: Print + Sync,
+    I: Read + Drop,
+    E: Write + Drop,
+    W: Write + Drop,
+>(rt: &R, given: io::Result<Args>, to: Option<&P>, streams: Streams<I, E, W>) -> Ended<I, E, W>
+    ensures ends { EndsWith given result.ended }
+    ensures does { DoesGiven R.File.remaining given result.ended (I.remaining streams.reader) (I.remaining result.streams.reader)
+        (E.contents streams.errors) (E.contents result.streams.errors) (W.contents streams.writer) (W.contents result.streams.writer) }
 {
-    let words = words_of(rt.alloc(), given)?;
-    run_words(rt, errors, words.as_slice())
+    match words_of(rt.alloc(), given) {
+        Ok(words) => run_words(rt, words.as_slice(), to, streams),
+        Err(failure) => Ended {
+            ended: Err(failure),
+            streams,
+        },
+    }
 }
 
+/// Where it is told how far a work is: a terminal.
+fn terminal<E: IsTerminal>(errors: &E) -> Option<&E> {
+    if errors.is_terminal() {
+        Some(errors)
+    } else {
+        None
+    }
+}
+
+/// Does what the program's words ask for, on the standard streams.
 fn run<R: Env + Files + Input + Print + AllocGlobal + Threads + Wait + Sync>(
     rt: &R,
     errors: &Stderr,
 ) -> Result<Done, Failure> {
-    run_given(rt, errors, env::args(rt))
+    let streams = Streams {
+        reader: rt.reader(),
+        errors: io::writer(errors),
+        writer: io::writer(rt),
+    };
+    run_given(rt, env::args(rt), terminal(errors), streams).ended
 }
 
 /// What the program ends with. Where it ends otherwise than well, the standard error is told why.

@@ -82,6 +82,13 @@ impl<'a, W: Write + Drop, P> Watched<'a, W, P> {
     {
         Watched { writer, progress }
     }
+
+    /// Gives the writer back.
+    pub fn into_writer(self) -> W
+        ensures { result ≡ self.entry.writer }
+    {
+        self.writer
+    }
 }
 
 impl<'a, W: Write + Drop, P: Print> Write for Watched<'a, W, P> {

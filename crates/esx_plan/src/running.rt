@@ -19,7 +19,7 @@ use esx_events::Refusal;
 use esx_scenario::Scenario;
 use esx_session::write_session;
 use esx_types::{Sink, SinkFailed, WriteSink};
-use esx_work::{End, SiteFault, run_site};
+use esx_work::{End, Outcome, SiteFault, run_site};
 use esx_writing::AnswerBuffer;
 use std::alloc::{AllocError, Global};
 use std::io::Write;
@@ -92,7 +92,7 @@ fn play<R: Threads + Wait + Sync, P: Print + Sync>(
     let Ok(gates) = gates_of(alloc, &progress, count) else {
         return Err(SiteFault::OutOfMemory);
     };
-    let (console, ends) = run_site(rt, alloc, scenario, gates)?;
+    let Outcome { console, ends, .. } = run_site(rt, alloc, scenario, gates)?;
     progress.end();
     let _ = console.log();
     Ok((console, ends))

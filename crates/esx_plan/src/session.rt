@@ -10,7 +10,7 @@ ghost use Rattle.esx_plan.specs.Sessions.{IsSessionOf, IsNoSession, CheckStops, 
 
 use crate::gates::Counting;
 use crate::outgoing::{Outgoing, Waiting};
-use crate::progress::Progress;
+use crate::progress::{Progress, Watched};
 use esx_check::{Checked, OutputFault, check_text_through, replay_session, write_checked};
 use esx_reading::{TextFault, read_text_of};
 use esx_session::{Session, parse_session};
@@ -180,4 +180,25 @@ pub fn replay_to<W: Write + Drop>(alloc: Global, session: Session, writer: W) ->
         × GivenOut e taken (W.contents result.writer)) }
 {
     replay_counted::<_, Brand, Brand>(alloc, session, writer, Blank::new(3), Blank::new(3))
+}
+
+/// The same, and tells how many bytes were written to `to`, where there is one.
+pub fn replay_watched<P: Print, W: Write + Drop>(
+    alloc: Global,
+    session: Session,
+    to: Option<&P>,
+    writer: W,
+) -> Replayed<W>
+    requires { IsConfig session.site }
+    ensures ok { OnOk result.ended (Appends (W.contents writer) (W.contents result.writer) (replay_text session.site session.entries)) }
+    ensures fault { IfErr result.ended (λ e. (taken : Option (List ℕ)) × ReplayStops e session.site session.entries (W.contents writer) taken
+        × GivenOut e taken (W.contents result.writer)) }
+{
+    let progress = Progress::new(to, None, "bytes of replies");
+    let replayed = replay_to(alloc, session, Watched::new(writer, &progress));
+    progress.end();
+    Replayed {
+        ended: replayed.ended,
+        writer: replayed.writer.into_writer(),
+    }
 }

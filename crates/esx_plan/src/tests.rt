@@ -1,5 +1,6 @@
 //! Worked examples, each through the whole console. What they answer was worked out by hand.
 
+mod asking;
 mod checking;
 mod ends;
 mod mechanisms;

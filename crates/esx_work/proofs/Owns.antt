@@ -13,7 +13,7 @@ use Rattle.esx_lock.specs.Logs.{Callers, OthersOf, Follows}
 use Rattle.esx_lock.specs.Passes.{LockView, Known, IsSame}
 use Rattle.esx_desk.specs.Told.{Adds, Looks, line}
 use Rattle.esx_door.specs.Own.{lines_of}
-use Rattle.esx_work.specs.Doors.{GoesOn, IsReady, Leads}
+use Rattle.esx_work.specs.Doors.{GoesOn, IsOther, IsReady, Leads}
 
 pub lines_append : (k : ℕ) (xs ys : List Line) → lines_of k (xs ++ ys) ≡ lines_of k xs ++ lines_of k ys
 lines_append k xs ys = filter-append (λ (x : Line). x.caller == k) xs ys
@@ -69,6 +69,15 @@ module _ (k : ℕ) (v w : View) (call : Call) where
         below_end n a.between x (subst (λ (m : ℕ). Callers (λ j. j < m) a.between) many (below_others v.callers v.ids a.between a.others)) (subst (λ (c : ℕ). c < n) (sym same) lt),
       )
 
+  -- of its callers that are not its least there is no line
+  pub adds_others : (j : ℕ) (reply : Reply) → IsOther v.ids j → Adds v w call reply → lines_of j w.seen ≡ lines_of j v.seen
+  adds_others j reply other a =
+      let x : Line = line a.caller call reply in
+      let ne : x.caller ≢ j = λ e. other.1 (subst (IsLeast v.ids) e a.least) in
+      let none : lines_of j (x ∷ []) ≡ [] = ap (λ (b : Bool). cond b (x ∷ []) []) (ne_eqb x.caller j ne) in
+      let front : lines_of j (v.seen ++ a.between) ≡ lines_of j v.seen = lines_append j v.seen a.between ∙ (ap (λ (l : List Line). lines_of j v.seen ++ l) (lines_of_others j v.callers v.ids a.between other.0 a.others) ∙ append-nil (lines_of j v.seen)) in
+      ap (lines_of j) a.seen ∙ (lines_append j (v.seen ++ a.between) (x ∷ []) ∙ (ap (λ (l : List Line). l ++ lines_of j (x ∷ [])) front ∙ (ap (λ (l : List Line). lines_of j v.seen ++ l) none ∙ append-nil (lines_of j v.seen))))
+
   pub waits_grown : (n : ℕ) → v.callers ≡ n → Looks v w → GoesOn n v.seen w.seen
   waits_grown n many t = (t.follows.0, t.follows.1, subst (λ (m : ℕ). Callers (λ j. j < m) t.follows.0) many (below_others v.callers v.ids t.follows.0 t.follows.2))
 
@@ -82,8 +91,18 @@ module _ {E : Type 0} (k : ℕ) (call : Call) where
   made_none (Err e) v w least err = follows_own k v.callers v.ids v.seen w.seen least.0 err.follows
 
   pub made_leads : (r : Result Reply E) (desk : LockView) (p q : Known) → IsReady desk p k → IsSame p.view q.view → IfOk r (λ reply. Adds p.view q.view call reply) → OnErr r (Looks p.view q.view) → Leads desk desk p q
-  made_leads (Ok reply) desk p q ready same ok err = record { desk_same = refl; same = same; grown = adds_grown k p.view q.view call desk.callers reply ready.0.2 ready.1 ready.2 ok }
-  made_leads (Err e) desk p q ready same ok err = record { desk_same = refl; same = same; grown = waits_grown k p.view q.view call desk.callers ready.0.2 err }
+  made_leads (Ok reply) desk p q ready same ok err = record {
+    desk_same = refl;
+    same = same;
+    grown = adds_grown k p.view q.view call desk.callers reply ready.0.2 ready.1 ready.2 ok;
+    others = λ j o. adds_others k p.view q.view call j reply o ok;
+  }
+  made_leads (Err e) desk p q ready same ok err = record {
+    desk_same = refl;
+    same = same;
+    grown = waits_grown k p.view q.view call desk.callers ready.0.2 err;
+    others = λ j o. follows_own j p.view.callers p.view.ids p.view.seen q.view.seen o.0 err.follows;
+  }
 
 -- every line is as P says
 abbrev pub AllLines : (Line → Type 0) → List Line → Type 0

@@ -16,8 +16,7 @@ use Rattle.esx_workers.specs.declared.end.End.{End}
 use Rattle.esx_workers.specs.declared.machine.Machine.{Machine}
 use Rattle.esx_workers.specs.declared.worker.Worker.{Worker}
 use Rattle.esx_workers.specs.declared.worker.Worker.TheVariants as workers
-use Rattle.esx_workers.specs.Runs.{IsRun}
-use Rattle.esx_work.specs.Runs.{GatedBy}
+use Rattle.esx_workers.specs.Runs.{IsRun, IsGated}
 use Rattle.esx_work.specs.Sites.{told_of, wanted_of, AreMachines, IsGuestAt, IsWorker, IsRunOf, IsGatedRunOf}
 
 -- the machine behind a reference at a place
@@ -94,13 +93,13 @@ module _ {G : Type 0} (is_open : G → Type 0) (passes : G → ℕ → Bool → 
         run = subst (λ (t : Settings). IsRun (is_open y) k w.0 t.turns e lines) same (run w.0 y w.1 y_at);
       }
 
-  pub gated_of : (k : ℕ) (e : End) (lines : List Line) → slice_get ends k ≡ Some e → ((w : Worker) (y : G) → slice_get staff k ≡ Some w → slice_get gates k ≡ Some y → GatedBy passes y w s.turns e lines)
-      → (y : G) → slice_get gates k ≡ Some y → IsGatedRunOf p passes y k e lines
-  gated_of k e lines at gated y y_at =
+  pub gated_of : (after : List G) (k : ℕ) (e : End) (lines : List Line) → slice_get ends k ≡ Some e
+      → ((w : Worker) (y z : G) → slice_get staff k ≡ Some w → slice_get gates k ≡ Some y → slice_get after k ≡ Some z → IsGated passes y z w s.turns e lines) → (y z : G) → slice_get gates k ≡ Some y → slice_get after k ≡ Some z → IsGatedRunOf p passes y z k e lines
+  gated_of after k e lines at gated y z y_at z_at =
       let w = ended_worker k e at in record {
         machines = ms;
         are = ordered;
         worker = w.0;
         is = is_worker k w.0 w.1;
-        gated = subst (λ (t : Settings). GatedBy passes y w.0 t.turns e lines) same (gated w.0 y w.1 y_at);
+        gated = subst (λ (t : Settings). IsGated passes y z w.0 t.turns e lines) same (gated w.0 y z w.1 y_at z_at);
       }

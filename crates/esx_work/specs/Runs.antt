@@ -1,5 +1,5 @@
 -- What workers in threads leave.
-use Rattle.std.specs.Prelude.{◌≡◌, ℕ, ◌<◌, ◌≤◌, Bool, true, List, ◌++◌, slice_get, Some, Ok, IfOk}
+use Rattle.std.specs.Prelude.{◌≡◌, ℕ, ◌<◌, ◌≤◌, Bool, true, List, [], ◌++◌, slice_get, Some, IfOk, OnErr}
 use Rattle.esx_events.specs.declared.call.Line.{Line}
 use Rattle.esx_types.specs.Ids.{has, IsLeast}
 use Rattle.esx_model.specs.Console.{Session}
@@ -9,7 +9,8 @@ use Rattle.esx_desk.specs.Told.{IsOf}
 use Rattle.esx_door.specs.Own.{lines_of}
 use Rattle.esx_workers.specs.declared.end.End.{End}
 use Rattle.esx_workers.specs.declared.worker.Worker.{Worker}
-use Rattle.esx_workers.specs.Runs.{IsRun, IsGated}
+use Rattle.esx_workers.specs.Runs.{IsRun, IsGated, IsBroken, StopsShort}
+use Rattle.esx_work.specs.Doors.{IsOther}
 use Rattle.esx_work.specs.declared.run.Finished.{Finished}
 
 -- the pass is the desk's, whose callers its own are among
@@ -17,50 +18,45 @@ pub record CanRun (desk : LockView) (p : Known) : Type 0 where
   pub is_of : IsOf desk p
   pub below : (k : ℕ) → has p.view.ids k ≡ true → k < desk.callers
 
--- the gate before these lines of a worker's run, which became some gate after them
-abbrev pub GatedBy : {G : Type 0} → (G → ℕ → Bool → G → Type 0) → G → Worker → ℕ → End → List Line → Type 0
-GatedBy {G} passes gate w turns end lines = (after : G) × IsGated passes gate after w turns end lines
-
--- What a thread gave back for a pass and a gate: the later lines of the pass's least caller are its worker's run behind this gate, if it was not ended by want of memory.
-pub record Ran {G : Type 0} (is_open : G → Type 0) (passes : G → ℕ → Bool → G → Type 0) (gate : G) (desk : LockView) (p : Known) (w : Worker) (turns : ℕ) (f : Finished) : Type 0 where
+-- What a thread gave back for a pass and a gate. The later lines of the pass's least caller are its worker's run behind this gate, which is given back as it was left, also where memory was wanting; its other callers have none.
+pub record Ran {G : Type 0} (is_open : G → Type 0) (passes : G → ℕ → Bool → G → Type 0) (gate : G) (desk : LockView) (p : Known) (w : Worker) (turns : ℕ) (f : Finished G) : Type 0 where
   pub is_of : IsOf desk f.pass
   pub same : IsSame p.view f.pass.view
   pub later : List Line
   pub grown : p.view.seen ++ later ≡ f.pass.view.seen
   pub below : Callers (λ k. k < desk.callers) later
+  pub others : (k : ℕ) → IsOther p.view.ids k → lines_of k later ≡ []
   pub done : (k : ℕ) → IsLeast p.view.ids k → IfOk f.ended (λ end. IsRun (is_open gate) k w turns end (lines_of k later))
-  pub gated : (k : ℕ) → IsLeast p.view.ids k → IfOk f.ended (λ end. GatedBy passes gate w turns end (lines_of k later))
+  pub gated : (k : ℕ) → IsLeast p.view.ids k → IfOk f.ended (λ end. IsGated passes gate f.gate w turns end (lines_of k later))
+  pub broken : (k : ℕ) → IsLeast p.view.ids k → OnErr f.ended (IsBroken k w turns (lines_of k later))
+  pub stopped : (k : ℕ) → IsLeast p.view.ids k → OnErr f.ended (StopsShort passes gate f.gate w (lines_of k later))
 
--- these are the ends of all threads
-abbrev pub AllEnded : List Finished → List End → Type 0
-AllEnded all ends = (i : ℕ) (f : Finished) (e : End) → slice_get all i ≡ Some f → slice_get ends i ≡ Some e → f.ended ≡ Ok e
-
--- What the thread of caller i gave back, whose pass had seen what the desk opened with.
-pub record IsReturned (desk : LockView) (opened : Session) (i : ℕ) (f : Finished) : Type 0 where
-  pub is_of : IsOf desk f.pass
-  pub site : f.pass.view.site ≡ opened.site
-  pub own : has f.pass.view.ids i ≡ true
-  pub alone : (k : ℕ) → has f.pass.view.ids k ≡ true → k ≡ i
+-- The pass that the thread of caller i gave back, which had seen what the desk opened with.
+pub record IsReturned (desk : LockView) (opened : Session) (i : ℕ) (p : Known) : Type 0 where
+  pub is_of : IsOf desk p
+  pub site : p.view.site ≡ opened.site
+  pub own : has p.view.ids i ≡ true
+  pub alone : (k : ℕ) → has p.view.ids k ≡ true → k ≡ i
   pub later : List Line
-  pub grown : opened.log ++ later ≡ f.pass.view.seen
+  pub grown : opened.log ++ later ≡ p.view.seen
   pub below : Callers (λ k. k < desk.callers) later
 
-abbrev pub AreReturned : LockView → Session → List Finished → Type 0
-AreReturned desk opened all = (i : ℕ) (f : Finished) → slice_get all i ≡ Some f → IsReturned desk opened i f
+abbrev pub AreReturned : LockView → Session → List Known → Type 0
+AreReturned desk opened all = (i : ℕ) (p : Known) → slice_get all i ≡ Some p → IsReturned desk opened i p
 
 -- the lines of a caller are those that its own pass has seen
-abbrev pub AreOwn : Session → ℕ → Finished → List Line → Type 0
-AreOwn opened k f later = (own : List Line) × (opened.log ++ own ≡ f.pass.view.seen) × (lines_of k later ≡ lines_of k own)
+abbrev pub AreOwn : Session → ℕ → Known → List Line → Type 0
+AreOwn opened k p later = (own : List Line) × (opened.log ++ own ≡ p.view.seen) × (lines_of k later ≡ lines_of k own)
 
 -- The pass speaks for all callers from a number on, and of each of its callers it knows the lines.
-pub record Knows (desk : LockView) (opened : Session) (all : List Finished) (from : ℕ) (p : Known) : Type 0 where
+pub record Knows (desk : LockView) (opened : Session) (all : List Known) (from : ℕ) (p : Known) : Type 0 where
   pub is_of : IsOf desk p
   pub site : p.view.site ≡ opened.site
   pub later : List Line
   pub grown : opened.log ++ later ≡ p.view.seen
   pub below : Callers (λ k. k < desk.callers) later
   pub covers : (k : ℕ) → from ≤ k → k < desk.callers → has p.view.ids k ≡ true
-  pub runs : (k : ℕ) (f : Finished) → has p.view.ids k ≡ true → slice_get all k ≡ Some f → AreOwn opened k f later
+  pub runs : (k : ℕ) (q : Known) → has p.view.ids k ≡ true → slice_get all k ≡ Some q → AreOwn opened k q later
 
 -- The log goes on with lines of these callers alone, and each caller's lines are as its end promises.
 pub record RunsOn (opened : Session) (callers : ℕ) (promise : ℕ → End → List Line → Type 0) (ends : List End) (s : Session) : Type 0 where

@@ -13,8 +13,7 @@ use Rattle.esx_workers.specs.declared.machine.Machine.{Machine}
 use Rattle.esx_workers.specs.declared.visiting.Step.TheVariants.{Send}
 use Rattle.esx_workers.specs.declared.worker.Worker.{Worker}
 use Rattle.esx_workers.specs.declared.worker.Worker.TheVariants.{Guest, Sharer, Swapper, Policy}
-use Rattle.esx_workers.specs.Runs.{IsRun}
-use Rattle.esx_work.specs.Runs.{GatedBy}
+use Rattle.esx_workers.specs.Runs.{IsRun, IsGated}
 
 -- the generator that is made from the seed and a worker's place
 unfoldable pub generator_of : ℕ → ℕ → Lcg
@@ -53,10 +52,10 @@ pub record IsRunOf (p : Plan) (let_through : Type 0) (k : ℕ) (end : End) (line
   pub is : IsWorker p.settings (in_order p.guests) machines k worker
   pub run : IsRun let_through k worker p.settings.turns end lines
 
--- the gate was passed for these lines of the scenario's worker at this place
-pub record IsGatedRunOf {G : Type 0} (p : Plan) (passes : G → ℕ → Bool → G → Type 0) (gate : G) (k : ℕ) (end : End) (lines : List Line) : Type 0 where
+-- the gate before and after these lines of the scenario's worker at this place
+pub record IsGatedRunOf {G : Type 0} (p : Plan) (passes : G → ℕ → Bool → G → Type 0) (before after : G) (k : ℕ) (end : End) (lines : List Line) : Type 0 where
   pub machines : List Machine
   pub are : AreMachines (in_order p.guests) machines
   pub worker : Worker
   pub is : IsWorker p.settings (in_order p.guests) machines k worker
-  pub gated : GatedBy passes gate worker p.settings.turns end lines
+  pub gated : IsGated passes before after worker p.settings.turns end lines

@@ -2,10 +2,10 @@
 
 ghost use Rattle.std.specs.Prelude.{◌≡◌, ◌<◌, ◌≤◌, ℕ, Some, IfOk, All, length, slice_get};
 ghost use Rattle.esx_types.specs.declared.config.TheConstants.{CALLERS};
-ghost use Rattle.esx_workers.specs.Runs.{IsRun};
-ghost use Rattle.esx_work.specs.Runs.{CanRun, Ran, RunsOn, GatedBy};
+ghost use Rattle.esx_workers.specs.Runs.{IsRun, IsGated};
+ghost use Rattle.esx_work.specs.Runs.{CanRun, Ran, RunsOn};
 
-use crate::run::{Finished, Task, ends_of, meet_all, run_one, tasks_of};
+use crate::run::{Finished, Parts, Task, meet_all, parted, room_for, run_one, tasks_of};
 use esx_console::Console;
 use esx_desk::Desk;
 use esx_door::Gate;
@@ -16,18 +16,26 @@ use std::sync::Wait;
 use std::thread;
 use std::thread::Threads;
 
+/// What a run leaves: the console, and how each worker ended and its gate, in their order.
+#[derive(Drop)]
+pub struct Outcome<G> {
+    pub console: Console,
+    pub ends: Vec<End>,
+    pub gates: Vec<G>,
+}
+
 /// All workers, each in a thread of its own. Those for which no thread can be made run one after another.
 pub fn run_all<'a, R: Threads + Wait + Sync, G: Gate + Send + Drop>(
     rt: &R,
     alloc: Global,
     desk: &Desk,
     tasks: Vec<Task<'a, G>>,
-) -> Result<Vec<Finished>, AllocError>
+) -> Result<Vec<Finished<G>>, AllocError>
     requires { All (λ t. CanRun desk.now t.pass) tasks.items }
     ensures len { IfOk result (λ all. length all.items ≡ length tasks.entry.items) }
     ensures each { IfOk result (λ all. (i : ℕ) (t : _) (f : _) → slice_get tasks.entry.items i ≡ Some t → slice_get all.items i ≡ Some f → Ran G.is_open G.passes t.gate desk.now t.pass t.worker t.turns f) }
 {
-    let work = |task: Task<G>| -> Finished
+    let work = |task: Task<G>| -> Finished<G>
         requires { CanRun desk.now task.pass }
         ensures { Ran G.is_open G.passes task.entry.gate desk.entry.now task.entry.pass task.entry.worker task.entry.turns result }
     { run_one(rt, alloc, desk, task) };
@@ -35,7 +43,7 @@ pub fn run_all<'a, R: Threads + Wait + Sync, G: Gate + Send + Drop>(
 }
 
 /// Runs a worker as each caller of a desk over an opened console, with the gate at its place, and closes the desk.
-/// The log goes on with the lines of these workers' runs, and no other line.
+/// The log goes on with the lines of these workers' runs, and no other line. The gates come back as they were left.
 pub fn run_workers<'a, R: Threads + Wait + Sync, G: Gate + Send + Drop>(
     rt: &R,
     alloc: Global,
@@ -43,18 +51,29 @@ pub fn run_workers<'a, R: Threads + Wait + Sync, G: Gate + Send + Drop>(
     workers: Vec<Worker<'a>>,
     gates: Vec<G>,
     turns: u32,
-) -> Result<(Console, Vec<End>), AllocError>
+) -> Result<Outcome<G>, AllocError>
     requires callers { (0 < length workers.items) × (length workers.items ≤ CALLERS) }
     requires gates { length gates.items ≡ length workers.items }
-    ensures ends { IfOk result (λ r. length r.1.items ≡ length workers.entry.items) }
-    ensures runs { IfOk result (λ r. RunsOn console (length workers.entry.items) (λ k e lines. (w : _) (gate : _) → slice_get workers.entry.items k ≡ Some w → slice_get gates.items k ≡ Some gate → IsRun (G.is_open gate) k w turns e lines) r.1.items r.0) }
-    ensures gates { IfOk result (λ r. RunsOn console (length workers.entry.items) (λ k e lines. (w : _) (gate : _) → slice_get workers.entry.items k ≡ Some w → slice_get gates.items k ≡ Some gate → GatedBy G.passes gate w turns e lines) r.1.items r.0) }
+    ensures ends { IfOk result (λ r. length r.ends.items ≡ length workers.entry.items) }
+    ensures many { IfOk result (λ r. length r.gates.items ≡ length workers.entry.items) }
+    ensures runs { IfOk result (λ r. RunsOn console (length workers.entry.items) (λ k e lines. (w : _) (gate : _) → slice_get workers.entry.items k ≡ Some w → slice_get gates.items k ≡ Some gate → IsRun (G.is_open gate) k w turns e lines) r.ends.items r.console) }
+    ensures gates { IfOk result (λ r. RunsOn console (length workers.entry.items) (λ k e lines. (w : _) (before after : _) → slice_get workers.entry.items k ≡ Some w → slice_get gates.items k ≡ Some before → slice_get r.gates.items k ≡ Some after → IsGated G.passes before after w turns e lines) r.ends.items r.console) }
 {
     let opened = Snapshot::of(&console);
-    let (desk, passes) = Desk::over(alloc, console, workers.len())?;
+    let count = workers.len();
+    let (desk, passes) = Desk::over(alloc, console, count)?;
     let tasks = tasks_of(alloc, passes, gates, workers, turns)?;
+    let room = room_for(alloc, count)?;
     let finished = run_all(rt, alloc, &desk, tasks)?;
-    let ends = ends_of(alloc, &finished)?;
-    let pass = meet_all(&desk, &opened, finished);
-    Ok((desk.close(pass), ends))
+    let Parts {
+        passes,
+        ends,
+        gates,
+    } = parted(finished, room)?;
+    let pass = meet_all(&desk, &opened, passes);
+    Ok(Outcome {
+        console: desk.close(pass),
+        ends,
+        gates,
+    })
 }

@@ -6,6 +6,7 @@ pub mod door;
 pub mod run;
 pub mod site;
 
+pub use crew::Outcome;
 pub use door::{ConsoleDoor, DeskDoor};
 pub use esx_door::{Door, Gate, Open};
 pub use esx_opening::SiteFault;

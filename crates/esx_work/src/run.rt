@@ -1,9 +1,7 @@
 //! Workers over one desk, each in a thread of its own where one can be made.
 
-ghost use Rattle.std.specs.Prelude.{◌≡◌, ◌<◌, ◌≤◌, ℕ, Some, IfOk, All, length, slice_get};
-ghost use Rattle.esx_types.specs.declared.config.TheConstants.{CALLERS};
-ghost use Rattle.esx_workers.specs.Runs.{IsRun};
-ghost use Rattle.esx_work.specs.Runs.{CanRun, Ran, AreReturned, AllEnded, Knows, RunsOn};
+ghost use Rattle.std.specs.Prelude.{◌≡◌, ◌<◌, ◌≤◌, [], ℕ, Some, Ok, Err, IfOk, IfErr, map, length, slice_get, vec_capacity};
+ghost use Rattle.esx_work.specs.Runs.{CanRun, Ran, AreReturned, Knows};
 
 use crate::door::DeskDoor;
 use esx_console::Console;
@@ -23,11 +21,20 @@ pub struct Task<'a, G> {
     pub turns: u32,
 }
 
-/// What a thread gives back: its worker's pass, and how the worker ended.
+/// What a thread gives back: its worker's pass, the gate as it was left, and how the worker ended.
 #[derive(Drop)]
-pub struct Finished {
+pub struct Finished<G> {
     pub pass: Pass,
+    pub gate: G,
     pub ended: Result<End, AllocError>,
+}
+
+/// What threads gave back, part by part, each in their order.
+#[derive(Drop)]
+pub struct Parts<G> {
+    pub passes: Vec<Pass>,
+    pub ends: Vec<End>,
+    pub gates: Vec<G>,
 }
 
 /// The worker of a pass, behind its gate.
@@ -36,7 +43,7 @@ pub fn run_one<R: Wait, G: Gate + Drop>(
     alloc: Global,
     desk: &Desk,
     task: Task<G>,
-) -> Finished
+) -> Finished<G>
     requires { CanRun desk.now task.pass }
     ensures { Ran G.is_open G.passes task.entry.gate desk.now task.entry.pass task.entry.worker task.entry.turns result }
 {
@@ -56,19 +63,48 @@ pub fn run_one<R: Wait, G: Gate + Drop>(
     let ended = run(&mut door, &mut gate, alloc, worker, turns);
     Finished {
         pass: door.pass,
+        gate,
         ended,
     }
 }
 
-/// How the workers ended. An error where one found no memory.
-pub fn ends_of(alloc: Global, finished: &[Finished]) -> Result<Vec<End>, AllocError>
-    ensures { IfOk result (λ ends. (length ends.items ≡ length finished.now) × AllEnded finished.now ends.items) }
+/// Room for the parts of so many.
+pub fn room_for<G: Drop>(alloc: Global, count: usize) -> Result<Parts<G>, AllocError>
+    ensures empty { IfOk result (λ parts. (parts.passes.items ≡ []) × (parts.ends.items ≡ []) × (parts.gates.items ≡ [])) }
+    ensures room { IfOk result (λ parts. (count ≤ vec_capacity parts.passes) × (count ≤ vec_capacity parts.ends) × (count ≤ vec_capacity parts.gates)) }
 {
-    let mut ends = Vec::with_capacity(alloc, finished.len())?;
+    Ok(Parts {
+        passes: Vec::with_capacity(alloc, count)?,
+        ends: Vec::with_capacity(alloc, count)?,
+        gates: Vec::with_capacity(alloc, count)?,
+    })
+}
+
+/// The parts of what threads gave back, in room that was taken. An error where a worker found no memory.
+pub fn parted<G: Drop>(finished: Vec<Finished<G>>, room: Parts<G>) -> Result<Parts<G>, AllocError>
+    requires empty { (room.passes.items ≡ []) × (room.ends.items ≡ []) × (room.gates.items ≡ []) }
+    requires room { (length finished.items ≤ vec_capacity room.passes) × (length finished.items ≤ vec_capacity room.ends) × (length finished.items ≤ vec_capacity room.gates) }
+    ensures passes { IfOk result (λ parts. parts.passes.items ≡ map (λ f. f.pass) finished.items) }
+    ensures ends { IfOk result (λ parts. map Ok parts.ends.items ≡ map (λ f. f.ended) finished.items) }
+    ensures gates { IfOk result (λ parts. parts.gates.items ≡ map (λ f. f.gate) finished.items) }
+    ensures err { IfErr result (λ e. (i : ℕ) × (f : _) × (slice_get finished.items i ≡ Some f) × (f.ended ≡ Err e)) }
+{
+    let Parts {
+        mut passes,
+        mut ends,
+        mut gates,
+    } = room;
     for one in finished {
-        ends.push(one.ended?)?;
+        let Finished { pass, gate, ended } = one;
+        ends.push(ended?).unwrap();
+        passes.push(pass).unwrap();
+        gates.push(gate).unwrap();
     }
-    Ok(ends)
+    Ok(Parts {
+        passes,
+        ends,
+        gates,
+    })
 }
 
 /// A task for each pass, with the gate and the worker at its place.
@@ -98,18 +134,18 @@ pub fn tasks_of<'a, G: Drop>(
 }
 
 /// The passes of all workers, met one by one.
-pub fn meet_all(desk: &Desk, opened: &Snapshot<Console>, mut finished: Vec<Finished>) -> Pass
-    requires some { (0 < length finished.items) × (length finished.items ≡ desk.now.callers) }
-    requires returned { AreReturned desk.now opened.now.value finished.items }
-    ensures { Knows desk.now opened.now.value finished.items 0 result }
+pub fn meet_all(desk: &Desk, opened: &Snapshot<Console>, mut passes: Vec<Pass>) -> Pass
+    requires some { (0 < length passes.items) × (length passes.items ≡ desk.now.callers) }
+    requires returned { AreReturned desk.now opened.now.value passes.items }
+    ensures { Knows desk.now opened.now.value passes.items 0 result }
 {
     let _ = opened;
-    let Some(last) = finished.pop() else {
+    let Some(last) = passes.pop() else {
         unreachable!()
     };
-    let mut met = last.pass;
-    while let Some(next) = finished.pop() {
-        met = desk.meet(met, next.pass);
+    let mut met = last;
+    while let Some(next) = passes.pop() {
+        met = desk.meet(met, next);
     }
     met
 }

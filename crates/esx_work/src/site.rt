@@ -8,14 +8,12 @@ ghost use Rattle.esx_opening.specs.declared.opening.SiteFault.TheVariants as fau
 ghost use Rattle.esx_work.specs.Runs.{RunsOn};
 ghost use Rattle.esx_work.specs.Sites.{generator_of, AreMachines, IsGuestAt, IsWorker, IsRunOf, IsGatedRunOf};
 
-use crate::crew::run_workers;
+use crate::crew::{Outcome, run_workers};
 use esx_console::Console;
 use esx_door::Gate;
 use esx_opening::{SiteFault, in_order, open_site};
 use esx_scenario::{Guest, Scenario, Settings};
-use esx_workers::{
-    End, GuestWorker, Machine, PolicyWorker, SharerWorker, Step, SwapperWorker, Worker,
-};
+use esx_workers::{GuestWorker, Machine, PolicyWorker, SharerWorker, Step, SwapperWorker, Worker};
 use rand_core::SeedableRng;
 use rand_pcg::Pcg64;
 use std::alloc::{AllocError, Global};
@@ -99,17 +97,17 @@ fn workers_of<'a>(
 
 /// Opens the site of a scenario, and runs a guest for each of its machines in the order of their numbers, then a
 /// sharer, a swapper and a policy worker, each in a thread of its own where one can be made, with the gate at its
-/// place. The ends stand in the same order.
+/// place. The ends and the gates, as they were left, stand in the same order.
 pub fn run_site<R: Threads + Wait + Sync, G: Gate + Send + Drop>(
     rt: &R,
     alloc: Global,
     scenario: &Scenario,
     gates: Vec<G>,
-) -> Result<(Console, Vec<End>), SiteFault>
+) -> Result<Outcome<G>, SiteFault>
     requires { length gates.items ≡ length scenario.now.guests + 3 }
-    ensures many { IfOk result (λ r. length r.1.items ≡ length scenario.now.guests + 3) }
-    ensures runs { IfOk result (λ r. (opened : _) × AreAccepted (opening_events scenario.now.guests) (opened_session scenario.now.site) opened × RunsOn opened (length scenario.now.guests + 3) (λ k e lines. (gate : _) → slice_get gates.items k ≡ Some gate → IsRunOf scenario.now (G.is_open gate) k e lines) r.1.items r.0) }
-    ensures gates { IfOk result (λ r. (opened : _) × AreAccepted (opening_events scenario.now.guests) (opened_session scenario.now.site) opened × RunsOn opened (length scenario.now.guests + 3) (λ k e lines. (gate : _) → slice_get gates.items k ≡ Some gate → IsGatedRunOf scenario.now G.passes gate k e lines) r.1.items r.0) }
+    ensures many { IfOk result (λ r. (length r.ends.items ≡ length scenario.now.guests + 3) × (length r.gates.items ≡ length scenario.now.guests + 3)) }
+    ensures runs { IfOk result (λ r. (opened : _) × AreAccepted (opening_events scenario.now.guests) (opened_session scenario.now.site) opened × RunsOn opened (length scenario.now.guests + 3) (λ k e lines. (gate : _) → slice_get gates.items k ≡ Some gate → IsRunOf scenario.now (G.is_open gate) k e lines) r.ends.items r.console) }
+    ensures gates { IfOk result (λ r. (opened : _) × AreAccepted (opening_events scenario.now.guests) (opened_session scenario.now.site) opened × RunsOn opened (length scenario.now.guests + 3) (λ k e lines. (before after : _) → slice_get gates.items k ≡ Some before → slice_get r.gates.items k ≡ Some after → IsGatedRunOf scenario.now G.passes before after k e lines) r.ends.items r.console) }
     ensures refused { IfErr result (λ fault. (e : Refusal) → fault ≡ faults.Refused e → IsRefusedAt (opening_events scenario.now.guests) (opened_session scenario.now.site) e) }
 {
     let console = open_site(alloc, scenario)?;

@@ -18,7 +18,7 @@ use Rattle.esx_workers.specs.declared.worker.Worker.TheVariants.{Guest, Sharer, 
 use Rattle.esx_workers.specs.Passed.{is_access, is_passed, is_passed_over, first_of}
 use Rattle.esx_workers.specs.Visiting.{call_at_line, rest_at}
 use Rattle.esx_workers.specs.Workers.{asks, asked, rest}
-use Rattle.esx_workers.specs.Runs.{goes_on, worker_after, AreAsked, AreAfter, IsStraight, IsRewound, Ended, Broken, Since, Running, Gated}
+use Rattle.esx_workers.specs.Runs.{goes_on, worker_after, AreAsked, AreAfter, IsStraight, IsRewound, Ended, Broken, Since, Running, Gated, Stopped}
 
 pub on_err : {T E : Type 0} (P : Type 0) → P → (r : Result T E) → OnErr r P
 on_err P p (Ok x) = tt
@@ -109,8 +109,8 @@ unfolding worker_after AreAsked
 running_none k w log = record { lines = []; more = sym (append-nil log); are = tt; now_is = refl; many = refl; passed_are = refl; since = refl }
 
 module _ (k : ℕ) (w now : Worker) (first : Option ℕ) (passed turn : ℕ) (a b : List Line) (r : Running k w now first passed turn a b) where
-  pub broken : (turns : ℕ) (d : List Line) → turn ≤ turns → d ≡ b → Broken k w turns a d
-  broken turns d le same = record { lines = r.lines; more = same ∙ r.more; are = r.are; most = subst (λ (n : ℕ). n ≤ turns) (sym r.many) le; straight = since_straight first r.lines r.since }
+  pub broken : (turns : ℕ) (d : List Line) → turn < turns → d ≡ b → Broken k w turns a d
+  broken turns d lt same = record { lines = r.lines; more = same ∙ r.more; run = record { are = r.are; most = subst (λ (n : ℕ). n < turns) (sym r.many) lt; straight = since_straight first r.lines r.since } }
 
   pub ended_rest : (let_through : Type 0) (turns : ℕ) (end : End) (how : How) → turn ≤ turns → end ≡ record { how = how; passed = passed } → how ≡ rest now
       → (let_through → (asks now ≡ None) ⊎ (turn ≡ turns)) → Ended let_through k w turns end a b
@@ -127,6 +127,16 @@ module _ (k : ℕ) (w now : Worker) (first : Option ℕ) (passed turn : ℕ) (a 
   }
 
   module _ {G : Type 0} (passes : G → ℕ → Bool → G → Type 0) where
+    pub stopped_asking : (g h : G) (d : List Line) → d ≡ b → LetThrough passes turn g h → Stopped passes g h w a d
+    stopped_asking g h d same passed = record { lines = r.lines; more = same ∙ r.more; gate = inl (subst (λ (n : ℕ). LetThrough passes n g h) (sym r.many) passed) }
+
+    pub stopped_calling : (g m h : G) (answer : Bool) (call : Call) (d : List Line) → d ≡ b → LetThrough passes turn g m → passes m (turn + 1) answer h → answer ≡ true → asks now ≡ Some call → Stopped passes g h w a d
+    stopped_calling g m h answer call d same passed at is asks_it = record {
+      lines = r.lines;
+      more = same ∙ r.more;
+      gate = inr (subst (λ (n : ℕ). LetThrough passes (n + 1) g h) (sym r.many) (let_more passes turn g m h answer passed at is), (call, ap asks (sym r.now_is) ∙ asks_it));
+    }
+
     pub gated_rest : (g h : G) (turns : ℕ) (end : End) (d : List Line) → d ≡ b → LetThrough passes turn g h → (asks now ≡ None) ⊎ (turn ≡ turns) → Gated passes g h w turns end a d
     gated_rest g h turns end d same passed out = record {
       lines = r.lines;

@@ -1,5 +1,5 @@
 -- The lines of a worker's run, and why it ended.
-use Rattle.std.specs.Prelude.{◌≡◌, ◌≢◌, ◌⊎◌, ℕ, ◌<◌, ◌≤◌, Bool, List, [], ◌∷◌, ◌++◌, length, count_by, Option, Some, None}
+use Rattle.std.specs.Prelude.{◌≡◌, ◌≢◌, ◌⊎◌, ℕ, ◌+◌, ◌<◌, ◌≤◌, Bool, List, [], ◌∷◌, ◌++◌, length, count_by, Option, Some, None}
 use Rattle.esx_events.specs.declared.call.Call.{Call}
 use Rattle.esx_events.specs.declared.call.Reply.{Reply}
 use Rattle.esx_events.specs.declared.call.Line.{Line}
@@ -60,6 +60,12 @@ pub record IsRun (let_through : Type 0) (k : ℕ) (w : Worker) (turns : ℕ) (en
   pub why : Why w lines end.how
   pub all : let_through → end.how ≢ Rewound → IsOut w turns lines
 
+-- The lines of a worker's run that memory was wanting for: what it asks, call after call, in fewer turns than it has, and with no jump.
+pub record IsBroken (k : ℕ) (w : Worker) (turns : ℕ) (lines : List Line) : Type 0 where
+  pub are : AreAsked k w lines
+  pub most : length lines < turns
+  pub straight : IsStraight lines
+
 module _ {G : Type 0} (passes : G → ℕ → Bool → G → Type 0) where
   -- The gate let through once before each line, and was passed no more: there was a jump, nothing was left to ask, or no turn was left.
   abbrev pub StaysOpen : G → G → Worker → ℕ → End → List Line → Type 0
@@ -73,6 +79,16 @@ module _ {G : Type 0} (passes : G → ℕ → Bool → G → Type 0) where
   abbrev pub IsGated : G → G → Worker → ℕ → End → List Line → Type 0
   IsGated g h w turns end lines = StaysOpen g h w turns end lines ⊎ GivesUp g h w turns end lines
 
+  -- The gate let through once before each line, and once more before a call that found no memory, if it was that far.
+  abbrev pub StopsShort : G → G → Worker → List Line → Type 0
+  StopsShort g h w lines = LetThrough passes (length lines) g h ⊎ (LetThrough passes (length lines + 1) g h × ((call : Call) × (asks (worker_after w lines) ≡ Some call)))
+
+  -- the gate before and after a worker's run that memory was wanting for
+  pub record Stopped (g h : G) (w : Worker) (before after : List Line) : Type 0 where
+    pub lines : List Line
+    pub more : after ≡ before ++ lines
+    pub gate : StopsShort g h w lines
+
   -- the gate before and after a worker's run, which made the caller's lines longer
   pub record Gated (g h : G) (w : Worker) (turns : ℕ) (end : End) (before after : List Line) : Type 0 where
     pub lines : List Line
@@ -85,13 +101,11 @@ pub record Ended (let_through : Type 0) (k : ℕ) (w : Worker) (turns : ℕ) (en
   pub more : after ≡ before ++ lines
   pub run : IsRun let_through k w turns end lines
 
--- the caller's lines where memory was wanting
+-- the caller's lines where memory was wanting for one more
 pub record Broken (k : ℕ) (w : Worker) (turns : ℕ) (before after : List Line) : Type 0 where
   pub lines : List Line
   pub more : after ≡ before ++ lines
-  pub are : AreAsked k w lines
-  pub most : length lines ≤ turns
-  pub straight : IsStraight lines
+  pub run : IsBroken k w turns lines
 
 -- the jumps of the first reply, if there was one
 abbrev pub Since : Option ℕ → List Line → Type 0

@@ -2,7 +2,7 @@
 
 ghost use Rattle.std.specs.Prelude.{◌≡◌, IfOk, OnErr};
 ghost use Rattle.esx_door.specs.Own.{lines_of};
-ghost use Rattle.esx_workers.specs.Runs.{Ended, Broken, Gated};
+ghost use Rattle.esx_workers.specs.Runs.{Ended, Broken, Gated, Stopped};
 
 use crate::end::{End, How};
 use crate::passed::{Tally, is_access};
@@ -26,6 +26,7 @@ pub fn run<D: Door, G: Gate>(
     ensures ok { IfOk result (λ end. Ended (G.is_open gate.old) (D.caller door.old) worker.entry turns end (lines_of (D.caller door.old) (D.seen door.old)) (lines_of (D.caller door.old) (D.seen door.new))) }
     ensures gate { IfOk result (λ end. Gated G.passes gate.old gate.new worker.entry turns end (lines_of (D.caller door.old) (D.seen door.old)) (lines_of (D.caller door.old) (D.seen door.new))) }
     ensures err { OnErr result (Broken (D.caller door.old) worker.entry turns (lines_of (D.caller door.old) (D.seen door.old)) (lines_of (D.caller door.old) (D.seen door.new))) }
+    ensures stopped { OnErr result (Stopped G.passes gate.old gate.new worker.entry (lines_of (D.caller door.old) (D.seen door.old)) (lines_of (D.caller door.old) (D.seen door.new))) }
 {
     let mut tally = Tally {
         first: None,

@@ -2,7 +2,7 @@
 
 ghost use Rattle.std.specs.Prelude.{◌≡◌, IfOk, OnErr, length};
 ghost use Rattle.esx_door.specs.Own.{lines_of};
-ghost use Rattle.esx_workers.specs.Runs.{Ended, Broken, Gated};
+ghost use Rattle.esx_workers.specs.Runs.{Ended, Broken, Gated, Stopped};
 ghost use Rattle.esx_workers.specs.Starts.{guest_of, sharer_of, swapper_of, policy_of};
 
 use crate::end::End;
@@ -38,6 +38,7 @@ pub fn guest<D: Door, G: Gate>(
     ensures ok { IfOk result (λ end. Ended (G.is_open gate.old) (D.caller door.old) (guest_of vm trace.entry rng) turns end (lines_of (D.caller door.old) (D.seen door.old)) (lines_of (D.caller door.old) (D.seen door.new))) }
     ensures gate { IfOk result (λ end. Gated G.passes gate.old gate.new (guest_of vm trace.entry rng) turns end (lines_of (D.caller door.old) (D.seen door.old)) (lines_of (D.caller door.old) (D.seen door.new))) }
     ensures err { OnErr result (Broken (D.caller door.old) (guest_of vm trace.entry rng) turns (lines_of (D.caller door.old) (D.seen door.old)) (lines_of (D.caller door.old) (D.seen door.new))) }
+    ensures stopped { OnErr result (Stopped G.passes gate.old gate.new (guest_of vm trace.entry rng) (lines_of (D.caller door.old) (D.seen door.old)) (lines_of (D.caller door.old) (D.seen door.new))) }
 {
     let worker = Worker::Guest(GuestWorker {
         vm,
@@ -65,6 +66,7 @@ pub fn sharer<D: Door, G: Gate>(
     ensures ok { IfOk result (λ end. Ended (G.is_open gate.old) (D.caller door.old) (sharer_of machines.entry rng) turns end (lines_of (D.caller door.old) (D.seen door.old)) (lines_of (D.caller door.old) (D.seen door.new))) }
     ensures gate { IfOk result (λ end. Gated G.passes gate.old gate.new (sharer_of machines.entry rng) turns end (lines_of (D.caller door.old) (D.seen door.old)) (lines_of (D.caller door.old) (D.seen door.new))) }
     ensures err { OnErr result (Broken (D.caller door.old) (sharer_of machines.entry rng) turns (lines_of (D.caller door.old) (D.seen door.old)) (lines_of (D.caller door.old) (D.seen door.new))) }
+    ensures stopped { OnErr result (Stopped G.passes gate.old gate.new (sharer_of machines.entry rng) (lines_of (D.caller door.old) (D.seen door.old)) (lines_of (D.caller door.old) (D.seen door.new))) }
 {
     let worker = Worker::Sharer(SharerWorker { machines, rng });
     run(door, gate, alloc, worker, turns)
@@ -87,6 +89,7 @@ pub fn swapper<D: Door, G: Gate>(
     ensures ok { IfOk result (λ end. Ended (G.is_open gate.old) (D.caller door.old) (swapper_of machines.entry rng) turns end (lines_of (D.caller door.old) (D.seen door.old)) (lines_of (D.caller door.old) (D.seen door.new))) }
     ensures gate { IfOk result (λ end. Gated G.passes gate.old gate.new (swapper_of machines.entry rng) turns end (lines_of (D.caller door.old) (D.seen door.old)) (lines_of (D.caller door.old) (D.seen door.new))) }
     ensures err { OnErr result (Broken (D.caller door.old) (swapper_of machines.entry rng) turns (lines_of (D.caller door.old) (D.seen door.old)) (lines_of (D.caller door.old) (D.seen door.new))) }
+    ensures stopped { OnErr result (Stopped G.passes gate.old gate.new (swapper_of machines.entry rng) (lines_of (D.caller door.old) (D.seen door.old)) (lines_of (D.caller door.old) (D.seen door.new))) }
 {
     let worker = Worker::Swapper(SwapperWorker { machines, rng });
     run(door, gate, alloc, worker, turns)
@@ -111,6 +114,7 @@ pub fn policy<D: Door, G: Gate>(
     ensures ok { IfOk result (λ end. Ended (G.is_open gate.old) (D.caller door.old) (policy_of machines.entry sample length rng) turns end (lines_of (D.caller door.old) (D.seen door.old)) (lines_of (D.caller door.old) (D.seen door.new))) }
     ensures gate { IfOk result (λ end. Gated G.passes gate.old gate.new (policy_of machines.entry sample length rng) turns end (lines_of (D.caller door.old) (D.seen door.old)) (lines_of (D.caller door.old) (D.seen door.new))) }
     ensures err { OnErr result (Broken (D.caller door.old) (policy_of machines.entry sample length rng) turns (lines_of (D.caller door.old) (D.seen door.old)) (lines_of (D.caller door.old) (D.seen door.new))) }
+    ensures stopped { OnErr result (Stopped G.passes gate.old gate.new (policy_of machines.entry sample length rng) (lines_of (D.caller door.old) (D.seen door.old)) (lines_of (D.caller door.old) (D.seen door.new))) }
 {
     let worker = Worker::Policy(PolicyWorker {
         machines,

@@ -1,8 +1,9 @@
 //! The program's words, and the sites of scenarios that readers give.
 
+use crate::SITE;
+use crate::files::site_of_file;
 use crate::opening::site_of_reader;
 use crate::words::{Asked, WordsFault, asked_of_words};
-use crate::{SITE, site_of_file};
 use esx_reading::TextFault;
 use esx_types::Config;
 use std::alloc::{AllocError, Global};
@@ -10,7 +11,7 @@ use std::io::{self, ErrorKind, Read};
 use std::test::Fail;
 
 /// Reads words that are given in one line, with one space between each and the next.
-fn words_of(alloc: Global, line: &str) -> Result<Vec<String>, AllocError> {
+pub fn words_of(alloc: Global, line: &str) -> Result<Vec<String>, AllocError> {
     let mut words = Vec::new(alloc);
     for word in line.split(' ') {
         words.push(String::from_str(alloc, word)?)?;

@@ -5,7 +5,7 @@ use esx_door::{Gate, Open};
 use esx_events::{Call, Event, Line};
 use esx_scenario::{Scenario, parse_scenario};
 use esx_types::{Config, VmId, VmSpec};
-use esx_work::{ConsoleDoor, run_site};
+use esx_work::{ConsoleDoor, Outcome, run_site};
 use esx_workers::{How, Machine, policy, sharer, swapper};
 use rand_core::SeedableRng;
 use rand_pcg::Pcg64;
@@ -154,9 +154,17 @@ fn a_site_is_run(rt: HostRuntime) -> Result<(), Fail> {
     if gates.len() != scenario.guests().len() + 3 {
         return Err(Fail::new("the gates"));
     }
-    let Ok((console, ends)) = run_site(&rt, rt.alloc(), &scenario, gates) else {
+    let Ok(
+        Outcome {
+            console,
+            ends,
+            gates,
+        },
+    ) = run_site(&rt, rt.alloc(), &scenario, gates)
+    else {
         return Err(Fail::new("the run"));
     };
+    assert_eq!(rt; gates.len(), 4);
     assert_eq!(rt; (console.log().len(), ends.len()), (25, 4));
     Ok(())
 }
@@ -226,9 +234,19 @@ fn five_workers_at_once(rt: HostRuntime) -> Result<(), Fail> {
     if gates.len() != scenario.guests().len() + 3 {
         return Err(Fail::new("the gates"));
     }
-    let Ok((console, ends)) = run_site(&rt, rt.alloc(), &scenario, gates) else {
+    let Ok(
+        Outcome {
+            console,
+            ends,
+            gates,
+        },
+    ) = run_site(&rt, rt.alloc(), &scenario, gates)
+    else {
         return Err(Fail::new("the run"));
     };
+    for (place, gate) in gates.iter().enumerate() {
+        assert_eq!(rt; gate.own, place);
+    }
     assert_eq!(rt; late.load(Ordering::SeqCst), 0);
     assert_eq!(rt; console.log().len(), 32);
     let mut hows = Vec::new(rt.alloc());

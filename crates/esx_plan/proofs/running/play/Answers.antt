@@ -13,7 +13,7 @@ returns-clause-ok g c =
     let many : length c.in-Ok.gates.items ≡ length p.guests + 3 = search rules in record {
       opened = on.0;
       accepted = on.1;
-      many = c.in_ok-console.ensures.many;
-      runs = all_run c.in-Ok.gates.items p on.0 (length p.guests + 3) c.in_ok-console.ends.items c.in_ok-console.console many c.in_ok-console.ensures.many on.2;
+      many = c.in_ok-console.ensures.many.0;
+      runs = all_run c.in-Ok.gates.items p on.0 (length p.guests + 3) c.in_ok-console.field-0.ends.items c.in_ok-console.field-0.console many c.in_ok-console.ensures.many.0 on.2;
       legal = c.log.ensures.legal;
     }

@@ -8,8 +8,7 @@ use Rattle.esx_opening.proofs.InTurn.{handed_on}
 use Rattle.esx_workers.specs.declared.end.End.{End}
 use Rattle.esx_workers.specs.declared.machine.Machine.{Machine}
 use Rattle.esx_workers.specs.declared.worker.Worker.{Worker}
-use Rattle.esx_workers.specs.Runs.{IsRun}
-use Rattle.esx_work.specs.Runs.{GatedBy}
+use Rattle.esx_workers.specs.Runs.{IsRun, IsGated}
 use Rattle.esx_work.specs.Sites.{AreMachines, IsRunOf, IsGatedRunOf}
 use Rattle.esx_work.proofs.Meets.{runs_for}
 use Rattle.esx_work.proofs.Staffs.{all_some, run_of, gated_of}
@@ -31,7 +30,8 @@ returns g c =
     let staff : List Worker = c.in_ok-workers.workers.items in
     let gates : List g.row.G.Denot = c.args.gates.items in
     let ran = c.in_ok-run_workers.field-0 in
-    let ends : List End = ran.1.items in
+    let ends : List End = ran.ends.items in
+    let after : List g.row.G.Denot = ran.gates.items in
     let settings = c.settings-settings.result in
     let done = c.in_ok-run_workers.ensures in
     let order : map (λ (g : Bor Guest). g.now) refs ≡ in_order p.guests = ap (λ (l : List (Bor Guest)). map (λ (g : Bor Guest). g.now) l) c.deref-2.ensures.value ∙ (c.in_ok-guests.ensures.items ∙ ap in_order c.guests.ensures.same) in
@@ -39,14 +39,14 @@ returns g c =
     subst (λ (ms : List Machine). AreMachines (map (λ (g : Bor Guest). g.now) refs) ms) (sym c.deref-3.ensures.value)
     (subst (λ (l : List (Bor Guest)). AreMachines (map (λ (g : Bor Guest). g.now) l) c.in_ok-machines.machines.items) (c.deref.ensures.value ∙ sym c.deref-2.ensures.value) c.in_ok-machines.ensures) in
     let many : length staff ≡ length p.guests + 3 = c.in_ok-workers.ensures.many ∙ ap (λ (k : ℕ). k + 3) (ap length c.deref-2.ensures.value ∙ (c.in_ok-guests.ensures.many ∙ ap length c.guests.ensures.same)) in record {
-      many = done.ends ∙ many;
+      many = (done.ends ∙ many, done.many ∙ many);
       runs = (
         c.in_ok-console.console,
         c.in_ok-console.ensures.ok,
         runs_for c.in_ok-console.console (length staff) (length p.guests + 3)
             (λ (k : ℕ) (e : End) (lines : List Line). (w : Worker) (y : g.row.G.Denot) → slice_get staff k ≡ Some w → slice_get gates k ≡ Some y → IsRun (g.G.Gate.is_open y) k w settings.turns e lines)
             (λ (k : ℕ) (e : End) (lines : List Line). (y : g.row.G.Denot) → slice_get gates k ≡ Some y → IsRunOf p (g.G.Gate.is_open y) k e lines)
-            ends ran.0 many
+            ends ran.console many
             (run_of g.G.Gate.is_open g.G.Gate.passes p settings c.settings-settings.ensures (map (λ (g : Bor Guest). g.now) refs) order c.deref-3.result.now are staff c.in_ok-workers.ensures.each gates ends done.ends)
             done.runs,
       );
@@ -54,10 +54,10 @@ returns g c =
         c.in_ok-console.console,
         c.in_ok-console.ensures.ok,
         runs_for c.in_ok-console.console (length staff) (length p.guests + 3)
-            (λ (k : ℕ) (e : End) (lines : List Line). (w : Worker) (y : g.row.G.Denot) → slice_get staff k ≡ Some w → slice_get gates k ≡ Some y → GatedBy g.G.Gate.passes y w settings.turns e lines)
-            (λ (k : ℕ) (e : End) (lines : List Line). (y : g.row.G.Denot) → slice_get gates k ≡ Some y → IsGatedRunOf p g.G.Gate.passes y k e lines)
-            ends ran.0 many
-            (gated_of g.G.Gate.is_open g.G.Gate.passes p settings c.settings-settings.ensures (map (λ (g : Bor Guest). g.now) refs) order c.deref-3.result.now are staff c.in_ok-workers.ensures.each gates ends done.ends)
+            (λ (k : ℕ) (e : End) (lines : List Line). (w : Worker) (y z : g.row.G.Denot) → slice_get staff k ≡ Some w → slice_get gates k ≡ Some y → slice_get after k ≡ Some z → IsGated g.G.Gate.passes y z w settings.turns e lines)
+            (λ (k : ℕ) (e : End) (lines : List Line). (y z : g.row.G.Denot) → slice_get gates k ≡ Some y → slice_get after k ≡ Some z → IsGatedRunOf p g.G.Gate.passes y z k e lines)
+            ends ran.console many
+            (gated_of g.G.Gate.is_open g.G.Gate.passes p settings c.settings-settings.ensures (map (λ (g : Bor Guest). g.now) refs) order c.deref-3.result.now are staff c.in_ok-workers.ensures.each gates ends done.ends after)
             done.gates,
       );
       refused = tt;

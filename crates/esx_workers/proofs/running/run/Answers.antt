@@ -4,7 +4,7 @@ use Rattle.esx_workers.specs.declared.end.End.{End}
 use Rattle.esx_workers.specs.declared.worker.Worker.{Worker}
 use Rattle.esx_workers.specs.Passed.{is_passed}
 use Rattle.esx_workers.specs.Workers.{asks, hears, rest}
-use Rattle.esx_workers.proofs.Going.{on_err, not_other, rest_asked, running_none, broken, ended_rest, running_more, ended_rewound, let_none, let_more, gated_rest, gated_up, gated_rewound}
+use Rattle.esx_workers.proofs.Going.{on_err, not_other, rest_asked, running_none, broken, ended_rest, running_more, ended_rewound, let_none, let_more, gated_rest, gated_up, gated_rewound, stopped_asking, stopped_calling}
 use Rattle.esx_workers.proofs.running.run.Goals as goal
 
 pub loop-turn-init : goal.loop-turn-init
@@ -33,9 +33,7 @@ loop-turn-preserved g c =
 
 pub returns-in_err-call-clause-err : goal.returns-in_err-call-clause-err
 returns-in_err-call-clause-err g c =
-    let lt : c.loop-turn.turn < c.args.turns = c.loop-turn-test.true in
-    let le : c.loop-turn.turn ≤ c.args.turns = omega arith in
-    on_err _ (broken _ _ _ _ _ _ _ _ c.loop-turn.invariant.3 c.args.turns _ le refl) c.from_residual.result
+    on_err _ (broken _ _ _ _ _ _ _ _ c.loop-turn.invariant.3 c.args.turns _ c.loop-turn-test.true refl) c.from_residual.result
 
 pub returns-in_default-clause-ok : goal.returns-in_default-clause-ok
 returns-in_default-clause-ok g c =
@@ -55,9 +53,7 @@ returns-then-not-pass_through-clause-ok g c =
 
 pub returns-in_err-reply-clause-err : goal.returns-in_err-reply-clause-err
 returns-in_err-reply-clause-err g c =
-    let lt : c.loop-turn.turn < c.args.turns = c.loop-turn-test.true in
-    let le : c.loop-turn.turn ≤ c.args.turns = omega arith in
-    on_err _ (broken _ _ _ _ _ _ _ _ c.loop-turn.invariant.3 c.args.turns _ le
+    on_err _ (broken _ _ _ _ _ _ _ _ c.loop-turn.invariant.3 c.args.turns _ c.loop-turn-test.true
     (subst (λ (k : ℕ). lines_of k (g.D.Door.seen c.submit.new.self) ≡ lines_of k (g.D.Door.seen c.loop-turn.door)) c.loop-turn.invariant.2 c.in_err-reply.ensures.err)) c.from_residual-in_err-reply.result
 
 pub returns-then-hear-clause-ok : goal.returns-then-hear-clause-ok
@@ -111,3 +107,12 @@ returns-clause-gate g c =
     let below : c.args.turns ≤ c.loop-turn.turn = c.loop-turn-test.false in
     let end : c.loop-turn.turn ≡ c.args.turns = omega arith in
     gated_rest _ _ _ _ _ _ _ _ c.loop-turn.invariant.3 _ _ _ c.args.turns c.end-2.result _ refl c.loop-turn.invariant.5 (inr end)
+
+pub returns-in_err-call-clause-stopped : goal.returns-in_err-call-clause-stopped
+returns-in_err-call-clause-stopped g c = on_err _ (stopped_asking _ _ _ _ _ _ _ _ c.loop-turn.invariant.3 _ _ _ _ refl c.loop-turn.invariant.5) c.from_residual.result
+
+pub returns-in_err-reply-clause-stopped : goal.returns-in_err-reply-clause-stopped
+returns-in_err-reply-clause-stopped g c =
+    on_err _ (stopped_calling _ _ _ _ _ _ _ _ c.loop-turn.invariant.3 _ _ _ _ _ c.in-Some.call _
+    (subst (λ (k : ℕ). lines_of k (g.D.Door.seen c.submit.new.self) ≡ lines_of k (g.D.Door.seen c.loop-turn.door)) c.loop-turn.invariant.2 c.in_err-reply.ensures.err)
+    c.loop-turn.invariant.5 c.pass_through.ensures.passes c.if-not-pass_through.false (sym c.in_ok-call.ensures.call ∙ c.in-Some.is)) c.from_residual-in_err-reply.result
