@@ -5,3 +5,5 @@ pub mod EndLemmas
 pub mod RunLemmas
 pub mod DoingLemmas
 pub mod GivenLemmas
+pub mod FileLemmas
+pub mod StandardLemmas

@@ -16,14 +16,15 @@ use Rattle.esx_opening.specs.declared.opening.SiteFault.TheVariants as site
 use Rattle.esx_workers.specs.declared.end.End.{End}
 use Rattle.esx_work.specs.Runs.{RunsOn}
 use Rattle.esx_work.specs.Sites.{IsRunOf}
-use Rattle.esx_writing.specs.Writing.{Writes, WritesFront}
+use Rattle.esx_writing.specs.Writing.{Writes, WritesFront, sink_faults}
 use Rattle.esx_session.specs.Sessions.{session_text, logged}
 use Rattle.esx_plan.specs.declared.ends.Ending.{Ending}
 use Rattle.esx_plan.specs.declared.ends.Name.{Name}
 use Rattle.esx_plan.specs.declared.running.RunFault.{RunFault}
 use Rattle.esx_plan.specs.declared.running.RunFault.TheVariants.{Refused, Write, OutOfMemory}
 use Rattle.esx_plan.specs.Ends.{endings, ending_text, ends_text, workers_named}
-use Rattle.esx_plan.specs.Runs.{IsPlayed, IsRefusedOpening, NotPlayed, Plays, RunStops, fault_of, told_session, written_as}
+use Rattle.esx_plan.specs.Runs.{AreTold, IsPlayed, IsRefusedOpening, NotPlayed, Plays, RunStops, StopsTelling, fault_of, told_session, written_as}
+use Rattle.esx_plan.specs.States.{SinkState}
 use Rattle.esx_plan.proofs.OutgoingLemmas.{appends_known, none_wait, second_none}
 
 -- what was written before a flush
@@ -86,43 +87,45 @@ pub endings_told : (all : List Ending) (names names' : List Name) (ends ends' : 
 endings_told all names names' ends ends' guests guests' is n e named same =
     is ∙ (ap (λ (v : List Name). endings v ends') (n ∙ (named ∙ ap (λ (v : List Guest). workers_named (in_order v)) same)) ∙ ap (λ (v : List End). endings (workers_named (in_order guests)) v) e)
 
--- what a failed write is to a run
-pub written_ok : (r : Result (Unit {0}) SinkFailed) (P : Type 0) → OnOk r P → OnOk (written_as r) P
-written_ok (Ok v) P p = p
-written_ok (Err e) P p = tt
-
-pub written_err : (r : Result (Unit {0}) SinkFailed) (a b : Option (List ℕ)) (text : List ℕ) → IfErr r (λ e. (taken : Option (List ℕ)) × WritesFront a taken text × (rest : List ℕ) × Appends b taken rest)
-    → IfErr (written_as r) (λ e. (e ≡ Write) × (taken : Option (List ℕ)) × WritesFront a taken text × (rest : List ℕ) × Appends b taken rest)
-written_err (Ok v) a b text p = tt
-written_err (Err e) a b text p = (refl, p.0, p.1, p.2, p.3)
-
--- the same of a sink and of the writer in it
-pub front_moved : {T E : Type 0} (r : Result T E) (a a' b b' : Option (List ℕ)) (text : List ℕ) → a' ≡ a → b ≡ b'
-    → IfErr r (λ e. (taken : Option (List ℕ)) × WritesFront a' taken text × (rest : List ℕ) × Appends b' taken rest)
-    → IfErr r (λ e. (taken : Option (List ℕ)) × WritesFront a taken text × (rest : List ℕ) × Appends b taken rest)
-front_moved r a a' b b' text p q s =
-    subst (λ (z : Option (List ℕ)). IfErr r (λ e. (taken : Option (List ℕ)) × WritesFront z taken text × (rest : List ℕ) × Appends b taken rest)) p
-    (subst (λ (z : Option (List ℕ)). IfErr r (λ e. (taken : Option (List ℕ)) × WritesFront a' taken text × (rest : List ℕ) × Appends z taken rest)) (sym q) s)
-
 -- where there was no run
-pub nothing_told : (e : RunFault) (p : Plan) (told : Result (Unit {0}) SinkFailed) (errors out : Option (List ℕ)) → NotPlayed e p → RunStops e p told errors errors out out
-nothing_told (Refused x) p told errors out n = (n, refl, refl)
-nothing_told Write p told errors out n = absurd n
-nothing_told OutOfMemory p told errors out n = (refl, refl)
+pub nothing_told : (e : RunFault) (p : Plan) (errors out : SinkState) → NotPlayed e p → RunStops e p errors errors out out
+nothing_told (Refused x) p errors out n = (n, refl, refl)
+nothing_told Write p errors out n = absurd n
+nothing_told OutOfMemory p errors out n = (refl, refl)
+
+-- what came out of a buffer of a session
+module _ (console : Session) (out out' : SinkState) where
+  pub session_told_ok : (r : Result (Unit {0}) SinkFailed) → OnOk r (Appends out.contents out'.contents (told_session console))
+      → out'.failures ≡ out.failures + sink_faults r → OnOk r (out'.waiting ≡ [])
+      → OnOk (written_as r) (Appends out.contents out'.contents (told_session console) × (out'.failures ≡ out.failures) × (out'.waiting ≡ []))
+  session_told_ok (Ok v) told failures sent = (told, omega (arith, failures), sent)
+  session_told_ok (Err e) told failures sent = tt
+
+  pub session_told_err : (r : Result (Unit {0}) SinkFailed)
+      → IfErr r (λ e. (taken : Option (List ℕ)) × WritesFront out.contents taken (told_session console) × (rest : List ℕ) × Appends out'.contents taken rest)
+      → out'.failures ≡ out.failures + sink_faults r
+      → IfErr (written_as r) (λ e. (e ≡ Write) × StopsTelling console out out')
+  session_told_err (Ok v) stops failures = tt
+  session_told_err (Err e) stops failures = (refl, record { taken = stops.0; front = stops.1; rest = stops.2; out_of_it = stops.3; failures = failures })
 
 module _ (p : Plan) (console : Session) (ends : List End) (played : IsPlayed p console ends) (all : List Ending) (are : all ≡ endings (workers_named (in_order p.guests)) ends)
-    (told : Result (Unit {0}) SinkFailed) (errors errors' : Option (List ℕ)) (ends_told : Writes errors errors' (flat_map ending_text all) told) (out out' : Option (List ℕ)) where
-  written : Writes errors errors' (ends_text p.guests ends) told
-  written = subst (λ (l : List Ending). Writes errors errors' (flat_map ending_text l) told) are ends_told
+    (errors errors' : SinkState) (told : Result (Unit {0}) SinkFailed) (ends_told : Writes errors.contents errors'.contents (flat_map ending_text all) told)
+    (failures : errors'.failures ≡ errors.failures + sink_faults told) (out out' : SinkState) where
+  ends_are_told : AreTold p ends errors errors'
+  ends_are_told = record {
+    ended = told;
+    written = subst (λ (l : List Ending). Writes errors.contents errors'.contents (flat_map ending_text l) told) are ends_told;
+    failures = failures;
+  }
 
-  pub plays : (r : Result (Unit {0}) RunFault) → OnOk r (Appends out out' (told_session console)) → OnOk r (Plays p told errors errors' out out')
-  plays (Ok v) s = record { console = console; ends = ends; played = played; ends_told = written; session_told = s }
+  pub plays : (r : Result (Unit {0}) RunFault) → OnOk r (Appends out.contents out'.contents (told_session console) × (out'.failures ≡ out.failures) × (out'.waiting ≡ []))
+      → OnOk r (Plays p errors errors' out out')
+  plays (Ok v) s = record { console = console; ends = ends; played = played; told = ends_are_told; session_told = s.0; failures = s.1; sent = s.2 }
   plays (Err e) s = tt
 
-  stops_at : (e : RunFault) → e ≡ Write → (taken : Option (List ℕ)) → WritesFront out taken (told_session console) → (rest : List ℕ) → Appends out' taken rest → RunStops e p told errors errors' out out'
-  stops_at e is taken front rest of_it = rw is (record { console = console; ends = ends; played = played; ends_told = written; taken = taken; front = front; rest = rest; out_of_it = of_it })
+  stops_at : (e : RunFault) → e ≡ Write → StopsTelling console out out' → RunStops e p errors errors' out out'
+  stops_at e is stops_telling = rw is (record { console = console; ends = ends; played = played; told = ends_are_told; stops = stops_telling })
 
-  pub stops : (r : Result (Unit {0}) RunFault) → IfErr r (λ e. (e ≡ Write) × (taken : Option (List ℕ)) × WritesFront out taken (told_session console) × (rest : List ℕ) × Appends out' taken rest)
-      → IfErr r (λ e. RunStops e p told errors errors' out out')
+  pub stops : (r : Result (Unit {0}) RunFault) → IfErr r (λ e. (e ≡ Write) × StopsTelling console out out') → IfErr r (λ e. RunStops e p errors errors' out out')
   stops (Ok v) s = tt
-  stops (Err e) s = stops_at e s.0 s.1 s.2 s.3 s.4
+  stops (Err e) s = stops_at e s.0 s.1

@@ -1,6 +1,7 @@
 -- A command line with several words.
 use Rattle.std.proofs.Common.{◌≡◌, Bool, true, false, List, Option, Some, None, Result, Ok, Err, ap, sym, ◌∙◌, refl, inr, ◌⊎◌, option_map}
 use Rattle.std.specs.Result.{IfOk, IfErr}
+use Rattle.std.specs.Borrow.{Bor}
 use Rattle.std.specs.Option.{ok_or}
 use Rattle.std.proofs.lemmas.Option.{same_Some}
 use Rattle.clap.specs.Words.{AddsSubcommand, App, Row, Text, app_of, with_subcommand}
@@ -34,12 +35,12 @@ not_true true h = absurd (h refl)
 not_true false h = refl
 
 -- what is asked for, if it is anything
-pub asked_ok : (r : Result Asked WordsFault) (o : Option Asked) (wanted : Option (Text × Option Text)) → r ≡ ok_or o Wrong → wanted ≡ option_map word_and_file o
+pub asked_ok : (r : Result (Asked (Bor Text)) WordsFault) (o : Option (Asked (Bor Text))) (wanted : Option (Text × Option Text)) → r ≡ ok_or o Wrong → wanted ≡ option_map word_and_file o
     → IfOk r (λ asked. wanted ≡ Some (word_and_file asked))
 asked_ok r None wanted e w = rw e tt
 asked_ok r (Some asked) wanted e w = rw e w
 
-pub asked_not : (r : Result Asked WordsFault) (o : Option Asked) (wanted : Option (Text × Option Text)) (P : Type 0) → r ≡ ok_or o Wrong → wanted ≡ option_map word_and_file o
+pub asked_not : (r : Result (Asked (Bor Text)) WordsFault) (o : Option (Asked (Bor Text))) (wanted : Option (Text × Option Text)) (P : Type 0) → r ≡ ok_or o Wrong → wanted ≡ option_map word_and_file o
     → IfErr r (λ fault. fault ≡ Wrong → P ⊎ (wanted ≡ None))
 asked_not r None wanted P e w = rw e (λ _. inr w)
 asked_not r (Some asked) wanted P e w = rw e tt

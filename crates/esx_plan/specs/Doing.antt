@@ -1,19 +1,16 @@
 -- What is done with a file and with streams where something is asked for.
-use Rattle.std.specs.Prelude.{◌≡◌, ◌⊎◌, ℕ, List, Option, Some, None, Result, Ok, Err, IsSome, false, map, string_bytes}
-use Rattle.std.specs.Io.KnownBytes.{Appends}
+use Rattle.std.specs.Prelude.{◌≡◌, ◌⊎◌, ℕ, List, Option, Some, None, Result, Ok, Err, false, map, string_bytes}
+use Rattle.std.specs.Borrow.{Bor}
 use Rattle.std.specs.Vec.Iter.{into_iter_items}
 use Rattle.std.specs.declared.io.Error.{Error}
 use Rattle.clap.specs.Words.{Text as Word, takes}
 use Rattle.esx_types.specs.declared.config.Config.{Config}
-use Rattle.esx_types.specs.declared.ends.SinkFailed.{SinkFailed}
+use Rattle.esx_reading.specs.declared.fault.TextFault.{TextFault}
 use Rattle.esx_reading.specs.declared.fault.TextFault.TheVariants as text
-use Rattle.esx_model.specs.Console.{Session}
 use Rattle.esx_scenario.specs.Plans.{Plan}
 use Rattle.esx_session.specs.declared.session.Entry.{Entry}
-use Rattle.esx_text.specs.Answers.{Answers, Faults}
 use Rattle.esx_text.specs.declared.fault.ServeFault.{ServeFault}
-use Rattle.esx_check.specs.Checks.{ChecksText, checked_text}
-use Rattle.esx_check.specs.Replays.{ReplayStops, replay_text}
+use Rattle.esx_check.specs.Checks.{ChecksText}
 use Rattle.esx_check.specs.declared.check.Checked.{Checked as Outcome}
 use Rattle.esx_check.specs.declared.fault.OutputFault.{OutputFault}
 use Rattle.esx_plan.specs.declared.TheConstants.{SITE}
@@ -25,19 +22,23 @@ use Rattle.esx_plan.specs.declared.Done.TheVariants.{Served, Ran, Replayed, Chec
 use Rattle.esx_plan.specs.declared.Failure.{Failure}
 use Rattle.esx_plan.specs.declared.Failure.TheVariants.{Words, Text, Serve, Output, Run}
 use Rattle.esx_plan.specs.Failing.{Asks}
+use Rattle.esx_plan.specs.Files.{Opened, IsFile, HasScenario, HasSession, HasText, LacksScenario, LacksSession}
 use Rattle.esx_plan.specs.Given.{Args}
-use Rattle.esx_plan.specs.Opening.{IsNoSiteOfFile, IsScenarioOfFile, IsSiteOfFile}
 use Rattle.esx_plan.specs.Runs.{Plays, RunStops}
-use Rattle.esx_plan.specs.Sessions.{CheckStops, GivenOut}
-use Rattle.esx_plan.specs.Site.{at_opening}
-use Rattle.esx_plan.specs.Status.{AreInFile, IsNoSessionOfFile, IsSessionOfFile}
-use Rattle.esx_plan.specs.Streams.{ComesOut}
-use Rattle.esx_plan.specs.Words.{asked_in, program_app, word_and_file}
+use Rattle.esx_plan.specs.Sessions.{IsTold, IsNotTold, IsReplayed, IsNotReplayed}
+use Rattle.esx_plan.specs.States.{SourceState, SinkState}
+use Rattle.esx_plan.specs.Streams.{IsServed}
+use Rattle.esx_plan.specs.Words.{AskAlike, asked_in, program_app, word_and_file}
 
--- a site of the scenario in a file, or the program's own where no file is named
-abbrev pub IsSiteAsked : {F A : Type 0} → (F → Option (List ℕ)) → Option A → Config → Type 0
-IsSiteAsked remaining None site = site ≡ SITE
-IsSiteAsked remaining (Some file) site = IsSiteOfFile remaining site
+-- the site of the scenario in a file, or the program's own where no file is named
+abbrev pub IsSiteAsked : Option Opened → Config → Type 0
+IsSiteAsked None site = site ≡ SITE
+IsSiteAsked (Some read) site = (plan : Plan) × HasScenario read plan × (site ≡ plan.site)
+
+-- why there is no such site
+abbrev pub LacksSite : Option Opened → TextFault → Type 0
+LacksSite None e = ⊥
+LacksSite (Some read) e = LacksScenario read e
 
 -- how the program ends with a console, a run and a replay
 abbrev pub served_as : Result ℕ ServeFault → Result Done Failure
@@ -53,50 +54,55 @@ replayed_as (Ok done) = Ok Replayed
 replayed_as (Err e) = Err (Output e)
 
 -- A console ends: all input was answered at that site, or it was served up to a fault. Or the file that is named has no site, and nothing was read or written.
-abbrev pub EndsConsole : {F A : Type 0} → (F → Option (List ℕ)) → Option A → Result Done Failure → Option (List ℕ) → Option (List ℕ) → Option (List ℕ) → Option (List ℕ) → Type 0
-EndsConsole remaining file (Ok Served) unread left out out' =
-    (site : Config) × IsSiteAsked remaining file site × (count : ℕ) × (after : Session) × Answers 0 count (at_opening site) after unread left out out'
-EndsConsole remaining file (Err (Text e)) unread left out out' = IsSome file × IsNoSiteOfFile remaining e × (left ≡ unread) × (out' ≡ out)
-EndsConsole remaining file (Err (Serve e)) unread left out out' =
-    (site : Config) × IsSiteAsked remaining file site × (after : Session) × (taken : Option (List ℕ))
-    × Faults e 0 (at_opening site) after unread left out taken × ComesOut e taken out'
-EndsConsole remaining file ended unread left out out' = ⊥
+abbrev pub EndsConsole : Option Opened → Result Done Failure → SourceState → SourceState → SinkState → SinkState → Type 0
+EndsConsole file (Ok Served) unread left out out' = (site : Config) × IsSiteAsked file site × (count : ℕ) × IsServed site (Ok count) unread left out out'
+EndsConsole file (Err (Text e)) unread left out out' = LacksSite file e × (left ≡ unread) × (out' ≡ out)
+EndsConsole file (Err (Serve e)) unread left out out' = (site : Config) × IsSiteAsked file site × IsServed site (Err e) unread left out out'
+EndsConsole file ended unread left out out' = ⊥
 
 -- A run ends: the scenario in a file was run and told, or its run stopped. Or there is no such scenario, and nothing was written.
-abbrev pub EndsRun : {F : Type 0} → (F → Option (List ℕ)) → Result Done Failure → Option (List ℕ) → Option (List ℕ) → Option (List ℕ) → Option (List ℕ) → Type 0
-EndsRun remaining (Ok Ran) errors errors' out out' =
-    (plan : Plan) × IsScenarioOfFile remaining plan × (told : Result (Unit {0}) SinkFailed) × Plays plan told errors errors' out out'
-EndsRun remaining (Err (Text e)) errors errors' out out' = IsNoSiteOfFile remaining e × (errors' ≡ errors) × (out' ≡ out)
-EndsRun remaining (Err (Run e)) errors errors' out out' =
-    (plan : Plan) × IsScenarioOfFile remaining plan × (told : Result (Unit {0}) SinkFailed) × RunStops e plan told errors errors' out out'
-EndsRun remaining ended errors errors' out out' = ⊥
+abbrev pub EndsRun : Opened → Result Done Failure → SinkState → SinkState → SinkState → SinkState → Type 0
+EndsRun read (Ok Ran) errors errors' out out' = (plan : Plan) × HasScenario read plan × Plays plan errors errors' out out'
+EndsRun read (Err (Text e)) errors errors' out out' = LacksScenario read e × (errors' ≡ errors) × (out' ≡ out)
+EndsRun read (Err (Run e)) errors errors' out out' = (plan : Plan) × HasScenario read plan × RunStops e plan errors errors' out out'
+EndsRun read ended errors errors' out out' = ⊥
 
 -- A replay ends: the replies of the session in a file were written, or writing them stopped. Or there is no such session, and nothing was written.
-abbrev pub EndsReplay : {F : Type 0} → (F → Option (List ℕ)) → Result Done Failure → Option (List ℕ) → Option (List ℕ) → Type 0
-EndsReplay remaining (Ok Replayed) out out' =
-    (site : Config) × (entries : List Entry) × IsSessionOfFile remaining site entries × Appends out out' (replay_text site entries)
-EndsReplay remaining (Err (Text e)) out out' = IsNoSessionOfFile remaining e × (out' ≡ out)
-EndsReplay remaining (Err (Output e)) out out' =
-    (site : Config) × (entries : List Entry) × IsSessionOfFile remaining site entries
-    × (taken : Option (List ℕ)) × ReplayStops e site entries out taken × GivenOut e taken out'
-EndsReplay remaining ended out out' = ⊥
+abbrev pub EndsReplay : Opened → Result Done Failure → SinkState → SinkState → Type 0
+EndsReplay read (Ok Replayed) out out' = (site : Config) × (entries : List Entry) × HasSession read site entries × IsReplayed site entries out out'
+EndsReplay read (Err (Text e)) out out' = LacksSession read e × (out' ≡ out)
+EndsReplay read (Err (Output e)) out out' = (site : Config) × (entries : List Entry) × HasSession read site entries × IsNotReplayed e site entries out out'
+EndsReplay read ended out out' = ⊥
 
 -- A check ends: what the session in a file comes to was written as a line, or a front of it. Or there is no such session, and nothing was written.
-abbrev pub EndsCheck : {F : Type 0} → (F → Option (List ℕ)) → Result Done Failure → Option (List ℕ) → Option (List ℕ) → Type 0
-EndsCheck remaining (Ok (Checked checked)) out out' =
-    (bytes : List ℕ) × AreInFile remaining bytes × ChecksText bytes checked × Appends out out' (checked_text checked)
-EndsCheck remaining (Err (Text e)) out out' = IsNoSessionOfFile remaining e × (out' ≡ out)
-EndsCheck remaining (Err (Output e)) out out' =
-    (bytes : List ℕ) × AreInFile remaining bytes × (checked : Outcome) × ChecksText bytes checked × CheckStops e checked out out'
-EndsCheck remaining ended out out' = ⊥
+abbrev pub EndsCheck : Opened → Result Done Failure → SinkState → SinkState → Type 0
+EndsCheck read (Ok (Checked checked)) out out' = (bytes : List ℕ) × HasText read bytes × ChecksText bytes checked × IsTold checked out out'
+EndsCheck read (Err (Text e)) out out' = LacksSession read e × (out' ≡ out)
+EndsCheck read (Err (Output e)) out out' =
+    (bytes : List ℕ) × HasText read bytes × (checked : Outcome) × ChecksText bytes checked × IsNotTold e checked out out'
+EndsCheck read ended out out' = ⊥
 
--- What is asked for was done, and ended so: with what a reader had, with what was told of errors, and with what was written. The streams that it takes no part in are as they were.
-abbrev pub Does : {F : Type 0} → (F → Option (List ℕ)) → Asked → Result Done Failure
-    → Option (List ℕ) → Option (List ℕ) → Option (List ℕ) → Option (List ℕ) → Option (List ℕ) → Option (List ℕ) → Type 0
-Does remaining (asked.Console file) ended unread left errors errors' out out' = EndsConsole remaining file ended unread left out out' × (errors' ≡ errors)
-Does remaining (asked.Run file) ended unread left errors errors' out out' = EndsRun remaining ended errors errors' out out' × (left ≡ unread)
-Does remaining (asked.Replay file) ended unread left errors errors' out out' = EndsReplay remaining ended out out' × (left ≡ unread) × (errors' ≡ errors)
-Does remaining (asked.Check file) ended unread left errors errors' out out' = EndsCheck remaining ended out out' × (left ≡ unread) × (errors' ≡ errors)
+-- What is asked for was done, and ended so: with what a source had, with what was told of errors, and with what was written. The streams that it takes no part in are as they were.
+abbrev pub Does : Asked Opened → Result Done Failure → SourceState → SourceState → SinkState → SinkState → SinkState → SinkState → Type 0
+Does (asked.Console file) ended unread left errors errors' out out' = EndsConsole file ended unread left out out' × (errors' ≡ errors)
+Does (asked.Run read) ended unread left errors errors' out out' = EndsRun read ended errors errors' out out' × (left ≡ unread)
+Does (asked.Replay read) ended unread left errors errors' out out' = EndsReplay read ended out out' × (left ≡ unread) × (errors' ≡ errors)
+Does (asked.Check read) ended unread left errors errors' out out' = EndsCheck read ended out out' × (left ≡ unread) × (errors' ≡ errors)
+
+-- The same of a file and of ends of the standard library, of which only the bytes are known.
+pub record DoesOver {F : Type 0} (remaining : F → Option (List ℕ)) (wanted : Asked (Result F Error)) (ended : Result Done Failure)
+    (unread left errors errors' out out' : Option (List ℕ)) : Type 0 where
+  pub read : Asked Opened
+  pub file : AskAlike (IsFile remaining) wanted read
+  pub source : SourceState
+  pub source' : SourceState
+  pub told : SinkState
+  pub told' : SinkState
+  pub written : SinkState
+  pub written' : SinkState
+  pub before : (source.remaining ≡ unread) × (told.contents ≡ errors) × (written.contents ≡ out)
+  pub after : (source'.remaining ≡ left) × (told'.contents ≡ errors') × (written'.contents ≡ out')
+  pub does : Does read ended source source' told told' written written'
 
 -- words that ask for nothing, or that there was no memory for
 abbrev pub AskForNothing : List Word → Result Done Failure → Type 0
@@ -104,11 +110,12 @@ AskForNothing words (Err Words) = (takes program_app words ≡ false) ⊎ (asked
 AskForNothing words (Err (Text text.OutOfMemory)) = Unit {0}
 AskForNothing words ended = ⊥
 
--- What the words ask for was done. Or they ask for nothing, and the streams are as they were.
+-- What the words ask for was done, with the file that they name as it was opened. Or they ask for nothing, and the streams are as they were.
 abbrev pub DoesWords : {F : Type 0} → (F → Option (List ℕ)) → List Word → Result Done Failure
     → Option (List ℕ) → Option (List ℕ) → Option (List ℕ) → Option (List ℕ) → Option (List ℕ) → Option (List ℕ) → Type 0
-DoesWords remaining words ended unread left errors errors' out out' =
-    ((asked : Asked) × Asks words (word_and_file asked) × Does remaining asked ended unread left errors errors' out out')
+DoesWords {F} remaining words ended unread left errors errors' out out' =
+    ((named : Asked (Bor Word)) × Asks words (word_and_file named) × (wanted : Asked (Result F Error)) × AskAlike (λ _ _. Unit {0}) named wanted
+    × DoesOver remaining wanted ended unread left errors errors' out out')
     ⊎ (AskForNothing words ended × (left ≡ unread) × (errors' ≡ errors) × (out' ≡ out))
 
 -- the same of the words that the program was given, where they could be read

@@ -15,19 +15,19 @@ use Rattle.esx_plan.specs.Status.{word_of_done}
 use Rattle.esx_plan.specs.Words.{HaveNoFault, asked_in, program_app}
 
 -- a word and a file that is a scenario
-abbrev pub NamesScenario : Word × Option Word → Type 0
+abbrev pub NamesScenario : {A : Type 0} → Word × Option A → Type 0
 NamesScenario asked = IsSome asked.1 × ((asked.0 ≡ codes "console") ⊎ (asked.0 ≡ codes "run"))
 
 -- a word that wants a session
-abbrev pub WantsSession : Word × Option Word → Type 0
+abbrev pub WantsSession : {A : Type 0} → Word × Option A → Type 0
 WantsSession asked = (asked.0 ≡ codes "replay") ⊎ (asked.0 ≡ codes "check")
 
 -- a word and a file that is a session
-abbrev pub NamesSession : Word × Option Word → Type 0
+abbrev pub NamesSession : {A : Type 0} → Word × Option A → Type 0
 NamesSession asked = IsSome asked.1 × WantsSession asked
 
 -- how what is asked for may fail: at the file, if one is named, at the streams of a console, in a run, or where a replay or a check is written
-abbrev pub MayFail : Word × Option Word → Failure → Type 0
+abbrev pub MayFail : {A : Type 0} → Word × Option A → Failure → Type 0
 MayFail asked Words = ⊥
 MayFail asked (Text text.NotToml) = NamesScenario asked
 MayFail asked (Text (text.BadKey path)) = NamesScenario asked

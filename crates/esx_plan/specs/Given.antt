@@ -17,11 +17,6 @@ abbrev pub open_fault : ErrorKind → TextFault
 open_fault kind.OutOfMemory = text.OutOfMemory
 open_fault _ = text.Read
 
--- a file as it was opened
-abbrev pub opened_as : {F : Type 0} → Result F Error → Result F TextFault
-opened_as (Ok file) = Ok file
-opened_as (Err e) = Err (open_fault (error_kind e))
-
 -- memory ran out, or a word is no text
 abbrev pub words_failure : ErrorKind → Failure
 words_failure kind.OutOfMemory = Text text.OutOfMemory

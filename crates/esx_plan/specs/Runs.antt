@@ -1,5 +1,5 @@
 -- What a run of a scenario leaves, and what is told of it.
-use Rattle.std.specs.Prelude.{◌≡◌, ℕ, ◌+◌, List, map, length, Option, Result, Ok, Err}
+use Rattle.std.specs.Prelude.{◌≡◌, ℕ, ◌+◌, List, [], map, length, Option, Result, Ok, Err}
 use Rattle.std.specs.Io.KnownBytes.{Appends}
 use Rattle.esx_types.specs.declared.ends.SinkFailed.{SinkFailed}
 use Rattle.esx_events.specs.declared.event.Refusal.{Refusal}
@@ -10,9 +10,10 @@ use Rattle.esx_opening.specs.Openings.{opening_events, AreAccepted, IsRefusedAt}
 use Rattle.esx_workers.specs.declared.end.End.{End}
 use Rattle.esx_work.specs.Runs.{RunsOn}
 use Rattle.esx_work.specs.Sites.{IsRunOf}
-use Rattle.esx_writing.specs.Writing.{Writes, WritesFront}
+use Rattle.esx_writing.specs.Writing.{Writes, WritesFront, sink_faults}
 use Rattle.esx_session.specs.Sessions.{session_text, logged}
 use Rattle.esx_plan.specs.Ends.{ends_text}
+use Rattle.esx_plan.specs.States.{SinkState}
 use Rattle.esx_plan.specs.declared.running.RunFault.{RunFault}
 use Rattle.esx_plan.specs.declared.running.RunFault.TheVariants.{Refused, Write, OutOfMemory}
 use Rattle.esx_opening.specs.declared.opening.SiteFault.{SiteFault}
@@ -29,6 +30,20 @@ pub record IsPlayed (p : Plan) (console : Session) (ends : List End) : Type 0 wh
 -- the session of a console
 abbrev pub told_session : Session → List ℕ
 told_session console = session_text console.site (map logged console.log)
+
+-- The ends of the workers were told. Or one write failed, and a front of them was written.
+pub record AreTold (p : Plan) (ends : List End) (old new : SinkState) : Type 0 where
+  pub ended : Result (Unit {0}) SinkFailed
+  pub written : Writes old.contents new.contents (ends_text p.guests ends) ended
+  pub failures : new.failures ≡ old.failures + sink_faults ended
+
+-- one write or flush failed, and a front of the session was written
+pub record StopsTelling (console : Session) (out out' : SinkState) : Type 0 where
+  pub taken : Option (List ℕ)
+  pub front : WritesFront out.contents taken (told_session console)
+  pub rest : List ℕ
+  pub out_of_it : Appends out'.contents taken rest
+  pub failures : out'.failures ≡ out.failures + 1
 
 -- a call of the opening was refused so
 abbrev pub IsRefusedOpening : Plan → Refusal → Type 0
@@ -50,27 +65,26 @@ NotPlayed (Refused e) p = IsRefusedOpening p e
 NotPlayed Write p = ⊥
 NotPlayed OutOfMemory p = Unit {0}
 
--- The ends of the workers were told at one place, and the session at another.
-pub record Plays (p : Plan) (told : Result (Unit {0}) SinkFailed) (errors errors' out out' : Option (List ℕ)) : Type 0 where
+-- The ends of the workers were told at one place, where they could be, and the session at another.
+pub record Plays (p : Plan) (errors errors' out out' : SinkState) : Type 0 where
   pub console : Session
   pub ends : List End
   pub played : IsPlayed p console ends
-  pub ends_told : Writes errors errors' (ends_text p.guests ends) told
-  pub session_told : Appends out out' (told_session console)
+  pub told : AreTold p ends errors errors'
+  pub session_told : Appends out.contents out'.contents (told_session console)
+  pub failures : out'.failures ≡ out.failures
+  pub sent : out'.waiting ≡ []
 
--- The ends were told, and a front of the session.
-pub record PlaysFront (p : Plan) (told : Result (Unit {0}) SinkFailed) (errors errors' out out' : Option (List ℕ)) : Type 0 where
+-- The ends were told, where they could be, and a front of the session.
+pub record PlaysFront (p : Plan) (errors errors' out out' : SinkState) : Type 0 where
   pub console : Session
   pub ends : List End
   pub played : IsPlayed p console ends
-  pub ends_told : Writes errors errors' (ends_text p.guests ends) told
-  pub taken : Option (List ℕ)
-  pub front : WritesFront out taken (told_session console)
-  pub rest : List ℕ
-  pub out_of_it : Appends out' taken rest
+  pub told : AreTold p ends errors errors'
+  pub stops : StopsTelling console out out'
 
 -- Where there was no run nothing was told. After a fault of writing the ends were told, and a front of the session.
-abbrev pub RunStops : RunFault → Plan → Result (Unit {0}) SinkFailed → Option (List ℕ) → Option (List ℕ) → Option (List ℕ) → Option (List ℕ) → Type 0
-RunStops (Refused e) p told errors errors' out out' = IsRefusedOpening p e × (errors' ≡ errors) × (out' ≡ out)
-RunStops Write p told errors errors' out out' = PlaysFront p told errors errors' out out'
-RunStops OutOfMemory p told errors errors' out out' = (errors' ≡ errors) × (out' ≡ out)
+abbrev pub RunStops : RunFault → Plan → SinkState → SinkState → SinkState → SinkState → Type 0
+RunStops (Refused e) p errors errors' out out' = IsRefusedOpening p e × (errors' ≡ errors) × (out' ≡ out)
+RunStops Write p errors errors' out out' = PlaysFront p errors errors' out out'
+RunStops OutOfMemory p errors errors' out out' = (errors' ≡ errors) × (out' ≡ out)

@@ -1,6 +1,7 @@
 -- What the program's words ask for.
 use Rattle.std.specs.Prelude.{◌≡◌, [], List, Option, Some, None, codes, option_map, if◌then◌else◌}
 use Rattle.std.specs.Str.{bytes_eq}
+use Rattle.std.specs.Borrow.{Bor}
 use Rattle.clap.specs.Words.{App, Row, Text, fault_of, first_of, new_app, new_rule, subcommand_of, with_rule, with_subcommand}
 use Rattle.esx_plan.specs.declared.words.Asked.{Asked}
 use Rattle.esx_plan.specs.declared.words.Asked.TheVariants.{Console, Run, Replay, Check}
@@ -15,12 +16,27 @@ program_app =
     with_subcommand (with_subcommand (with_subcommand (with_subcommand (new_app (codes "esxplan")) (with_file (codes "console")).top) (with_file (codes "replay")).top)
     (with_file (codes "check")).top) (with_file (codes "run")).top
 
--- the word that asks for it, and the file
-abbrev pub word_and_file : Asked → Text × Option Text
-word_and_file (Console file) = (codes "console", option_map (λ f. f.now) file)
-word_and_file (Run file) = (codes "run", Some file.now)
-word_and_file (Replay file) = (codes "replay", Some file.now)
-word_and_file (Check file) = (codes "check", Some file.now)
+-- the word that asks for it, and what it names
+abbrev pub asked_of : {F : Type 0} → Asked F → Text × Option F
+asked_of (Console file) = (codes "console", file)
+asked_of (Run file) = (codes "run", Some file)
+asked_of (Replay file) = (codes "replay", Some file)
+asked_of (Check file) = (codes "check", Some file)
+
+-- the word that asks for it, and the path behind it
+abbrev pub word_and_file : Asked (Bor Text) → Text × Option Text
+word_and_file asked = ((asked_of asked).0, option_map (λ f. f.now) (asked_of asked).1)
+
+-- neither, or both are so
+abbrev pub MayBe : {F G : Type 0} → (F → G → Type 0) → Option F → Option G → Type 0
+MayBe R None None = Unit {0}
+MayBe R (Some a) (Some b) = R a b
+MayBe R a b = ⊥
+
+-- the same word asks for both, and so are the files that they name
+pub record AskAlike {F G : Type 0} (R : F → G → Type 0) (a : Asked F) (b : Asked G) : Type 0 where
+  pub word : (asked_of b).0 ≡ (asked_of a).0
+  pub file : MayBe R (asked_of a).1 (asked_of b).1
 
 -- the words say no less and no more than may stand there, and ask for no help
 abbrev pub HaveNoFault : List Text → Type 0

@@ -1,27 +1,29 @@
 //! What the program does with a file and with streams, as it is asked for.
 
-ghost use Rattle.std.specs.Prelude.{◌≡◌, IfOk, IfErr, IsSome};
+ghost use Rattle.std.specs.Prelude.{◌≡◌, ℕ, Option, IfOk, IfErr};
 ghost use Rattle.esx_types.specs.Ranges.{IsConfig};
-ghost use Rattle.esx_plan.specs.Doing.{served_as, ran_as, replayed_as, Does, EndsCheck, EndsConsole, EndsReplay, EndsRun, IsSiteAsked};
-ghost use Rattle.esx_plan.specs.Failing.{MayFail};
-ghost use Rattle.esx_plan.specs.Opening.{IsNoSiteOfFile};
-ghost use Rattle.esx_plan.specs.Status.{word_of_done, TellsCheck, TellsNoCheck};
-ghost use Rattle.esx_plan.specs.Words.{word_and_file};
+ghost use Rattle.esx_plan.specs.declared.words.Asked.{Asked as Wanted};
+ghost use Rattle.esx_plan.specs.Doing.{served_as, ran_as, replayed_as, Does, EndsCheck, EndsConsole, EndsReplay, EndsRun, IsSiteAsked, LacksSite};
+ghost use Rattle.esx_plan.specs.Files.{Opened, IsLeft};
+ghost use Rattle.esx_plan.specs.States.{sink_state, source_state};
+ghost use Rattle.esx_plan.specs.Status.{TellsCheck, TellsNoCheck};
+ghost use Rattle.esx_plan.specs.Words.{AskAlike, MayBe};
 
-use crate::files::{scenario_of_file, session_of_file, site_of_file, text_of_file};
+use crate::files::{scenario_of_file, session_of_file, text_of_file};
 use crate::running::{RunFault, run_to};
-use crate::session::{check_watched, replay_watched, tell_check_to};
-use crate::streams::serve_streams;
+use crate::session::{check_watched, replay_watched, tell_check};
+use crate::streams::serve_buffered;
 use crate::words::Asked;
 use crate::{Done, Failure, SITE};
 use esx_check::OutputFault;
 use esx_reading::TextFault;
 use esx_text::ServeFault;
-use esx_types::Config;
+use esx_types::{Config, Sink, Source};
 use std::alloc::{AllocGlobal, Global};
-use std::io::{Read, Write};
-use std::rt::Files;
+use std::io;
+use std::marker::Brand;
 use std::sync::Wait;
+use std::sync::ledger::Blank;
 use std::thread::Threads;
 
 /// How a console ended, and its streams as they are then.
@@ -48,14 +50,19 @@ struct End<W: Drop> {
 }
 
 /// The site of the scenario in a file, or the program's own where no file is named.
-fn site_asked<R: Files + AllocGlobal>(rt: &R, file: Option<&str>) -> Result<Config, TextFault>
+fn site_asked<F: Source + Drop>(
+    alloc: Global,
+    file: Option<io::Result<F>>,
+) -> Result<Config, TextFault>
     ensures config { IfOk result IsConfig }
-    ensures site { IfOk result (IsSiteAsked R.File.remaining file.entry) }
-    ensures named { IfErr result (λ e. IsSome file.entry) }
-    ensures fault { IfErr result (IsNoSiteOfFile R.File.remaining) }
+    ensures site { (read : Option Opened) × MayBe (IsLeft (source_state F.remaining F.calls F.failures)) file read
+        × IfOk result (IsSiteAsked read) × IfErr result (LacksSite read) }
 {
     match file {
-        Some(path) => site_of_file(rt, path),
+        Some(opened) => match scenario_of_file(alloc, opened) {
+            Ok(scenario) => Ok(scenario.config()),
+            Err(fault) => Err(fault),
+        },
         None => Ok(SITE),
     }
 }
@@ -71,23 +78,31 @@ fn served_as(ended: Result<u64, ServeFault>) -> Result<Done, Failure>
 }
 
 /// Serves a reader to a writer, at the site of a scenario if a file is named.
-fn serve_file<R: Files + AllocGlobal, I: Read + Drop, W: Write + Drop>(
-    rt: &R,
-    file: Option<&str>,
-    reader: I,
+fn serve_file<F: Source + Drop, I: Source + Drop, W: Sink + Drop>(
+    alloc: Global,
+    file: Option<io::Result<F>>,
+    mut reader: I,
     writer: W,
 ) -> ConsoleEnd<I, W>
-    ensures { EndsConsole R.File.remaining file.entry result.ended
-        (I.remaining reader) (I.remaining result.reader) (W.contents writer) (W.contents result.writer) }
+    ensures { (read : Option Opened) × MayBe (IsLeft (source_state F.remaining F.calls F.failures)) file read
+        × EndsConsole read result.ended
+        (source_state I.remaining I.calls I.failures reader) (source_state I.remaining I.calls I.failures result.reader)
+        (sink_state W.contents W.waiting W.failures W.flushes writer) (sink_state W.contents W.waiting W.failures W.flushes result.writer) }
 {
-    match site_asked(rt, file) {
+    match site_asked(alloc, file) {
         Ok(site) => {
-            let served = serve_streams(rt.alloc(), site, reader, writer);
-            let ended = served_as(served.ended);
+            let (served, writer) = serve_buffered::<_, _, Brand>(
+                alloc,
+                site,
+                &mut reader,
+                writer,
+                Blank::new(3),
+            );
+            let ended = served_as(served);
             ConsoleEnd {
                 ended,
-                reader: served.reader,
-                writer: served.writer,
+                reader,
+                writer,
             }
         }
         Err(fault) => ConsoleEnd {
@@ -111,15 +126,18 @@ fn ran_as(ended: Result<(), RunFault>) -> Result<Done, Failure>
 /// Runs the scenario in a file, tells how its workers ended to `errors`, and writes the session that they made
 /// to `writer`. How far they are is told to `to`, where there is one.
 fn run_file<
-    R: Files + AllocGlobal + Threads + Wait + Sync,
+    R: AllocGlobal + Threads + Wait + Sync,
     P: Print + Sync,
-    E: Write + Drop,
-    W: Write + Drop,
->(rt: &R, path: &str, to: Option<&P>, errors: E, writer: W) -> RunEnd<E, W>
-    ensures { EndsRun R.File.remaining result.ended
-        (E.contents errors) (E.contents result.errors) (W.contents writer) (W.contents result.writer) }
+    F: Source + Drop,
+    E: Sink + Drop,
+    W: Sink + Drop,
+>(rt: &R, opened: io::Result<F>, to: Option<&P>, errors: E, writer: W) -> RunEnd<E, W>
+    ensures { (read : Opened) × IsLeft (source_state F.remaining F.calls F.failures) opened read
+        × EndsRun read result.ended
+        (sink_state E.contents E.waiting E.failures E.flushes errors) (sink_state E.contents E.waiting E.failures E.flushes result.errors)
+        (sink_state W.contents W.waiting W.failures W.flushes writer) (sink_state W.contents W.waiting W.failures W.flushes result.writer) }
 {
-    match scenario_of_file(rt, path) {
+    match scenario_of_file(rt.alloc(), opened) {
         Ok(scenario) => {
             let ran = run_to(rt, rt.alloc(), &scenario, to, errors, writer);
             let ended = ran_as(ran.ended);
@@ -148,51 +166,51 @@ fn replayed_as(ended: Result<(), OutputFault>) -> Result<Done, Failure>
 }
 
 /// Writes the replies of the session in a file anew. How far it is, is told to `to`, where there is one.
-fn replay_file<R: Files + AllocGlobal, P: Print, W: Write + Drop>(
-    rt: &R,
-    path: &str,
+fn replay_file<P: Print, F: Source + Drop, W: Sink + Drop>(
+    alloc: Global,
+    opened: io::Result<F>,
     to: Option<&P>,
     writer: W,
 ) -> End<W>
-    ensures { EndsReplay R.File.remaining result.ended (W.contents writer) (W.contents result.writer) }
+    ensures { (read : Opened) × IsLeft (source_state F.remaining F.calls F.failures) opened read
+        × EndsReplay read result.ended
+        (sink_state W.contents W.waiting W.failures W.flushes writer) (sink_state W.contents W.waiting W.failures W.flushes result.writer) }
 {
-    match session_of_file(rt, path) {
+    match session_of_file(alloc, opened) {
         Ok(session) => {
-            let replayed = replay_watched(rt.alloc(), session, to, writer);
+            let replayed = replay_watched(alloc, session, to, writer);
             let ended = replayed_as(replayed.ended);
             End {
                 ended,
                 writer: replayed.writer,
             }
         }
-        Err(failure) => End {
-            ended: Err(failure),
+        Err(fault) => End {
+            ended: Err(Failure::Text(fault)),
             writer,
         },
     }
 }
 
 /// Checks the session of a text, and tells a writer what came of it.
-fn check_to<P: Print, W: Write + Drop>(
+fn check_to<P: Print, W: Sink + Drop>(
     alloc: Global,
     text: &str,
     to: Option<&P>,
-    writer: W,
+    mut writer: W,
 ) -> End<W>
-    ensures told { IfOk result.ended (λ done. TellsCheck text.now done (W.contents writer) (W.contents result.writer)) }
-    ensures failure { IfErr result.ended (λ e. TellsNoCheck text.now e (W.contents writer) (W.contents result.writer)) }
+    ensures told { IfOk result.ended (λ done. TellsCheck text.now done
+        (sink_state W.contents W.waiting W.failures W.flushes writer) (sink_state W.contents W.waiting W.failures W.flushes result.writer)) }
+    ensures failure { IfErr result.ended (λ e. TellsNoCheck text.now e
+        (sink_state W.contents W.waiting W.failures W.flushes writer) (sink_state W.contents W.waiting W.failures W.flushes result.writer)) }
 {
     match check_watched(alloc, text, to) {
         Ok(checked) => {
-            let told = tell_check_to(alloc, checked, writer);
-            let ended = match told.ended {
+            let ended = match tell_check(alloc, checked, &mut writer) {
                 Ok(()) => Ok(Done::Checked(checked)),
                 Err(fault) => Err(Failure::Output(fault)),
             };
-            End {
-                ended,
-                writer: told.writer,
-            }
+            End { ended, writer }
         }
         Err(fault) => End {
             ended: Err(Failure::Text(fault)),
@@ -203,18 +221,20 @@ fn check_to<P: Print, W: Write + Drop>(
 
 /// Checks the session in a file, while its text is read, and tells a writer what came of it. How far it is, is
 /// told to `to`, where there is one.
-fn check_file<R: Files + AllocGlobal, P: Print, W: Write + Drop>(
-    rt: &R,
-    path: &str,
+fn check_file<P: Print, F: Source + Drop, W: Sink + Drop>(
+    alloc: Global,
+    opened: io::Result<F>,
     to: Option<&P>,
     writer: W,
 ) -> End<W>
-    ensures { EndsCheck R.File.remaining result.ended (W.contents writer) (W.contents result.writer) }
+    ensures { (read : Opened) × IsLeft (source_state F.remaining F.calls F.failures) opened read
+        × EndsCheck read result.ended
+        (sink_state W.contents W.waiting W.failures W.flushes writer) (sink_state W.contents W.waiting W.failures W.flushes result.writer) }
 {
-    match text_of_file(rt, path) {
-        Ok(text) => check_to(rt.alloc(), text.as_str(), to, writer),
-        Err(failure) => End {
-            ended: Err(failure),
+    match text_of_file(alloc, opened) {
+        Ok(text) => check_to(alloc, text.as_str(), to, writer),
+        Err(fault) => End {
+            ended: Err(Failure::Text(fault)),
             writer,
         },
     }
@@ -253,16 +273,18 @@ fn ended_with<I: Drop, E: Drop, W: Drop>(
 
 /// Does what is asked for. How far a long work is, is told to `to`, where there is one.
 pub fn run_asked<
-    R: Files + AllocGlobal + Threads + Wait + Sync,
+    R: AllocGlobal + Threads + Wait + Sync,
     P: Print + Sync,
-    I: Read + Drop,
-    E: Write + Drop,
-    W: Write + Drop,
->(rt: &R, asked: Asked, to: Option<&P>, streams: Streams<I, E, W>) -> Ended<I, E, W>
-    ensures word { IfOk result.ended (λ done. word_of_done done ≡ (word_and_file asked.entry).0) }
-    ensures failure { IfErr result.ended (MayFail (word_and_file asked.entry)) }
-    ensures does { Does R.File.remaining asked.entry result.ended (I.remaining streams.reader) (I.remaining result.streams.reader)
-        (E.contents streams.errors) (E.contents result.streams.errors) (W.contents streams.writer) (W.contents result.streams.writer) }
+    F: Source + Drop,
+    I: Source + Drop,
+    E: Sink + Drop,
+    W: Sink + Drop,
+>(rt: &R, asked: Asked<io::Result<F>>, to: Option<&P>, streams: Streams<I, E, W>) -> Ended<I, E, W>
+    ensures { (read : Wanted Opened) × AskAlike (IsLeft (source_state F.remaining F.calls F.failures)) asked read
+        × Does read result.ended
+        (source_state I.remaining I.calls I.failures streams.reader) (source_state I.remaining I.calls I.failures result.streams.reader)
+        (sink_state E.contents E.waiting E.failures E.flushes streams.errors) (sink_state E.contents E.waiting E.failures E.flushes result.streams.errors)
+        (sink_state W.contents W.waiting W.failures W.flushes streams.writer) (sink_state W.contents W.waiting W.failures W.flushes result.streams.writer) }
 {
     let Streams {
         reader,
@@ -271,19 +293,19 @@ pub fn run_asked<
     } = streams;
     match asked {
         Asked::Console(file) => {
-            let served = serve_file(rt, file, reader, writer);
+            let served = serve_file(rt.alloc(), file, reader, writer);
             ended_with(served.ended, served.reader, errors, served.writer)
         }
-        Asked::Run(path) => {
-            let ran = run_file(rt, path, to, errors, writer);
+        Asked::Run(opened) => {
+            let ran = run_file(rt, opened, to, errors, writer);
             ended_with(ran.ended, reader, ran.errors, ran.writer)
         }
-        Asked::Replay(path) => {
-            let replayed = replay_file(rt, path, to, writer);
+        Asked::Replay(opened) => {
+            let replayed = replay_file(rt.alloc(), opened, to, writer);
             ended_with(replayed.ended, reader, errors, replayed.writer)
         }
-        Asked::Check(path) => {
-            let checked = check_file(rt, path, to, writer);
+        Asked::Check(opened) => {
+            let checked = check_file(rt.alloc(), opened, to, writer);
             ended_with(checked.ended, reader, errors, checked.writer)
         }
     }

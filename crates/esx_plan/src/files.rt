@@ -1,28 +1,24 @@
-//! What is in a file that is named.
+//! What is in a file that was opened, or was not.
 
-ghost use Rattle.std.specs.Prelude.{◌≡◌, string_bytes, IfOk, IfErr};
+ghost use Rattle.std.specs.Prelude.{◌≡◌, ℕ, List, string_bytes, IfOk, IfErr, IsErrOf};
 ghost use Rattle.esx_types.specs.Ranges.{IsConfig};
-ghost use Rattle.esx_reading.specs.Whole.{IsOfReading, IsOfText};
-ghost use Rattle.esx_plan.specs.Given.{open_fault, opened_as};
-ghost use Rattle.esx_plan.specs.Opening.{IsNoSiteOfFile, IsScenarioOfFile, IsSiteOfFile};
-ghost use Rattle.esx_plan.specs.Status.{AreInFile, IsNoSessionOfFile, IsNoTextOfFile, IsSessionOfFile, OfText};
+ghost use Rattle.esx_reading.specs.Whole.{GivesWhole};
+ghost use Rattle.esx_scenario.specs.Scenarios.{IsScenario};
+ghost use Rattle.esx_session.specs.Sessions.{Reads};
+ghost use Rattle.esx_plan.specs.Files.{Opened, IsLeft, IsNoScenario, IsNoSession, IsNoText, HasScenario, HasSession, HasText, LacksScenario, LacksSession, LacksText};
+ghost use Rattle.esx_plan.specs.Given.{open_fault};
+ghost use Rattle.esx_plan.specs.States.{source_state};
 
-use crate::Failure;
-use crate::opening::{scenario_of_reader, site_of_reader};
-use crate::session::session_of_reader;
-use esx_reading::{TextFault, read_text_of};
-use esx_scenario::Scenario;
-use esx_session::Session;
-use esx_types::Config;
-use std::alloc::AllocGlobal;
-use std::fs;
+use esx_reading::{TextFault, read_text};
+use esx_scenario::{Scenario, parse_scenario};
+use esx_session::{Session, parse_session};
+use esx_types::Source;
+use std::alloc::Global;
 use std::io::{self, ErrorKind};
-use std::rt::Files;
 
 /// What is told of a file that could not be opened.
 fn fault_of_kind(kind: ErrorKind) -> TextFault
-    ensures fault { result ≡ open_fault kind }
-    ensures reading { IsOfReading result }
+    ensures { result ≡ open_fault kind }
 {
     match kind {
         ErrorKind::OutOfMemory => TextFault::OutOfMemory,
@@ -30,60 +26,74 @@ fn fault_of_kind(kind: ErrorKind) -> TextFault
     }
 }
 
-/// A file as it was opened.
-fn file_of<F>(opened: io::Result<F>) -> Result<F, TextFault>
-    ensures file { result ≡ opened_as opened }
-    ensures reading { IfErr result IsOfReading }
+/// The text that a file gives.
+fn text_of_source<F: Source>(alloc: Global, file: &mut F) -> Result<String, TextFault>
+    ensures text { IfOk result (λ s. GivesWhole (F.remaining file.old) (F.remaining file.new) (string_bytes s)) }
+    ensures fault { IfErr result (IsNoText (source_state F.remaining F.calls F.failures file.old) (source_state F.remaining F.calls F.failures file.new)) }
+    ensures no_read_fault { (IsErrOf result TextFault.Read → ⊥) → F.failures file.new ≡ F.failures file.old }
+{
+    read_text(alloc, file)
+}
+
+/// The scenario that a file gives.
+fn scenario_of_source<F: Source>(alloc: Global, file: &mut F) -> Result<Scenario, TextFault>
+    ensures scenario { IfOk result (λ plan. (text : List ℕ) × GivesWhole (F.remaining file.old) (F.remaining file.new) text × IsScenario text plan) }
+    ensures fault { IfErr result (IsNoScenario (source_state F.remaining F.calls F.failures file.old) (source_state F.remaining F.calls F.failures file.new)) }
+{
+    let text = text_of_source(alloc, file)?;
+    parse_scenario(alloc, text.as_str())
+}
+
+/// The session that a file gives.
+fn session_of_source<F: Source>(alloc: Global, file: &mut F) -> Result<Session, TextFault>
+    ensures config { IfOk result (λ session. IsConfig session.site) }
+    ensures session { IfOk result (λ session. (text : List ℕ) × GivesWhole (F.remaining file.old) (F.remaining file.new) text
+        × Reads text session.site session.entries) }
+    ensures fault { IfErr result (IsNoSession (source_state F.remaining F.calls F.failures file.old) (source_state F.remaining F.calls F.failures file.new)) }
+{
+    let text = text_of_source(alloc, file)?;
+    parse_session(alloc, text.as_str())
+}
+
+/// The text in a file.
+pub fn text_of_file<F: Source + Drop>(
+    alloc: Global,
+    opened: io::Result<F>,
+) -> Result<String, TextFault>
+    ensures { (read : Opened) × IsLeft (source_state F.remaining F.calls F.failures) opened read
+        × IfOk result (λ s. HasText read (string_bytes s)) × IfErr result (LacksText read) }
 {
     match opened {
-        Ok(file) => Ok(file),
+        Ok(mut file) => text_of_source(alloc, &mut file),
         Err(error) => Err(fault_of_kind(error.kind())),
     }
 }
 
-/// A file, opened to be read.
-fn opened<R: Files + AllocGlobal>(rt: &R, path: &str) -> Result<R::File, TextFault>
-    ensures { IfErr result IsOfReading }
-{
-    file_of(fs::open(rt, path))
-}
-
-/// The site of the scenario in a file.
-pub fn site_of_file<R: Files + AllocGlobal>(rt: &R, path: &str) -> Result<Config, TextFault>
-    ensures config { IfOk result IsConfig }
-    ensures site { IfOk result (IsSiteOfFile R.File.remaining) }
-    ensures fault { IfErr result (IsNoSiteOfFile R.File.remaining) }
-{
-    site_of_reader(rt.alloc(), opened(rt, path)?)
-}
-
 /// The scenario in a file.
-pub fn scenario_of_file<R: Files + AllocGlobal>(rt: &R, path: &str) -> Result<Scenario, TextFault>
-    ensures scenario { IfOk result (IsScenarioOfFile R.File.remaining) }
-    ensures fault { IfErr result (IsNoSiteOfFile R.File.remaining) }
+pub fn scenario_of_file<F: Source + Drop>(
+    alloc: Global,
+    opened: io::Result<F>,
+) -> Result<Scenario, TextFault>
+    ensures { (read : Opened) × IsLeft (source_state F.remaining F.calls F.failures) opened read
+        × IfOk result (HasScenario read) × IfErr result (LacksScenario read) }
 {
-    scenario_of_reader(rt.alloc(), opened(rt, path)?)
-}
-
-/// The session in a file.
-pub fn session_of_file<R: Files + AllocGlobal>(rt: &R, path: &str) -> Result<Session, Failure>
-    ensures config { IfOk result (λ session. IsConfig session.site) }
-    ensures session { IfOk result (λ session. IsSessionOfFile R.File.remaining session.site session.entries) }
-    ensures fault { IfErr result (OfText (IsNoSessionOfFile R.File.remaining)) }
-{
-    let file = opened(rt, path).map_err(Failure::Text)?;
-    match session_of_reader(rt.alloc(), file) {
-        Ok(session) => Ok(session),
-        Err(fault) => Err(Failure::Text(fault)),
+    match opened {
+        Ok(mut file) => scenario_of_source(alloc, &mut file),
+        Err(error) => Err(fault_of_kind(error.kind())),
     }
 }
 
-/// The text in a file.
-pub fn text_of_file<R: Files + AllocGlobal>(rt: &R, path: &str) -> Result<String, Failure>
-    ensures text { IfOk result (λ s. AreInFile R.File.remaining (string_bytes s)) }
-    ensures fault { IfErr result (OfText IsOfText) }
-    ensures no_text { IfErr result (OfText (IsNoTextOfFile R.File.remaining)) }
+/// The session in a file.
+pub fn session_of_file<F: Source + Drop>(
+    alloc: Global,
+    opened: io::Result<F>,
+) -> Result<Session, TextFault>
+    ensures config { IfOk result (λ session. IsConfig session.site) }
+    ensures session { (read : Opened) × IsLeft (source_state F.remaining F.calls F.failures) opened read
+        × IfOk result (λ session. HasSession read session.site session.entries) × IfErr result (LacksSession read) }
 {
-    let file = opened(rt, path).map_err(Failure::Text)?;
-    read_text_of(rt.alloc(), file).map_err(Failure::Text)
+    match opened {
+        Ok(mut file) => session_of_source(alloc, &mut file),
+        Err(error) => Err(fault_of_kind(error.kind())),
+    }
 }

@@ -13,22 +13,23 @@ mod commands;
 mod ends;
 mod files;
 mod gates;
-mod opening;
 mod outgoing;
 mod progress;
 mod running;
 mod session;
 mod site;
+mod standard;
 mod streams;
 mod words;
 
-use commands::{Ended, Streams, run_asked};
+use commands::{Ended, Streams};
 use esx_check::{Checked, OutputFault};
 use esx_reading::TextFault;
 use esx_text::ServeFault;
 use esx_types::Config;
 use running::RunFault;
 use session::status_of_check;
+use standard::{opened, run_over};
 use std::alloc::{AllocGlobal, Global};
 use std::env::{self, Args, Env};
 use std::io::{self, Eprint, ErrorKind, Input, IsTerminal, Print, Read, Stderr, Write};
@@ -169,7 +170,7 @@ fn run_words<
         (E.contents streams.errors) (E.contents result.streams.errors) (W.contents streams.writer) (W.contents result.streams.writer) }
 {
     match asked_of_words(rt.alloc(), words) {
-        Ok(asked) => run_asked(rt, asked, to, streams),
+        Ok(asked) => run_over(rt, opened(rt, asked), to, streams),
         Err(fault) => Ended {
             ended: Err(failure_of_words(fault)),
             streams,

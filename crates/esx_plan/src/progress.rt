@@ -1,6 +1,6 @@
 //! How far a long work is, told in one line that is written over.
 
-use std::io::{self, Write};
+use esx_types::{Sink, SinkFailed};
 use std::sync::atomic::{AtomicU64, Ordering};
 
 /// How often a work of a known size is told.
@@ -67,14 +67,14 @@ impl<'a, P: Print> Progress<'a, P> {
     }
 }
 
-/// A writer whose bytes are counted as the steps of a work.
+/// A sink whose bytes are counted as the steps of a work.
 #[derive(Drop)]
-pub struct Watched<'a, W: Write + Drop, P> {
+pub struct Watched<'a, W: Sink + Drop, P> {
     writer: W,
     progress: &'a Progress<'a, P>,
 }
 
-impl<'a, W: Write + Drop, P> Watched<'a, W, P> {
+impl<'a, W: Sink + Drop, P> Watched<'a, W, P> {
     ghost use Rattle.std.specs.Prelude.{◌≡◌};
 
     pub fn new(writer: W, progress: &'a Progress<'a, P>) -> Watched<'a, W, P>
@@ -83,7 +83,7 @@ impl<'a, W: Write + Drop, P> Watched<'a, W, P> {
         Watched { writer, progress }
     }
 
-    /// Gives the writer back.
+    /// Gives the sink back.
     pub fn into_writer(self) -> W
         ensures { result ≡ self.entry.writer }
     {
@@ -91,16 +91,26 @@ impl<'a, W: Write + Drop, P> Watched<'a, W, P> {
     }
 }
 
-impl<'a, W: Write + Drop, P: Print> Write for Watched<'a, W, P> {
+impl<'a, W: Sink + Drop, P: Print> Sink for Watched<'a, W, P> {
     ghost contents = { λ s. W.contents s.writer };
 
-    fn write(&mut self, bytes: &[u8]) -> io::Result<usize> {
-        let count = self.writer.write(bytes)?;
-        self.progress.add(count as u64);
-        Ok(count)
+    ghost waiting = { λ s. W.waiting s.writer };
+
+    ghost calls = { λ s. W.calls s.writer };
+
+    ghost failures = { λ s. W.failures s.writer };
+
+    ghost flushes = { λ s. W.flushes s.writer };
+
+    fn write(&mut self, bytes: &[u8]) -> Result<usize, SinkFailed> {
+        let written = self.writer.write(bytes);
+        if let Ok(count) = written {
+            self.progress.add(count as u64);
+        }
+        written
     }
 
-    fn flush(&mut self) -> io::Result<()> {
+    fn flush(&mut self) -> Result<(), SinkFailed> {
         self.writer.flush()
     }
 }

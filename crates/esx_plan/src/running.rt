@@ -1,14 +1,16 @@
 //! The run of a scenario, and what is told of it.
 
-ghost use Rattle.std.specs.Prelude.{◌≡◌, ◌≤◌, [], ℕ, List, Option, IfOk, IfErr, OnOk, flat_map};
+ghost use Rattle.std.specs.Prelude.{◌≡◌, ◌≤◌, ◌+◌, [], ℕ, List, Option, Result, IfOk, IfErr, OnOk, flat_map};
 ghost use Rattle.std.specs.Io.KnownBytes.{Appends};
+ghost use Rattle.esx_types.specs.declared.ends.SinkFailed.{SinkFailed};
 ghost use Rattle.esx_events.specs.declared.event.Refusal.{Refusal};
 ghost use Rattle.esx_opening.specs.Orders.{in_order};
 ghost use Rattle.esx_opening.specs.declared.opening.SiteFault.TheVariants as faults;
 ghost use Rattle.esx_workers.specs.declared.end.End.{End};
-ghost use Rattle.esx_writing.specs.Writing.{Writes, WritesFront};
+ghost use Rattle.esx_writing.specs.Writing.{Writes, WritesFront, sink_faults};
 ghost use Rattle.esx_plan.specs.Ends.{ending_text, endings, workers_named};
-ghost use Rattle.esx_plan.specs.Runs.{IsPlayed, IsRefusedOpening, NotPlayed, Plays, RunStops, told_session, written_as};
+ghost use Rattle.esx_plan.specs.Runs.{IsPlayed, IsRefusedOpening, NotPlayed, Plays, RunStops, StopsTelling, told_session, written_as};
+ghost use Rattle.esx_plan.specs.States.{sink_state};
 
 use crate::ends::{Ending, endings_of, names_of, write_endings};
 use crate::gates::gates_of;
@@ -18,11 +20,10 @@ use esx_console::Console;
 use esx_events::Refusal;
 use esx_scenario::Scenario;
 use esx_session::write_session;
-use esx_types::{Sink, SinkFailed, WriteSink};
+use esx_types::{Sink, SinkFailed};
 use esx_work::{End, Outcome, SiteFault, run_site};
 use esx_writing::AnswerBuffer;
 use std::alloc::{AllocError, Global};
-use std::io::Write;
 use std::marker::Brand;
 use std::sync::Wait;
 use std::sync::ledger::{Blank, Ledger};
@@ -135,41 +136,6 @@ fn play_with_room<R: Threads + Wait + Sync, P: Print + Sync>(
     })
 }
 
-/// Whether something was told, and the writer as it is then.
-#[derive(Drop)]
-struct Told<W: Drop> {
-    ended: Result<(), SinkFailed>,
-    writer: W,
-}
-
-fn ends_counted<W: Write + Drop, L: Ledger>(
-    held: &mut AnswerBuffer,
-    endings: &[Ending],
-    writer: W,
-    calls: Blank,
-) -> Told<W>
-    requires empty { held.old ≡ [] }
-    requires name { calls.name ≡ L.name }
-    requires parts { calls.parts ≡ L.parts }
-    requires three { 3 ≤ calls.parts }
-    ensures { Writes (W.contents writer) (W.contents result.writer) (flat_map ending_text endings.now) result.ended }
-{
-    let mut sink = WriteSink::<W, L>::new(writer, calls);
-    let ended = write_endings(&mut sink, held, endings);
-    Told {
-        ended,
-        writer: sink.into_writer(),
-    }
-}
-
-/// Writes how workers ended to a writer of the standard library.
-fn ends_to<W: Write + Drop>(held: &mut AnswerBuffer, endings: &[Ending], writer: W) -> Told<W>
-    requires { held.old ≡ [] }
-    ensures { Writes (W.contents writer) (W.contents result.writer) (flat_map ending_text endings.now) result.ended }
-{
-    ends_counted::<_, Brand>(held, endings, writer, Blank::new(3))
-}
-
 /// Writes the session of a console, and hands on what waits.
 fn tell_session<W: Sink>(
     console: &Console,
@@ -178,6 +144,7 @@ fn tell_session<W: Sink>(
 ) -> Result<(), SinkFailed>
     requires { held.old ≡ [] }
     ensures bytes { Writes (W.contents writer.old) (W.contents writer.new) (told_session console.now) result }
+    ensures failures { W.failures writer.new ≡ W.failures writer.old + sink_faults result }
     ensures sent { OnOk result (W.waiting writer.new ≡ []) }
 {
     write_session(writer, held, &console.site(), console.log())?;
@@ -199,70 +166,33 @@ fn session_buffered<W: Sink + Drop, L: Ledger>(
     ensures ok { OnOk result.0 (Appends (W.contents writer) (W.contents result.1) (told_session console.now)) }
     ensures fault { IfErr result.0 (λ e. (taken : Option (List ℕ)) × WritesFront (W.contents writer) taken (told_session console.now)
         × (rest : List ℕ) × Appends (W.contents result.1) taken rest) }
+    ensures failures { W.failures result.1 ≡ W.failures writer + sink_faults result.0 }
+    ensures sent { OnOk result.0 (W.waiting result.1 ≡ []) }
 {
     let mut outgoing = Outgoing::<W, L>::new(writer, waiting, blank);
     let told = tell_session(console, held, &mut outgoing);
     (told, outgoing.into_sink())
 }
 
-fn session_counted<W: Write + Drop, O: Ledger, L: Ledger>(
-    console: &Console,
-    held: &mut AnswerBuffer,
-    waiting: Waiting,
-    writer: W,
-    calls_out: Blank,
-    calls_held: Blank,
-) -> Told<W>
-    requires empty { (held.old ≡ []) × (waiting ≡ []) }
-    requires name_out { calls_out.name ≡ O.name }
-    requires parts_out { calls_out.parts ≡ O.parts }
-    requires three_out { 3 ≤ calls_out.parts }
-    requires name_held { calls_held.name ≡ L.name }
-    requires parts_held { calls_held.parts ≡ L.parts }
-    requires three_held { 3 ≤ calls_held.parts }
-    ensures ok { OnOk result.ended (Appends (W.contents writer) (W.contents result.writer) (told_session console.now)) }
-    ensures fault { IfErr result.ended (λ e. (taken : Option (List ℕ)) × WritesFront (W.contents writer) taken (told_session console.now)
-        × (rest : List ℕ) × Appends (W.contents result.writer) taken rest) }
-{
-    let sink = WriteSink::<W, O>::new(writer, calls_out);
-    let (ended, sink) = session_buffered::<_, L>(console, held, waiting, sink, calls_held);
-    Told {
-        ended,
-        writer: sink.into_writer(),
-    }
-}
-
-/// Writes the session of a console to a writer of the standard library.
-fn session_to<W: Write + Drop>(
-    console: &Console,
-    held: &mut AnswerBuffer,
-    waiting: Waiting,
-    writer: W,
-) -> Told<W>
-    requires { (held.old ≡ []) × (waiting ≡ []) }
-    ensures ok { OnOk result.ended (Appends (W.contents writer) (W.contents result.writer) (told_session console.now)) }
-    ensures fault { IfErr result.ended (λ e. (taken : Option (List ℕ)) × WritesFront (W.contents writer) taken (told_session console.now)
-        × (rest : List ℕ) × Appends (W.contents result.writer) taken rest) }
-{
-    session_counted::<_, Brand, Brand>(console, held, waiting, writer, Blank::new(3), Blank::new(3))
-}
-
-/// How a run ended, whether its workers' ends were told, and the two writers as they are then.
+/// How a run ended, and the two sinks as they are then.
 #[derive(Drop)]
 pub struct Ran<E: Drop, W: Drop> {
     pub ended: Result<(), RunFault>,
-    pub told: Result<(), SinkFailed>,
     pub errors: E,
     pub writer: W,
 }
 
 /// Tells how the workers ended to `errors`, also where the session cannot be written.
-fn tell<E: Write + Drop, W: Write + Drop>(made: Played, errors: E, writer: W) -> Ran<E, W>
+fn tell<E: Sink + Drop, W: Sink + Drop>(made: Played, mut errors: E, writer: W) -> Ran<E, W>
     requires { (made.for_ends ≡ []) × (made.for_session ≡ []) × (made.waiting ≡ []) }
-    ensures told { Writes (E.contents errors) (E.contents result.errors) (flat_map ending_text made.endings.items) result.told }
-    ensures ok { OnOk result.ended (Appends (W.contents writer) (W.contents result.writer) (told_session made.console)) }
-    ensures fault { IfErr result.ended (λ e. (e ≡ RunFault.Write) × (taken : Option (List ℕ)) × WritesFront (W.contents writer) taken (told_session made.console)
-        × (rest : List ℕ) × Appends (W.contents result.writer) taken rest) }
+    ensures told { (told : Result (Unit {0}) SinkFailed)
+        × Writes (E.contents errors) (E.contents result.errors) (flat_map ending_text made.endings.items) told
+        × (E.failures result.errors ≡ E.failures errors + sink_faults told) }
+    ensures ok { OnOk result.ended (Appends (W.contents writer) (W.contents result.writer) (told_session made.console)
+        × (W.failures result.writer ≡ W.failures writer) × (W.waiting result.writer ≡ [])) }
+    ensures fault { IfErr result.ended (λ e. (e ≡ RunFault.Write)
+        × StopsTelling made.console (sink_state W.contents W.waiting W.failures W.flushes writer)
+        (sink_state W.contents W.waiting W.failures W.flushes result.writer)) }
 {
     let Played {
         console,
@@ -271,14 +201,19 @@ fn tell<E: Write + Drop, W: Write + Drop>(made: Played, errors: E, writer: W) ->
         mut for_session,
         waiting,
     } = made;
-    let told = ends_to(&mut for_ends, &endings, errors);
-    let printed = session_to(&console, &mut for_session, waiting, writer);
-    let ended = write_fault(printed.ended);
+    // What cannot be told is left out.
+    let _ = write_endings(&mut errors, &mut for_ends, &endings);
+    let (printed, writer) = session_buffered::<_, Brand>(
+        &console,
+        &mut for_session,
+        waiting,
+        writer,
+        Blank::new(3),
+    );
     Ran {
-        ended,
-        told: told.ended,
-        errors: told.writer,
-        writer: printed.writer,
+        ended: write_fault(printed),
+        errors,
+        writer,
     }
 }
 
@@ -286,7 +221,7 @@ fn tell<E: Write + Drop, W: Write + Drop>(made: Played, errors: E, writer: W) ->
 /// machines' numbers, then the sharer, the swapper and the policy. Writes the session that they made to `writer`.
 ///
 /// How far the workers are is told to `to`, where there is one.
-pub fn run_to<R: Threads + Wait + Sync, P: Print + Sync, E: Write + Drop, W: Write + Drop>(
+pub fn run_to<R: Threads + Wait + Sync, P: Print + Sync, E: Sink + Drop, W: Sink + Drop>(
     rt: &R,
     alloc: Global,
     scenario: &Scenario,
@@ -294,14 +229,17 @@ pub fn run_to<R: Threads + Wait + Sync, P: Print + Sync, E: Write + Drop, W: Wri
     errors: E,
     writer: W,
 ) -> Ran<E, W>
-    ensures ok { OnOk result.ended (Plays scenario.now result.told (E.contents errors) (E.contents result.errors) (W.contents writer) (W.contents result.writer)) }
-    ensures fault { IfErr result.ended (λ e. RunStops e scenario.now result.told (E.contents errors) (E.contents result.errors) (W.contents writer) (W.contents result.writer)) }
+    ensures ok { OnOk result.ended (Plays scenario.now
+        (sink_state E.contents E.waiting E.failures E.flushes errors) (sink_state E.contents E.waiting E.failures E.flushes result.errors)
+        (sink_state W.contents W.waiting W.failures W.flushes writer) (sink_state W.contents W.waiting W.failures W.flushes result.writer)) }
+    ensures fault { IfErr result.ended (λ e. RunStops e scenario.now
+        (sink_state E.contents E.waiting E.failures E.flushes errors) (sink_state E.contents E.waiting E.failures E.flushes result.errors)
+        (sink_state W.contents W.waiting W.failures W.flushes writer) (sink_state W.contents W.waiting W.failures W.flushes result.writer)) }
 {
     match play_with_room(rt, alloc, scenario, to) {
         Ok(made) => tell(made, errors, writer),
         Err(fault) => Ran {
             ended: Err(fault),
-            told: Ok(()),
             errors,
             writer,
         },

@@ -10,10 +10,8 @@ ghost use Rattle.esx_plan.specs.Streams.{ComesOut};
 use crate::outgoing::{Outgoing, Waiting};
 use crate::site::serve_site;
 use esx_text::{ServeFault, give_up};
-use esx_types::{Config, ReadSource, Sink, Source, WriteSink};
+use esx_types::{Config, Sink, Source};
 use std::alloc::Global;
-use std::io::{Read, Write};
-use std::marker::Brand;
 use std::sync::ledger::{Blank, Ledger};
 
 /// Serves a site, lets its answers wait until more input is asked for, and gives the sink back.
@@ -55,72 +53,4 @@ pub fn serve_buffered<R: Source, W: Sink + Drop, L: Ledger>(
     let mut outgoing = Outgoing::<W, L>::new(writer, waiting, blank);
     let served = serve_site(alloc, config, reader, &mut outgoing);
     (served, outgoing.into_sink())
-}
-
-/// How a site was served, and the two streams as they are then.
-#[derive(Drop)]
-pub struct Served<R: Drop, W: Drop> {
-    pub ended: Result<u64, ServeFault>,
-    pub reader: R,
-    pub writer: W,
-}
-
-fn serve_counted<R: Read + Drop, W: Write + Drop, I: Ledger, O: Ledger, L: Ledger>(
-    alloc: Global,
-    config: Config,
-    reader: R,
-    writer: W,
-    calls_in: Blank,
-    calls_out: Blank,
-    calls_held: Blank,
-) -> Served<R, W>
-    requires config { IsConfig config }
-    requires name_in { calls_in.name ≡ I.name }
-    requires parts_in { calls_in.parts ≡ I.parts }
-    requires three_in { 3 ≤ calls_in.parts }
-    requires name_out { calls_out.name ≡ O.name }
-    requires parts_out { calls_out.parts ≡ O.parts }
-    requires three_out { 3 ≤ calls_out.parts }
-    requires name_held { calls_held.name ≡ L.name }
-    requires parts_held { calls_held.parts ≡ L.parts }
-    requires three_held { 3 ≤ calls_held.parts }
-    ensures ok { IfOk result.ended (λ n. (after : Session) × Answers 0 n (at_opening config) after
-        (R.remaining reader) (R.remaining result.reader) (W.contents writer) (W.contents result.writer)) }
-    ensures fault { IfErr result.ended (λ e. (after : Session) × (taken : Option (List ℕ)) × Faults e 0 (at_opening config) after
-        (R.remaining reader) (R.remaining result.reader) (W.contents writer) taken
-        × ComesOut e taken (W.contents result.writer)) }
-{
-    let mut source = ReadSource::<R, I>::new(reader, calls_in);
-    let sink = WriteSink::<W, O>::new(writer, calls_out);
-    let (ended, sink) = serve_buffered::<_, _, L>(alloc, config, &mut source, sink, calls_held);
-    Served {
-        ended,
-        reader: source.into_reader(),
-        writer: sink.into_writer(),
-    }
-}
-
-/// Serves a site between a reader and a writer of the standard library, and gives them back.
-pub fn serve_streams<R: Read + Drop, W: Write + Drop>(
-    alloc: Global,
-    config: Config,
-    reader: R,
-    writer: W,
-) -> Served<R, W>
-    requires { IsConfig config }
-    ensures ok { IfOk result.ended (λ n. (after : Session) × Answers 0 n (at_opening config) after
-        (R.remaining reader) (R.remaining result.reader) (W.contents writer) (W.contents result.writer)) }
-    ensures fault { IfErr result.ended (λ e. (after : Session) × (taken : Option (List ℕ)) × Faults e 0 (at_opening config) after
-        (R.remaining reader) (R.remaining result.reader) (W.contents writer) taken
-        × ComesOut e taken (W.contents result.writer)) }
-{
-    serve_counted::<_, _, Brand, Brand, Brand>(
-        alloc,
-        config,
-        reader,
-        writer,
-        Blank::new(3),
-        Blank::new(3),
-        Blank::new(3),
-    )
 }

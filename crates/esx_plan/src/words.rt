@@ -9,17 +9,17 @@ use clap::error::ErrorKind;
 use clap::{Arg, Command};
 use std::alloc::{AllocError, Global};
 
-/// What the words ask for.
-#[derive(Clone, Copy, Debug, PartialEq, Eq)]
-pub enum Asked<'a> {
+/// What the words ask for, with the path of a file or the file.
+#[derive(Debug, Drop, PartialEq, Eq)]
+pub enum Asked<F> {
     /// A console, at the site of the scenario in a file if one is named.
-    Console(Option<&'a str>),
+    Console(Option<F>),
     /// The run of the scenario in a file.
-    Run(&'a str),
+    Run(F),
     /// A session in a file, gone through again.
-    Replay(&'a str),
+    Replay(F),
     /// Whether the calls of a session in a file have the replies that stand with them.
-    Check(&'a str),
+    Check(F),
 }
 
 /// Why the words ask for nothing.
@@ -51,7 +51,7 @@ fn program<'a>(alloc: Global) -> Result<Command<'a>, AllocError>
 }
 
 /// What is asked for by a word and the file behind it. All words but a console want one.
-fn asked_for<'a>(word: &str, file: Option<&'a str>) -> Option<Asked<'a>>
+fn asked_for<'a>(word: &str, file: Option<&'a str>) -> Option<Asked<&'a str>>
     ensures { option_map word_and_file result ≡ asked_by word.now (option_map (λ f. f.now) file.entry) }
 {
     match word {
@@ -64,7 +64,7 @@ fn asked_for<'a>(word: &str, file: Option<&'a str>) -> Option<Asked<'a>>
 
 /// What the words ask for, the first of which is the program's name. Any refusal but for memory is `Wrong`,
 /// a request for help too.
-pub fn asked_of_words<'a>(alloc: Global, words: &'a [String]) -> Result<Asked<'a>, WordsFault>
+pub fn asked_of_words<'a>(alloc: Global, words: &'a [String]) -> Result<Asked<&'a str>, WordsFault>
     ensures ok { IfOk result (λ asked. asked_in (map string_bytes words.now) ≡ Some (word_and_file asked)) }
     ensures refused { IfErr result (λ e. e ≡ WordsFault.Wrong
         → (takes program_app (map string_bytes words.now) ≡ false) ⊎ (asked_in (map string_bytes words.now) ≡ None)) }

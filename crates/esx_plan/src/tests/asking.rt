@@ -9,7 +9,7 @@ use std::test::Fail;
 
 const SUM: &[u8] = b"overhead 0 private 0 shared 0 free 20 high\n";
 
-fn streams(alloc: Global) -> Streams<&'static [u8], Vec<u8>, Vec<u8>> {
+pub fn streams(alloc: Global) -> Streams<&'static [u8], Vec<u8>, Vec<u8>> {
     Streams {
         reader: b"sum\n".as_slice(),
         errors: Vec::new(alloc),

@@ -1,17 +1,23 @@
 //! Checks that tell how far they are, and checks that do not.
 
-use super::opening::Tape;
+use super::opening::taped;
 use super::running::disk;
-use crate::session::{check_watched, session_of_reader, status_of_check, tell_check_to};
-use crate::terminal;
+use crate::commands::{Ended, Streams};
+use crate::session::check_watched;
+use crate::standard::run_over;
+use crate::words::Asked;
+use crate::{Done, Failure, terminal};
 use esx_check::{Checked, OutputFault, check_session_through};
 use esx_reading::TextFault;
+use esx_session::parse_session;
 use esx_work::Gate;
-use std::alloc::Global;
+use std::alloc::{AllocGlobal, Global};
 use std::cell::RefCell;
 use std::fmt::Display;
-use std::io::{self, ErrorKind, IsTerminal, Print};
+use std::io::{self, ErrorKind, IsTerminal, Print, Stderr, Write};
+use std::sync::Wait;
 use std::test::Fail;
+use std::thread::Threads;
 
 /// A session, what its check comes to, the line and the status that tell it, and what a terminal is told on the
 /// way.
@@ -81,6 +87,23 @@ impl Print for Screen {
     }
 }
 
+/// Checks the session of a text, and gives the end and the writer.
+fn check<R: AllocGlobal + Threads + Wait + Sync, W: Write + Drop>(
+    rt: &R,
+    text: &'static str,
+    writer: W,
+) -> (Result<Done, Failure>, W) {
+    let file: io::Result<&'static [u8]> = Ok(text.as_bytes());
+    let to: Option<&Stderr> = None;
+    let streams = Streams {
+        reader: b"".as_slice(),
+        errors: Vec::new(rt.alloc()),
+        writer,
+    };
+    let Ended { ended, streams } = run_over(rt, Asked::Check(file), to, streams);
+    (ended, streams.writer)
+}
+
 /// What a check comes to and its line are the same with a terminal, with one that fails, and with none.
 #[test]
 fn told_or_not(rt: HostRuntime) -> Result<(), Fail> {
@@ -91,10 +114,13 @@ fn told_or_not(rt: HostRuntime) -> Result<(), Fail> {
         for to in [None, Some(&screen), Some(&broken)] {
             assert_eq!(rt; check_watched(alloc, row.text, to), Ok(row.checked));
         }
-        let told = tell_check_to(alloc, row.checked, Vec::new(alloc));
-        assert_eq!(rt; told.ended, Ok(()));
-        assert!(rt; told.writer.as_slice() == row.line);
-        assert_eq!(rt; status_of_check(row.checked), row.status);
+        let (ended, writer) = check(&rt, row.text, Vec::new(alloc));
+        let Ok(done) = ended else {
+            panic!(rt; "the check failed");
+        };
+        assert_eq!(rt; done, Done::Checked(row.checked));
+        assert_eq!(rt; done.status(), row.status);
+        assert!(rt; writer.as_slice() == row.line);
         let Ok(told) = screen.told.try_borrow() else {
             panic!(rt; "the screen is in use");
         };
@@ -123,7 +149,7 @@ impl Gate for Closed {
 fn turns_of_a_gate(rt: HostRuntime) -> Result<(), Fail> {
     let alloc = rt.alloc();
     for row in &ROWS {
-        let Ok(session) = session_of_reader(alloc, row.text.as_bytes()) else {
+        let Ok(session) = parse_session(alloc, row.text) else {
             return Err(Fail::new("the session"));
         };
         let mut gate = Closed {
@@ -142,10 +168,11 @@ fn turns_of_a_gate(rt: HostRuntime) -> Result<(), Fail> {
 /// A disk that is full holds a front of the line, and then the check was not told.
 #[test]
 fn a_full_disk(rt: HostRuntime) {
-    let alloc = rt.alloc();
-    let told = tell_check_to(alloc, Checked::Same(3), disk(alloc, 4));
-    assert_eq!(rt; told.ended, Err(OutputFault::Write));
-    assert!(rt; told.writer.bytes.as_slice() == b"same".as_slice());
+    for row in &ROWS {
+        let (ended, writer) = check(&rt, row.text, disk(rt.alloc(), 4));
+        assert!(rt; matches!(&ended, Err(Failure::Output(OutputFault::Write))));
+        assert!(rt; writer.bytes.as_slice() == &row.line[..4]);
+    }
 }
 
 /// A bad line behind a difference is the fault, also of a check.
@@ -176,26 +203,36 @@ fn terminals(rt: HostRuntime) {
     assert!(rt; terminal(&Lines { is_terminal: false }).is_none());
 }
 
-/// What a file that has no session is refused with.
-fn fault_of(alloc: Global, text: &'static [u8], fails: bool) -> Result<TextFault, Fail> {
-    match session_of_reader(alloc, Tape { text, fails }) {
-        Ok(_) => Err(Fail::new("a session")),
-        Err(fault) => Ok(fault),
+/// What a replay of a file that has no session is refused with.
+fn fault_of<R: AllocGlobal + Threads + Wait + Sync>(
+    rt: &R,
+    text: &'static [u8],
+    fails: bool,
+) -> Result<TextFault, Fail> {
+    let to: Option<&Stderr> = None;
+    let streams = Streams {
+        reader: b"".as_slice(),
+        errors: Vec::new(rt.alloc()),
+        writer: Vec::new(rt.alloc()),
+    };
+    let Ended { ended, streams } = run_over(rt, Asked::Replay(taped(text, fails)), to, streams);
+    match ended {
+        Err(Failure::Text(fault)) if streams.writer.is_empty() => Ok(fault),
+        _ => Err(Fail::new("a session")),
     }
 }
 
 #[test]
 fn no_sessions(rt: HostRuntime) -> Result<(), Fail> {
-    let alloc = rt.alloc();
-    assert_eq!(rt; fault_of(alloc, b"", false)?, TextFault::BadLine(1));
+    assert_eq!(rt; fault_of(&rt, b"", false)?, TextFault::BadLine(1));
     assert_eq!(rt;
-        fault_of(alloc, b"esx session 1\n", false)?,
+        fault_of(&rt, b"esx session 1\n", false)?,
         TextFault::BadLine(2)
     );
     assert_eq!(rt;
-        fault_of(alloc, b"esx session 1\n\xff", false)?,
+        fault_of(&rt, b"esx session 1\n\xff", false)?,
         TextFault::NotText
     );
-    assert_eq!(rt; fault_of(alloc, b"esx session 1\n", true)?, TextFault::Read);
+    assert_eq!(rt; fault_of(&rt, b"esx session 1\n", true)?, TextFault::Read);
     Ok(())
 }

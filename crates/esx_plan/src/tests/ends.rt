@@ -1,15 +1,37 @@
 //! The program's streams between ends that wait for answers, fail, or are interrupted.
 
-use crate::SITE;
-use crate::streams::serve_streams;
+use super::opening::Tape;
+use crate::commands::{Ended, Streams};
+use crate::standard::run_over;
+use crate::words::Asked;
+use crate::{Done, Failure};
 use esx_text::ServeFault;
-use std::alloc::Global;
+use std::alloc::AllocGlobal;
 use std::cell::RefCell;
-use std::io::{self, ErrorKind, Read, Write};
+use std::io::{self, ErrorKind, Read, Stderr, Write};
 use std::rc::Rc;
+use std::sync::Wait;
 use std::test::Fail;
+use std::thread::Threads;
 
 const SUM: &[u8] = b"overhead 0 private 0 shared 0 free 20 high\n";
+
+/// Serves a console between two ends, and gives the end and the writer.
+fn serve<R: AllocGlobal + Threads + Wait + Sync, I: Read + Drop, W: Write + Drop>(
+    rt: &R,
+    reader: I,
+    writer: W,
+) -> (Result<Done, Failure>, W) {
+    let file: Option<io::Result<Tape>> = None;
+    let to: Option<&Stderr> = None;
+    let streams = Streams {
+        reader,
+        errors: Vec::new(rt.alloc()),
+        writer,
+    };
+    let Ended { ended, streams } = run_over(rt, Asked::Console(file), to, streams);
+    (ended, streams.writer)
+}
 
 /// What is asked next, and all that has to be written by then.
 struct Turn {
@@ -94,8 +116,8 @@ fn answers_before_more_input(rt: HostRuntime) -> Result<(), Fail> {
     let terminal = Terminal {
         screen: screen.clone()?,
     };
-    let served = serve_streams(rt.alloc(), SITE, person, terminal);
-    assert_eq!(rt; served.ended, Ok(4));
+    let (ended, _) = serve(&rt, person, terminal);
+    assert!(rt; matches!(&ended, Ok(Done::Served)));
     let Ok(written) = screen.try_borrow() else {
         panic!(rt; "the screen is in use");
     };
@@ -131,25 +153,28 @@ impl Write for Disk {
 }
 
 /// Serves one `sum` onto a disk with so much room.
-fn onto_disk(alloc: Global, room: usize) -> (Result<u64, ServeFault>, Vec<u8>) {
+fn onto_disk<R: AllocGlobal + Threads + Wait + Sync>(
+    rt: &R,
+    room: usize,
+) -> (Result<Done, Failure>, Vec<u8>) {
     let disk = Disk {
         room,
-        bytes: Vec::new(alloc),
+        bytes: Vec::new(rt.alloc()),
     };
-    let served = serve_streams(alloc, SITE, b"sum\n".as_slice(), disk);
-    (served.ended, served.writer.bytes)
+    let (ended, disk) = serve(rt, b"sum\n".as_slice(), disk);
+    (ended, disk.bytes)
 }
 
 /// A disk that is full at the last flush is a fault of writing.
 #[test]
 fn a_full_disk(rt: HostRuntime) -> Result<(), Fail> {
     for room in 0..SUM.len() {
-        let (ended, bytes) = onto_disk(rt.alloc(), room);
-        assert_eq!(rt; ended, Err(ServeFault::Write));
+        let (ended, bytes) = onto_disk(&rt, room);
+        assert!(rt; matches!(&ended, Err(Failure::Serve(ServeFault::Write))));
         assert!(rt; bytes.as_slice() == &SUM[..room]);
     }
-    let (ended, bytes) = onto_disk(rt.alloc(), SUM.len());
-    assert_eq!(rt; ended, Ok(1));
+    let (ended, bytes) = onto_disk(&rt, SUM.len());
+    assert!(rt; matches!(&ended, Ok(Done::Served)));
     assert!(rt; bytes.as_slice() == SUM);
     Ok(())
 }
@@ -171,8 +196,8 @@ impl Write for Stuck {
 /// A writer that cannot flush is a fault of writing, also where there is nothing to answer.
 #[test]
 fn a_writer_that_cannot_flush(rt: HostRuntime) {
-    let served = serve_streams(rt.alloc(), SITE, b"".as_slice(), Stuck);
-    assert_eq!(rt; served.ended, Err(ServeFault::Write));
+    let (ended, _) = serve(&rt, b"".as_slice(), Stuck);
+    assert!(rt; matches!(&ended, Err(Failure::Serve(ServeFault::Write))));
 }
 
 /// An end whose every other call is interrupted, and which moves one byte at a time.
@@ -235,11 +260,11 @@ impl<W: Write + Drop> Write for Shaky<W> {
 fn interrupted_ends(rt: HostRuntime) -> Result<(), Fail> {
     let reader = Shaky::new(b"sum\n".as_slice());
     let writer = Shaky::new(Vec::new(rt.alloc()));
-    let served = serve_streams(rt.alloc(), SITE, reader, writer);
-    assert_eq!(rt; served.ended, Ok(1));
-    assert!(rt; served.writer.end.as_slice() == SUM);
+    let (ended, writer) = serve(&rt, reader, writer);
+    assert!(rt; matches!(&ended, Ok(Done::Served)));
+    assert!(rt; writer.end.as_slice() == SUM);
     // four bytes, and the end
-    assert_eq!(rt; served.writer.flushes, 6);
+    assert_eq!(rt; writer.flushes, 6);
     Ok(())
 }
 
@@ -264,8 +289,8 @@ fn a_broken_reader(rt: HostRuntime) -> Result<(), Fail> {
     let reader = Cut {
         bytes: b"sum\nstart 0",
     };
-    let served = serve_streams(rt.alloc(), SITE, reader, Vec::new(rt.alloc()));
-    assert_eq!(rt; served.ended, Err(ServeFault::Read));
-    assert!(rt; served.writer.as_slice() == SUM);
+    let (ended, bytes) = serve(&rt, reader, Vec::new(rt.alloc()));
+    assert!(rt; matches!(&ended, Err(Failure::Serve(ServeFault::Read))));
+    assert!(rt; bytes.as_slice() == SUM);
     Ok(())
 }

@@ -1,14 +1,15 @@
-//! The program's words, and the sites of scenarios that readers give.
+//! The program's words, and the sites of scenarios in files.
 
-use crate::SITE;
-use crate::files::site_of_file;
-use crate::opening::site_of_reader;
+use super::asking::streams;
+use crate::Failure;
+use crate::commands::Ended;
+use crate::standard::run_over;
 use crate::words::{Asked, WordsFault, asked_of_words};
-use esx_reading::TextFault;
-use esx_types::Config;
-use std::alloc::{AllocError, Global};
-use std::io::{self, ErrorKind, Read};
+use std::alloc::{AllocError, AllocGlobal, Global};
+use std::io::{self, ErrorKind, Read, Stderr};
+use std::sync::Wait;
 use std::test::Fail;
+use std::thread::Threads;
 
 /// Reads words that are given in one line, with one space between each and the next.
 pub fn words_of(alloc: Global, line: &str) -> Result<Vec<String>, AllocError> {
@@ -85,56 +86,69 @@ impl Read for Tape {
 
 const SMALL: &[u8] = b"version = 1\n[machine]\nframes = 20\npage = 16\nslots = 8\n";
 
-#[test]
-fn sites(rt: HostRuntime) -> Result<(), Fail> {
-    let alloc = rt.alloc();
-    let small = Tape {
-        text: SMALL,
-        fails: false,
-    };
-    assert!(rt; site_of_reader(alloc, small) == Ok(SITE));
-    let other = Tape {
-        text: b"version = 1\n[machine]\nframes = 8\npage = 32\nslots = 0\nnodes = 2\n",
-        fails: false,
-    };
-    let config = Config {
-        frames: 8,
-        page: 32,
-        slots: 0,
-        nodes: 2,
-        ..SITE
-    };
-    assert!(rt; site_of_reader(alloc, other) == Ok(config));
-    let failing = Tape {
-        text: SMALL,
-        fails: true,
-    };
-    assert!(rt; site_of_reader(alloc, failing) == Err(TextFault::Read));
-    let bytes = Tape {
-        text: b"version = 1\n\xff",
-        fails: false,
-    };
-    assert!(rt; site_of_reader(alloc, bytes) == Err(TextFault::NotText));
-    let cut = Tape {
-        text: b"frames = ",
-        fails: false,
-    };
-    assert!(rt; site_of_reader(alloc, cut) == Err(TextFault::NotToml));
-    let Err(fault) = site_of_reader(
-        alloc,
-        Tape {
-            text: b"version = 2",
-            fails: false,
-        },
-    ) else {
-        panic!(rt; "a bad scenario was taken");
-    };
-    assert_eq!(rt; fault.to_string(alloc)?.as_str(), "bad key version");
-    Ok(())
+const OTHER: &[u8] = b"version = 1\n[machine]\nframes = 8\npage = 32\nslots = 0\nnodes = 2\n";
+
+/// Serves one `sum` at the site of a file, and gives what is answered.
+fn sum_at<R: AllocGlobal + Threads + Wait + Sync>(
+    rt: &R,
+    opened: io::Result<Tape>,
+) -> Result<Vec<u8>, Failure> {
+    let to: Option<&Stderr> = None;
+    let Ended { ended, streams } = run_over(
+        rt,
+        Asked::Console(Some(opened)),
+        to,
+        streams(rt.alloc()),
+    );
+    match ended {
+        Ok(_) => Ok(streams.writer),
+        Err(failure) => Err(failure),
+    }
 }
 
-/// A file that is not there cannot be read.
+pub fn taped(text: &'static [u8], fails: bool) -> io::Result<Tape> {
+    Ok(Tape { text, fails })
+}
+
+/// A console is served at the site of the scenario in its file.
 #[test]
-fn no_file(rt: HostRuntime) {
-    assert!(rt; site_of_file(&rt, "no such folder/a.toml") == Err(TextFault::Read));
+fn sites(rt: HostRuntime) {
+    let rows = [
+        (
+            SMALL,
+            b"overhead 0 private 0 shared 0 free 20 high\n".as_slice(),
+        ),
+        (
+            OTHER,
+            b"overhead 0 private 0 shared 0 free 8 high\n".as_slice(),
+        ),
+    ];
+    for (text, answer) in &rows {
+        let Ok(bytes) = sum_at(&rt, taped(*text, false)) else {
+            panic!(rt; "a good scenario was refused");
+        };
+        assert!(rt; bytes.as_slice() == *answer);
+    }
+}
+
+/// A file that has no scenario, that fails, or that was not opened is told so.
+#[test]
+fn no_sites(rt: HostRuntime) -> Result<(), Fail> {
+    let alloc = rt.alloc();
+    let rows = [
+        (taped(SMALL, true), 1, "read fault"),
+        (taped(b"version = 1\n\xff", false), 1, "bad text"),
+        (taped(b"frames = ", false), 1, "bad toml"),
+        (taped(b"version = 2", false), 1, "bad key version"),
+        (Err(io::Error::from(ErrorKind::NotFound)), 1, "read fault"),
+        (Err(io::Error::from(ErrorKind::OutOfMemory)), 3, "no memory"),
+    ];
+    for (opened, status, text) in rows {
+        let Err(failure) = sum_at(&rt, opened) else {
+            panic!(rt; "a bad scenario was taken");
+        };
+        assert_eq!(rt; failure.status(), status);
+        assert_eq!(rt; failure.to_string(alloc)?.as_str(), text);
+    }
+    Ok(())
 }

@@ -1,14 +1,19 @@
 //! Runs of scenarios, and what is told of them.
 
 use super::ends::Disk;
-use crate::running::{RunFault, run_to};
+use crate::commands::{Ended, Streams};
+use crate::running::RunFault;
 use crate::session::check_watched;
+use crate::standard::run_over;
+use crate::words::Asked;
+use crate::{Done, Failure};
 use esx_check::Checked;
 use esx_events::Refusal;
-use esx_scenario::{Scenario, parse_scenario};
-use std::alloc::Global;
-use std::io::Stderr;
+use std::alloc::{AllocGlobal, Global};
+use std::io::{self, Stderr, Write};
+use std::sync::Wait;
 use std::test::Fail;
+use std::thread::Threads;
 
 const TWO_GUESTS: &str =
     "version = 1\n[machine]\nframes = 20\npage = 16\nslots = 8\n[run]\nturns = 6\n[[vm]]\nid = 1\nmin = 2\nmax = 6\noverhead = 1\nshares = 1000\nballoon = 0\ntrace = [\"read 0 0 1\", \"read 1 0 1\", \"read 2 0 1\", \"read 3 0 1\", \"read 4 0 1\"]\n[[vm]]\nid = 0\nmin = 2\nmax = 6\noverhead = 1\nshares = 1000\nballoon = 0\ntrace = [\"read 0 0 1\", \"read 1 0 1\", \"read 2 0 1\", \"read 3 0 1\", \"read 4 0 1\"]\n";
@@ -18,11 +23,23 @@ const TOO_MUCH: &str =
 
 const ENDS: &[u8] = b"guest 0 done\nguest 1 done\nsharer turns\nswapper turns\npolicy turns\n";
 
-fn scenario_of(alloc: Global, text: &str) -> Result<Scenario, Fail> {
-    match parse_scenario(alloc, text) {
-        Ok(scenario) => Ok(scenario),
-        Err(_) => Err(Fail::new("the scenario")),
-    }
+/// Runs the scenario of a text, and gives the end and the two writers.
+fn run<R: AllocGlobal + Threads + Wait + Sync, E: Write + Drop, W: Write + Drop>(
+    rt: &R,
+    text: &'static str,
+    errors: E,
+    writer: W,
+) -> (Result<Done, Failure>, E, W) {
+    let file: io::Result<&'static [u8]> = Ok(text.as_bytes());
+    let to: Option<&Stderr> = None;
+    let streams = Streams {
+        reader: b"".as_slice(),
+        errors,
+        writer,
+    };
+    let Ended { ended, streams } = run_over(rt, Asked::Run(file), to, streams);
+    let Streams { errors, writer, .. } = streams;
+    (ended, errors, writer)
 }
 
 pub fn disk(alloc: Global, room: usize) -> Disk {
@@ -36,14 +53,13 @@ pub fn disk(alloc: Global, room: usize) -> Disk {
 #[test]
 fn a_run(rt: HostRuntime) -> Result<(), Fail> {
     let alloc = rt.alloc();
-    let scenario = scenario_of(alloc, TWO_GUESTS)?;
-    let to: Option<&Stderr> = None;
-    let ran = run_to(&rt, alloc, &scenario, to, Vec::new(alloc), Vec::new(alloc));
-    assert_eq!(rt; ran.ended, Ok(()));
-    assert!(rt; ran.errors.as_slice() == ENDS);
-    let Ok(text) = String::from_utf8(ran.writer) else {
+    let (ended, errors, writer) = run(&rt, TWO_GUESTS, Vec::new(alloc), Vec::new(alloc));
+    assert!(rt; matches!(&ended, Ok(Done::Ran)));
+    assert!(rt; errors.as_slice() == ENDS);
+    let Ok(text) = String::from_utf8(writer) else {
         return Err(Fail::new("a text"));
     };
+    let to: Option<&Stderr> = None;
     assert_eq!(rt;
         check_watched(alloc, text.as_str(), to),
         Ok(Checked::Same(32))
@@ -52,28 +68,27 @@ fn a_run(rt: HostRuntime) -> Result<(), Fail> {
 }
 
 #[test]
-fn a_refused_opening(rt: HostRuntime) -> Result<(), Fail> {
+fn a_refused_opening(rt: HostRuntime) {
     let alloc = rt.alloc();
-    let scenario = scenario_of(alloc, TOO_MUCH)?;
-    let to: Option<&Stderr> = None;
-    let ran = run_to(&rt, alloc, &scenario, to, Vec::new(alloc), Vec::new(alloc));
-    assert_eq!(rt; ran.ended, Err(RunFault::Refused(Refusal::NoMemoryReserve)));
-    assert!(rt; ran.errors.is_empty() && ran.writer.is_empty());
-    Ok(())
+    let (ended, errors, writer) = run(&rt, TOO_MUCH, Vec::new(alloc), Vec::new(alloc));
+    assert!(rt;
+        matches!(
+            &ended,
+            Err(Failure::Run(RunFault::Refused(Refusal::NoMemoryReserve)))
+        )
+    );
+    assert!(rt; errors.is_empty() && writer.is_empty());
 }
 
 /// The ends are told also where the session cannot be written, and the session where the ends cannot.
 #[test]
-fn runs_onto_full_disks(rt: HostRuntime) -> Result<(), Fail> {
+fn runs_onto_full_disks(rt: HostRuntime) {
     let alloc = rt.alloc();
-    let scenario = scenario_of(alloc, TWO_GUESTS)?;
-    let to: Option<&Stderr> = None;
-    let ran = run_to(&rt, alloc, &scenario, to, Vec::new(alloc), disk(alloc, 14));
-    assert_eq!(rt; ran.ended, Err(RunFault::Write));
-    assert!(rt; ran.errors.as_slice() == ENDS);
-    assert!(rt; ran.writer.bytes.as_slice() == b"esx session 1\n".as_slice());
-    let ran = run_to(&rt, alloc, &scenario, to, disk(alloc, 0), Vec::new(alloc));
-    assert_eq!(rt; ran.ended, Ok(()));
-    assert!(rt; ran.told.is_err() && !ran.writer.is_empty());
-    Ok(())
+    let (ended, errors, writer) = run(&rt, TWO_GUESTS, Vec::new(alloc), disk(alloc, 14));
+    assert!(rt; matches!(&ended, Err(Failure::Run(RunFault::Write))));
+    assert!(rt; errors.as_slice() == ENDS);
+    assert!(rt; writer.bytes.as_slice() == b"esx session 1\n".as_slice());
+    let (ended, errors, writer) = run(&rt, TWO_GUESTS, disk(alloc, 0), Vec::new(alloc));
+    assert!(rt; matches!(&ended, Ok(Done::Ran)));
+    assert!(rt; errors.bytes.is_empty() && !writer.is_empty());
 }

@@ -1,11 +1,14 @@
-use Rattle.esx_plan.proofs.DoingLemmas.{file_checked, no_check}
-use Rattle.esx_plan.specs.Status.{AreInFile}
+use Rattle.std.proofs.Common.{refl}
+use Rattle.esx_plan.specs.Files.{HasText}
+use Rattle.esx_plan.proofs.DoingLemmas.{file_checked}
+use Rattle.esx_plan.proofs.FileLemmas.{no_text_no_session}
 use Rattle.esx_plan.proofs.commands.check_file.Goals as goal
 
 pub returns-in-Ok : goal.returns-in-Ok
 returns-in-Ok g c =
-    let here : AreInFile g.R.File.Read.remaining c.as_str.result.now = rw c.as_str.ensures.value c.in-Ok.ensures.text in
-    file_checked g.R.File.Read.remaining _ _ c.as_str.result.now here c.check_to.result.ended c.check_to.ensures.told c.check_to.ensures.failure
+    let read = c.in-Ok.ensures in
+    let here : HasText read.0 c.as_str.result.now = rw c.as_str.ensures.value read.2 in
+    (read.0, read.1, file_checked read.0 _ _ c.as_str.result.now here c.check_to.result.ended c.check_to.ensures.told c.check_to.ensures.failure)
 
 pub returns-in-Err : goal.returns-in-Err
-returns-in-Err g c = no_check _ _ c.in-Err.failure c.in-Err.ensures.no_text
+returns-in-Err g c = let none = c.in-Err.ensures in (none.0, none.1, (no_text_no_session none.0 c.in-Err.fault none.3, refl))

@@ -4,8 +4,12 @@ use Rattle.esx_plan.proofs.commands.run_file.Goals as goal
 
 pub returns-in-Ok : goal.returns-in-Ok
 returns-in-Ok g c =
-    rw c.ran_as-ended.ensures
-    (run_ends _ c.in-Ok.scenario c.run_to-ran.result.told _ _ _ _ c.run_to-ran.result.ended c.in-Ok.ensures.scenario c.run_to-ran.ensures.ok c.run_to-ran.ensures.fault)
+    let here = c.in-Ok.ensures in (
+      here.0,
+      here.1,
+      rw c.ran_as-ended.ensures
+          (run_ends here.0 c.in-Ok.scenario _ _ _ _ c.run_to-ran.result.ended here.2 c.run_to-ran.ensures.ok c.run_to-ran.ensures.fault),
+    )
 
 pub returns-in-Err : goal.returns-in-Err
-returns-in-Err g c = (c.in-Err.ensures.fault, refl, refl)
+returns-in-Err g c = let none = c.in-Err.ensures in (none.0, none.1, (none.3, refl, refl))

@@ -1,0 +1,99 @@
+-- What a file that was opened and read comes to.
+use Rattle.std.proofs.Common.{◌≡◌, ◌⊎◌, ℕ, List, Option, Result, Ok, Err, refl}
+use Rattle.std.specs.Prelude.{◌+◌, ◌^◌, IsUtf8}
+use Rattle.std.specs.Result.{IfErr, IfOk, IsErrOf}
+use Rattle.std.specs.IoError.{error_kind}
+use Rattle.std.specs.declared.io.Error.{Error}
+use Rattle.esx_reading.specs.declared.fault.TextFault.{TextFault}
+use Rattle.esx_reading.specs.declared.fault.TextFault.TheVariants.{NotToml, BadKey, BadLine, NotText, Differs, Read, Write, OutOfMemory}
+use Rattle.esx_reading.specs.Whole.{GivesMore, GivesWhole, IsOfText}
+use Rattle.esx_scenario.specs.Scenarios.{IsRefused as IsNoPlan}
+use Rattle.esx_session.specs.Sessions.{IsRefused}
+use Rattle.esx_plan.specs.Files.{HasText, IsNoScenario, IsNoSession, IsNoText, LacksSession, LacksText, Opened}
+use Rattle.esx_plan.specs.States.{SourceState}
+
+module _ (old new : SourceState) where
+  no_text_of : (e : TextFault) → IsOfText e
+      → (e ≡ NotText → (bytes : List ℕ) × GivesWhole old.remaining new.remaining bytes × (IsUtf8 bytes → ⊥))
+      → (e ≡ Read → (new.failures ≡ old.failures + 1)
+      ⊎ ((new.failures ≡ old.failures) × ((new.calls ≡ old.calls + 2 ^ 26) ⊎ GivesMore old.remaining new.remaining)))
+      → IsNoText old new e
+  no_text_of NotToml is none fails = is
+  no_text_of (BadKey path) is none fails = is
+  no_text_of (BadLine n) is none fails = is
+  no_text_of NotText is none fails = none refl
+  no_text_of (Differs k) is none fails = is
+  no_text_of Read is none fails = fails refl
+  no_text_of Write is none fails = is
+  no_text_of OutOfMemory is none fails = tt
+
+  -- a text that could not be read
+  pub no_text : {T : Type 0} (r : Result T TextFault) → IfErr r IsOfText
+      → (IsErrOf r NotText → (bytes : List ℕ) × GivesWhole old.remaining new.remaining bytes × (IsUtf8 bytes → ⊥))
+      → (IsErrOf r Read → (new.failures ≡ old.failures + 1)
+      ⊎ ((new.failures ≡ old.failures) × ((new.calls ≡ old.calls + 2 ^ 26) ⊎ GivesMore old.remaining new.remaining)))
+      → IfErr r (IsNoText old new)
+  no_text (Ok v) is none fails = tt
+  no_text (Err e) is none fails = no_text_of e is (λ h. none (cc)) (λ h. fails (cc))
+
+  -- it has no scenario either
+  pub no_scenario_unread : (e : TextFault) → IsNoText old new e → IsNoScenario old new e
+  no_scenario_unread NotToml n = absurd n
+  no_scenario_unread (BadKey path) n = absurd n
+  no_scenario_unread (BadLine k) n = n
+  no_scenario_unread NotText n = n
+  no_scenario_unread (Differs k) n = n
+  no_scenario_unread Read n = n
+  no_scenario_unread Write n = n
+  no_scenario_unread OutOfMemory n = n
+
+  -- nor a session
+  pub no_session_unread : (e : TextFault) → IsNoText old new e → IsNoSession old new e
+  no_session_unread NotToml n = n
+  no_session_unread (BadKey path) n = n
+  no_session_unread (BadLine k) n = absurd n
+  no_session_unread NotText n = n
+  no_session_unread (Differs k) n = n
+  no_session_unread Read n = n
+  no_session_unread Write n = n
+  no_session_unread OutOfMemory n = n
+
+  -- a text that was refused
+  module _ (text : List ℕ) (given : GivesWhole old.remaining new.remaining text) where
+    no_plan_of : (e : TextFault) → IsNoPlan text e → IsNoScenario old new e
+    no_plan_of NotToml n = (text, given, n)
+    no_plan_of (BadKey path) n = (text, given, n)
+    no_plan_of (BadLine k) n = n
+    no_plan_of NotText n = absurd n
+    no_plan_of (Differs k) n = n
+    no_plan_of Read n = absurd n
+    no_plan_of Write n = n
+    no_plan_of OutOfMemory n = tt
+
+    pub no_scenario : {T : Type 0} (r : Result T TextFault) → IfErr r (IsNoPlan text) → IfErr r (IsNoScenario old new)
+    no_scenario (Ok v) n = tt
+    no_scenario (Err e) n = no_plan_of e n
+
+    no_session_of : (e : TextFault) → IsRefused e text → IsNoSession old new e
+    no_session_of NotToml n = n
+    no_session_of (BadKey path) n = n
+    no_session_of (BadLine k) n = (text, given, n)
+    no_session_of NotText n = absurd n
+    no_session_of (Differs k) n = n
+    no_session_of Read n = absurd n
+    no_session_of Write n = n
+    no_session_of OutOfMemory n = tt
+
+    pub no_session : {T : Type 0} (r : Result T TextFault) → IfErr r (λ e. IsRefused e text) → IfErr r (IsNoSession old new)
+    no_session (Ok v) n = tt
+    no_session (Err e) n = no_session_of e n
+
+-- a file that has no text has no session
+pub no_text_no_session : (read : Opened) (e : TextFault) → LacksText read e → LacksSession read e
+no_text_no_session (Ok states) e n = no_session_unread states.0 states.1 e n
+no_text_no_session (Err error) e n = n
+
+-- a file whose text was refused
+pub text_refused : (read : Opened) (text : List ℕ) (e : TextFault) → HasText read text → IsRefused e text → LacksSession read e
+text_refused (Ok states) text e here n = no_session_of states.0 states.1 text here e n
+text_refused (Err error) text e here n = absurd here

@@ -1,0 +1,86 @@
+-- Files as they were opened and read.
+use Rattle.std.specs.Prelude.{◌≡◌, ◌⊎◌, ℕ, ◌+◌, ◌^◌, List, Option, Result, Ok, Err, IsUtf8}
+use Rattle.std.specs.IoError.{error_kind}
+use Rattle.std.specs.declared.io.Error.{Error}
+use Rattle.esx_types.specs.declared.config.Config.{Config}
+use Rattle.esx_reading.specs.declared.fault.TextFault.{TextFault}
+use Rattle.esx_reading.specs.declared.fault.TextFault.TheVariants.{NotToml, BadKey, BadLine, NotText, Read, OutOfMemory}
+use Rattle.esx_reading.specs.Whole.{GivesMore, GivesWhole}
+use Rattle.esx_scenario.specs.Plans.{Plan}
+use Rattle.esx_scenario.specs.Scenarios.{IsScenario, IsRefused as IsNoPlan}
+use Rattle.esx_session.specs.declared.session.Entry.{Entry}
+use Rattle.esx_session.specs.Sessions.{IsRefused, Reads}
+use Rattle.esx_plan.specs.Given.{open_fault}
+use Rattle.esx_plan.specs.States.{SourceState}
+
+-- a read failed, or none of 2^26 found the end, or there were more bytes than a file may have
+abbrev pub FailsToRead : SourceState → SourceState → Type 0
+FailsToRead old new =
+    (new.failures ≡ old.failures + 1)
+    ⊎ ((new.failures ≡ old.failures) × ((new.calls ≡ old.calls + 2 ^ 26) ⊎ GivesMore old.remaining new.remaining))
+
+-- What a fault tells of a file: its bytes are no text, or reading failed, or memory ran out.
+abbrev pub IsNoText : SourceState → SourceState → TextFault → Type 0
+IsNoText old new NotText = (bytes : List ℕ) × GivesWhole old.remaining new.remaining bytes × (IsUtf8 bytes → ⊥)
+IsNoText old new Read = FailsToRead old new
+IsNoText old new OutOfMemory = Unit {0}
+IsNoText old new _ = ⊥
+
+-- The same, or its bytes are a text that is refused so, where a scenario is wanted.
+abbrev pub IsNoScenario : SourceState → SourceState → TextFault → Type 0
+IsNoScenario old new NotToml = (text : List ℕ) × GivesWhole old.remaining new.remaining text × IsNoPlan text NotToml
+IsNoScenario old new (BadKey path) = (text : List ℕ) × GivesWhole old.remaining new.remaining text × IsNoPlan text (BadKey path)
+IsNoScenario old new e = IsNoText old new e
+
+-- The same, where a session is wanted.
+abbrev pub IsNoSession : SourceState → SourceState → TextFault → Type 0
+IsNoSession old new (BadLine n) = (text : List ℕ) × GivesWhole old.remaining new.remaining text × IsRefused (BadLine n) text
+IsNoSession old new e = IsNoText old new e
+
+-- a file as it was opened and as it was left, or why it was not opened
+abbrev pub Opened : Type 0
+Opened = Result (SourceState × SourceState) Error
+
+-- it is this file, of which so much is known, that was left so
+abbrev pub IsLeft : {F : Type 0} → (F → SourceState) → Result F Error → Opened → Type 0
+IsLeft {F} state (Ok file) (Ok states) = (states.0 ≡ state file) × (left : F) × (states.1 ≡ state left)
+IsLeft state (Err e) (Err d) = d ≡ e
+IsLeft state opened read = ⊥
+
+-- it is this file, whose bytes alone are known
+abbrev pub IsFile : {F : Type 0} → (F → Option (List ℕ)) → Result F Error → Opened → Type 0
+IsFile remaining (Ok file) (Ok states) = states.0.remaining ≡ remaining file
+IsFile remaining (Err e) (Err d) = d ≡ e
+IsFile remaining opened read = ⊥
+
+-- the same file, as another source of its bytes
+abbrev pub IsSame : {F G : Type 0} → (F → Option (List ℕ)) → (G → Option (List ℕ)) → Result F Error → Result G Error → Type 0
+IsSame remaining given (Ok file) (Ok source) = given source ≡ remaining file
+IsSame remaining given (Err e) (Err d) = d ≡ e
+IsSame remaining given opened other = ⊥
+
+-- the file has this text, and was read to its end
+abbrev pub HasText : Opened → List ℕ → Type 0
+HasText (Ok states) text = GivesWhole states.0.remaining states.1.remaining text
+HasText (Err e) text = ⊥
+
+-- its text is that scenario
+abbrev pub HasScenario : Opened → Plan → Type 0
+HasScenario read plan = (text : List ℕ) × HasText read text × IsScenario text plan
+
+-- its text is that session
+abbrev pub HasSession : Opened → Config → List Entry → Type 0
+HasSession read site entries = (text : List ℕ) × HasText read text × Reads text site entries
+
+-- Why none of these was read: the file could not be opened, or it is none.
+abbrev pub LacksText : Opened → TextFault → Type 0
+LacksText (Ok states) e = IsNoText states.0 states.1 e
+LacksText (Err error) e = e ≡ open_fault (error_kind error)
+
+abbrev pub LacksScenario : Opened → TextFault → Type 0
+LacksScenario (Ok states) e = IsNoScenario states.0 states.1 e
+LacksScenario (Err error) e = e ≡ open_fault (error_kind error)
+
+abbrev pub LacksSession : Opened → TextFault → Type 0
+LacksSession (Ok states) e = IsNoSession states.0 states.1 e
+LacksSession (Err error) e = e ≡ open_fault (error_kind error)
