@@ -66,3 +66,7 @@ abbrev pub EndsWith : Result Args Error → Result Done Failure → Type 0
 EndsWith (Ok args) (Ok done) = DoesAsked (map string_bytes (into_iter_items args)) done
 EndsWith (Ok args) (Err failure) = FailsAfter (map string_bytes (into_iter_items args)) failure
 EndsWith (Err e) result = result ≡ Err (words_failure (error_kind e))
+
+-- it ends so with whatever it was given
+abbrev pub EndsAsGiven : Result Done Failure → Type 0
+EndsAsGiven ended = (given : Result Args Error) × EndsWith given ended

@@ -1,11 +1,11 @@
 //! The program: a console over the standard streams, sessions gone through again, and runs of scenarios.
 #![tactic(auto)]
 
-ghost use Rattle.std.specs.Prelude.{◌≡◌, map, string_bytes, IfOk, IfErr};
+ghost use Rattle.std.specs.Prelude.{◌≡◌, map, string_bytes, IfOk, IfErr, IfSome};
 ghost use Rattle.std.specs.Process.{exit_status};
 ghost use Rattle.std.specs.Vec.Iter.{into_iter_items};
 ghost use Rattle.esx_plan.specs.Doing.{DoesGiven, DoesWords};
-ghost use Rattle.esx_plan.specs.Failing.{DoesAsked, EndsWith, FailsAfter, refused_as};
+ghost use Rattle.esx_plan.specs.Failing.{DoesAsked, EndsAsGiven, EndsWith, FailsAfter, refused_as};
 ghost use Rattle.esx_plan.specs.Given.{GivesWords, words_failure};
 ghost use Rattle.esx_plan.specs.Status.{status_of, status_of_words, status_of_end};
 
@@ -200,7 +200,9 @@ fn run_given<
 }
 
 /// Where it is told how far a work is: a terminal.
-fn terminal<E: IsTerminal>(errors: &E) -> Option<&E> {
+fn terminal<E: IsTerminal>(errors: &E) -> Option<&E>
+    ensures { IfSome result (λ to. to.now ≡ errors.now) }
+{
     if errors.is_terminal() {
         Some(errors)
     } else {
@@ -212,7 +214,9 @@ fn terminal<E: IsTerminal>(errors: &E) -> Option<&E> {
 fn run<R: Env + Files + Input + Print + AllocGlobal + Threads + Wait + Sync>(
     rt: &R,
     errors: &Stderr,
-) -> Result<Done, Failure> {
+) -> Result<Done, Failure>
+    ensures { EndsAsGiven result }
+{
     let streams = Streams {
         reader: rt.reader(),
         errors: io::writer(errors),
