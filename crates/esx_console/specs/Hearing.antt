@@ -1,12 +1,13 @@
 -- What is heard of a journal at a call.
-use Rattle.std.specs.Prelude.{◌≡◌, ℕ, ◌+◌, Bool, Result, Ok, Err, if◌then◌else◌}
+use Rattle.std.specs.Prelude.{◌≡◌, ℕ, ◌+◌, Bool, Result, Ok, Err, IsOk, if◌then◌else◌}
 use Rattle.esx_events.specs.declared.event.Refusal.{Refusal}
 use Rattle.esx_events.specs.declared.call.Call.{Call}
 use Rattle.esx_events.specs.declared.call.Call.TheVariants as calls
 use Rattle.esx_events.specs.declared.call.Said.{Said}
 use Rattle.esx_events.specs.declared.call.Said.TheVariants as said
 use Rattle.esx_events.specs.declared.call.Stand.{Stand}
-use Rattle.esx_model.specs.History.{History}
+use Rattle.esx_model.specs.Readings.{activity}
+use Rattle.esx_model.specs.History.{History, book_at}
 use Rattle.esx_model.specs.Console.{outcome, after}
 use Rattle.esx_journal.specs.Journal.{Kept, Holds}
 use Rattle.esx_console.specs.declared.hearing.Heard.{Heard}
@@ -18,7 +19,7 @@ pub record Hears (new : Kept) (h : History) (call : Call) (heard : Heard) : Type
   pub copy_is : heard.copy ≡ (outcome h call).0
   pub jumps : (after h call).jumps ≡ h.jumps + (if heard.jumped then 1 else 0)
 
--- a call that may take memory: an event, a mark, a trial, or a question that is answered by rows
+-- a call that may take memory: an event, a mark, a trial, or a question that is answered by rows or by averages
 abbrev pub MayLackMemory : Call → Type 0
 MayLackMemory (calls.Do e) = Unit {0}
 MayLackMemory (calls.Undo k) = ⊥
@@ -30,11 +31,29 @@ MayLackMemory (calls.Prune n) = ⊥
 MayLackMemory (calls.WhatIf events) = Unit {0}
 MayLackMemory calls.Sum = ⊥
 MayLackMemory calls.Table = Unit {0}
-MayLackMemory (calls.OfVm n) = ⊥
+MayLackMemory (calls.OfVm n) = Unit {0}
 MayLackMemory (calls.OfPage n page) = ⊥
 MayLackMemory (calls.Advise n page) = ⊥
 MayLackMemory calls.Stand = ⊥
 MayLackMemory calls.Marks = Unit {0}
+
+-- a question for a machine's averages finds the machine
+abbrev pub FindsItsMachine : History → Call → Type 0
+FindsItsMachine h (calls.Do e) = Unit {0}
+FindsItsMachine h (calls.Undo k) = Unit {0}
+FindsItsMachine h (calls.Redo k) = Unit {0}
+FindsItsMachine h (calls.Goto n) = Unit {0}
+FindsItsMachine h (calls.Visit name) = Unit {0}
+FindsItsMachine h (calls.Mark name) = Unit {0}
+FindsItsMachine h (calls.Prune n) = Unit {0}
+FindsItsMachine h (calls.WhatIf events) = Unit {0}
+FindsItsMachine h calls.Sum = Unit {0}
+FindsItsMachine h calls.Table = Unit {0}
+FindsItsMachine h (calls.OfVm n) = IsOk (activity (book_at h) n)
+FindsItsMachine h (calls.OfPage n page) = Unit {0}
+FindsItsMachine h (calls.Advise n page) = Unit {0}
+FindsItsMachine h calls.Stand = Unit {0}
+FindsItsMachine h calls.Marks = Unit {0}
 
 -- the same for the caller and for the log
 abbrev pub twice : Said → Bool → Heard

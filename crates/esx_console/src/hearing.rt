@@ -4,7 +4,7 @@ ghost use Rattle.std.specs.Prelude.{◌≡◌, ◌+◌, ◌<◌, ◌^◌, if◌t
 ghost use Rattle.esx_model.specs.History.{History};
 ghost use Rattle.esx_events.specs.declared.call.Said.TheVariants as said;
 ghost use Rattle.esx_journal.specs.Journal.{Holds};
-ghost use Rattle.esx_console.specs.Hearing.{Hears, MayLackMemory, twice};
+ghost use Rattle.esx_console.specs.Hearing.{Hears, MayLackMemory, FindsItsMachine, twice};
 
 mod events;
 mod marks;
@@ -57,6 +57,7 @@ pub fn hear(journal: &mut Journal, alloc: Global, call: &Call) -> Result<Heard, 
     ensures ok { IfOk result (λ heard. (h : History) → Holds journal.old h → Hears journal.new h call.now heard) }
     ensures err { (h : History) → Holds journal.old h → OnErr result (journal.new ≡ journal.old) }
     ensures room { OnErr result (MayLackMemory call.now) }
+    ensures there { (h : History) → Holds journal.old h → OnErr result (FindsItsMachine h call.now) }
 {
     match call {
         Call::Do { event } => hear_event(journal, event),
@@ -69,7 +70,7 @@ pub fn hear(journal: &mut Journal, alloc: Global, call: &Call) -> Result<Heard, 
         Call::WhatIf { events } => hear_what_if(journal, alloc, events),
         Call::Sum => Ok(hear_sum(journal)),
         Call::Table => hear_table(journal, alloc),
-        Call::OfVm { vm } => Ok(hear_vm(journal, *vm)),
+        Call::OfVm { vm } => hear_vm(journal, alloc, *vm),
         Call::OfPage { vm, page } => Ok(hear_page(journal, *vm, *page)),
         Call::Advise { vm, page } => Ok(hear_advise(journal, *vm, *page)),
         Call::Stand => Ok(hear_stand(journal)),

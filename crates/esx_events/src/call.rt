@@ -229,7 +229,7 @@ pub enum Said {
         sum: Boxed<Sum>,
     },
     Activity {
-        activity: Activity,
+        activity: Boxed<Activity>,
     },
     Page {
         state: PageState,
@@ -284,7 +284,7 @@ impl Said {
                 sum: Boxed::new(sum.allocator(), *sum.get())?,
             }),
             Said::Activity { activity } => Ok(Said::Activity {
-                activity: *activity,
+                activity: Boxed::new(activity.allocator(), *activity.get())?,
             }),
             Said::Page { state } => Ok(Said::Page { state: *state }),
             Said::Help { help } => Ok(Said::Help { help: *help }),
@@ -326,6 +326,8 @@ pub struct Line {
 
 const _: () = prove!(size_of::<Call>() == 32);
 
-const _: () = prove!(size_of::<Said>() == 32);
+const _: () = prove!(size_of::<Answer>() == 16);
 
-const _: () = prove!(size_of::<Line>() == 80);
+const _: () = prove!(size_of::<Said>() == 24);
+
+const _: () = prove!(size_of::<Line>() == 72);

@@ -193,22 +193,29 @@ pub enum Scanned {
     Already,
 }
 
+/// Frames and slots that are reserved, each of all.
+#[derive(Clone, Copy, Debug, PartialEq, Eq)]
+pub struct Reserves {
+    pub memory: u32,
+    pub frames: u32,
+    pub swap: u32,
+    pub slots: u32,
+}
+
 /// What an accepted event answers, its numbers in the order in which they are printed.
 #[derive(Debug, Drop)]
 pub enum Answer {
-    /// Frames and slots that are reserved after it, each of all.
+    /// What is reserved after it.
     Admitted {
-        memory: u32,
-        frames: u32,
-        swap: u32,
-        slots: u32,
+        reserves: Boxed<Reserves>,
     },
-    /// The frame that was taken, how many are held of how many, and whether the machine runs now.
+    /// Whether the machine runs now, which is printed last; the frame that was taken, and how many are held of
+    /// how many.
     Started {
+        running: bool,
         frame: u32,
         held: u32,
         overhead: u32,
-        running: bool,
     },
     Bytes {
         bytes: Boxed<Bytes>,
@@ -270,27 +277,19 @@ impl Answer {
         ensures { IfOk result (λ a. a ≡ self.now) }
     {
         match self {
-            Answer::Admitted {
-                memory,
-                frames,
-                swap,
-                slots,
-            } => Ok(Answer::Admitted {
-                memory: *memory,
-                frames: *frames,
-                swap: *swap,
-                slots: *slots,
+            Answer::Admitted { reserves } => Ok(Answer::Admitted {
+                reserves: Boxed::new(reserves.allocator(), *reserves.get())?,
             }),
             Answer::Started {
+                running,
                 frame,
                 held,
                 overhead,
-                running,
             } => Ok(Answer::Started {
+                running: *running,
                 frame: *frame,
                 held: *held,
                 overhead: *overhead,
-                running: *running,
             }),
             Answer::Bytes { bytes } => Ok(Answer::Bytes {
                 bytes: copy_bytes(bytes)?,

@@ -28,7 +28,7 @@ use Rattle.esx_model.specs.Site.{vm_at, with_vm, place_at, lent, least_free, lea
 use Rattle.esx_model.specs.Hints.{with_place, with_change, placed}
 use Rattle.esx_model.specs.Tables.{vm_table, tables_of}
 use Rattle.esx_model.specs.event.Outcome.{Outcome, standing, goal, running_gate, page_gate}
-use Rattle.esx_model.specs.event.Admission.{memory_with, swap_with, admit_gate, admitted, admit}
+use Rattle.esx_model.specs.event.Admission.{memory_with, swap_with, reserves_in, admit_gate, admitted, admit}
 use Rattle.esx_model.specs.event.Starting.{start_gate, with_overhead, take_overhead, start}
 use Rattle.esx_model.specs.event.Access.{access_gate, overwritten, read_frame, write_frame, after_access, settle, read, write}
 use Rattle.esx_model.specs.event.Balloon.{is_lent, popped, unless_due, lend_gate, take_back_gate, ask, lend, take_back}
@@ -116,7 +116,7 @@ admit_within : (k : ℕ) (c : Config) (s : Site) (n : ℕ) (spec : VmSpec) (r : 
 unfolding admit
 admit_within k c s n spec r within h =
     let pass = passed (admit_gate c _ spec (memory_with s spec) (swap_with s spec)) _ r h in
-    leads k (answers.Admitted (memory_with s spec) c.frames (swap_with s spec) c.slots) (with_vm s n (admitted spec)) r pass.1 (with_row k s n (admitted spec) within (omega arith))
+    leads k (answers.Admitted (reserves_in c (memory_with s spec) (swap_with s spec))) (with_vm s n (admitted spec)) r pass.1 (with_row k s n (admitted spec) within (omega arith))
 
 start_within : (k : ℕ) (c : Config) (s : Site) (n : ℕ) (r : Answer × Site) → AreEpochsWithin k s → start c s n ≡ Ok r → AreEpochsWithin k r.1
 unfolding start

@@ -201,8 +201,8 @@ looked_told d looks.Clash = refl
 looked_told d looks.Already = refl
 
 answer_told : (d : ℕ) (a : Answer) → tells d (answer_text a) ≡ true
-answer_told d (answers.Admitted memory frames swap slots) = simp past_decimal
-answer_told d (answers.Started frame held overhead running) = simp (past_decimal, past_running)
+answer_told d (answers.Admitted reserves) = simp past_decimal
+answer_told d (answers.Started running frame held overhead) = simp (past_decimal, past_running)
 answer_told d (answers.Bytes bytes) = simp past_hex
 answer_told d answers.Done = refl
 answer_told d (answers.Goal goal lent epoch) = simp past_decimal

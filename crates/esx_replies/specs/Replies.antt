@@ -14,8 +14,8 @@ use Rattle.esx_writing.specs.Writing.{right_in, left_in}
 use Rattle.esx_replies.specs.Texts
 
 abbrev pub answer_text : Answer → List ℕ
-answer_text (answers.Admitted memory frames swap slots) = Texts.admitted_text memory frames swap slots
-answer_text (answers.Started frame held overhead running) = Texts.started_text frame held overhead running
+answer_text (answers.Admitted reserves) = Texts.admitted_text reserves
+answer_text (answers.Started running frame held overhead) = Texts.started_text frame held overhead running
 answer_text (answers.Bytes bytes) = Texts.bytes_text bytes
 answer_text answers.Done = codes "ok\n"
 answer_text (answers.Goal goal lent epoch) = Texts.goal_text goal lent epoch

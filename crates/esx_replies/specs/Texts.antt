@@ -8,6 +8,7 @@ use Rattle.esx_types.specs.declared.vm.VmState.TheVariants.{Starting, Running, S
 use Rattle.esx_events.specs.Numbers.{refusal_number, refusal_name}
 use Rattle.esx_events.specs.declared.event.Refusal.{Refusal}
 use Rattle.esx_events.specs.declared.event.Refusal.TheVariants as refusals
+use Rattle.esx_events.specs.declared.event.Reserves.{Reserves}
 use Rattle.esx_events.specs.declared.call.Sum.{Sum}
 use Rattle.esx_events.specs.declared.call.Stand.{Stand}
 use Rattle.esx_events.specs.declared.call.Activity.{Activity}
@@ -68,8 +69,8 @@ refusal_ending refusals.OutOfMemory = codes "\n"
 refusal_ending refusals.SampleOpen = codes "\n"
 
 -- admission
-abbrev pub admitted_text : ℕ → ℕ → ℕ → ℕ → List ℕ
-admitted_text memory frames swap slots = codes "ok memory " ++ (decimal memory ++ (codes "/" ++ (decimal frames ++ (codes " swap " ++ (decimal swap ++ (codes "/" ++ (decimal slots ++ (10 ∷ []))))))))
+abbrev pub admitted_text : Reserves → List ℕ
+admitted_text r = codes "ok memory " ++ (decimal r.memory ++ (codes "/" ++ (decimal r.frames ++ (codes " swap " ++ (decimal r.swap ++ (codes "/" ++ (decimal r.slots ++ (10 ∷ []))))))))
 
 abbrev pub started_text : ℕ → ℕ → ℕ → Bool → List ℕ
 started_text frame taken overhead running = codes "ok frame " ++ (decimal frame ++ (codes " overhead " ++ (decimal taken ++ (codes "/" ++ (decimal overhead ++ (codes " " ++ (running_text running ++ (10 ∷ []))))))))

@@ -5,6 +5,7 @@ ghost use Rattle.esx_writing.specs.Writing.{Puts, sink_faults};
 ghost use Rattle.esx_replies.specs.Texts.{admitted_text, started_text};
 
 use crate::names::running_name;
+use esx_events::Reserves;
 use esx_types::{Sink, SinkFailed};
 use esx_writing::{AnswerBuffer, Piece, put_pieces};
 
@@ -12,13 +13,10 @@ use esx_writing::{AnswerBuffer, Piece, put_pieces};
 pub fn put_admitted<W: Sink>(
     sink: &mut W,
     held: &mut AnswerBuffer,
-    memory: u32,
-    frames: u32,
-    swap: u32,
-    slots: u32,
+    reserves: Reserves,
 ) -> Result<(), SinkFailed>
-    ensures bytes { Puts (W.contents sink.old) held.old (W.contents sink.new) held.new (admitted_text memory frames swap slots) result }
-    ensures utf8 { OnOk result (IsUtf8 (admitted_text memory frames swap slots)) }
+    ensures bytes { Puts (W.contents sink.old) held.old (W.contents sink.new) held.new (admitted_text reserves) result }
+    ensures utf8 { OnOk result (IsUtf8 (admitted_text reserves)) }
     ensures failures { W.failures sink.new ≡ W.failures sink.old + sink_faults result }
     ensures flushes { W.flushes sink.new ≡ W.flushes sink.old }
 {
@@ -27,13 +25,13 @@ pub fn put_admitted<W: Sink>(
         held,
         &[
             Piece::Text("ok memory "),
-            Piece::Number(u64::from(memory)),
+            Piece::Number(u64::from(reserves.memory)),
             Piece::Text("/"),
-            Piece::Number(u64::from(frames)),
+            Piece::Number(u64::from(reserves.frames)),
             Piece::Text(" swap "),
-            Piece::Number(u64::from(swap)),
+            Piece::Number(u64::from(reserves.swap)),
             Piece::Text("/"),
-            Piece::Number(u64::from(slots)),
+            Piece::Number(u64::from(reserves.slots)),
             Piece::Text("\n"),
         ],
     )

@@ -28,17 +28,12 @@ pub fn put_answer<W: Sink>(
     ensures flushes { W.flushes sink.new ≡ W.flushes sink.old }
 {
     match answer {
-        Answer::Admitted {
-            memory,
-            frames,
-            swap,
-            slots,
-        } => put_admitted(sink, held, *memory, *frames, *swap, *slots),
+        Answer::Admitted { reserves } => put_admitted(sink, held, *reserves.get()),
         Answer::Started {
+            running,
             frame,
             held: taken,
             overhead,
-            running,
         } => put_started(sink, held, *frame, *taken, *overhead, *running),
         Answer::Bytes { bytes } => put_bytes(sink, held, bytes.get()),
         Answer::Done => put(sink, held, "ok\n".as_bytes()),

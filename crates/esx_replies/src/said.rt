@@ -39,7 +39,7 @@ pub fn put_said<W: Sink>(
         Said::Sides { sides } => put_sides(sink, held, sides.get()),
         Said::Sum { sum } => put_sum(sink, held, *sum),
         Said::Table { rows, sum } => put_table(sink, held, rows.get().as_slice(), *sum.get()),
-        Said::Activity { activity } => put_activity(sink, held, *activity),
+        Said::Activity { activity } => put_activity(sink, held, *activity.get()),
         Said::Page { state } => put_page(sink, held, *state),
         Said::Help { help } => put_help(sink, held, *help),
         Said::Marks { marks } => put_marks(sink, held, marks.get().as_slice()),

@@ -186,8 +186,8 @@ looked_line looks.Clash = refl
 looked_line looks.Already = refl
 
 pub answer_line : (a : Answer) → is_line (answer_text a) ≡ true
-answer_line (answers.Admitted memory frames swap slots) = simp past_decimal
-answer_line (answers.Started frame held overhead running) = simp (past_decimal, past_running)
+answer_line (answers.Admitted reserves) = simp past_decimal
+answer_line (answers.Started running frame held overhead) = simp (past_decimal, past_running)
 answer_line (answers.Bytes bytes) = simp past_hex
 answer_line answers.Done = refl
 answer_line (answers.Goal goal lent epoch) = simp past_decimal

@@ -1,7 +1,9 @@
-//! Questions on the machine and the cursor. All but the table take no memory.
+//! Questions on the machine and the cursor. The table takes memory, and so do a virtual machine's averages;
+//! the others take none.
 
-ghost use Rattle.std.specs.Prelude.{◌≡◌, IfOk, false};
-ghost use Rattle.esx_model.specs.History.{History};
+ghost use Rattle.std.specs.Prelude.{◌≡◌, IfOk, OnErr, IsOk, false};
+ghost use Rattle.esx_model.specs.History.{History, book_at};
+ghost use Rattle.esx_model.specs.Readings.{activity};
 ghost use Rattle.esx_model.specs.Console.{page_said, activity_said, help_said};
 ghost use Rattle.esx_events.specs.declared.call.Call.TheVariants as calls;
 ghost use Rattle.esx_journal.specs.Journal.{Holds};
@@ -26,16 +28,15 @@ fn page_heard(found: Result<PageState, Refusal>) -> Heard
     }
 }
 
-fn activity_heard(found: Result<Activity, Refusal>) -> Heard
-    ensures { result ≡ twice (activity_said found) false }
+fn activity_heard(alloc: Global, found: Result<Activity, Refusal>) -> Result<Heard, AllocError>
+    ensures value { IfOk result (λ heard. heard ≡ twice (activity_said found) false) }
+    ensures there { OnErr result (IsOk found) }
 {
     match found {
-        Ok(activity) => Heard {
-            said: Said::Activity { activity },
-            copy: Said::Activity { activity },
-            jumped: false,
-        },
-        Err(refusal) => refused(refusal),
+        Ok(activity) => told(Said::Activity {
+            activity: Boxed::new(alloc, activity)?,
+        }),
+        Err(refusal) => Ok(refused(refusal)),
     }
 }
 
@@ -75,10 +76,12 @@ pub fn hear_table(journal: &Journal, alloc: Global) -> Result<Heard, AllocError>
     told(Said::Table { rows, sum })
 }
 
-pub fn hear_vm(journal: &Journal, vm: VmId) -> Heard
-    ensures { (h : History) → Holds journal.now h → Hears journal.now h (calls.OfVm vm) result }
+/// Memory is wanting only where the virtual machine is there.
+pub fn hear_vm(journal: &Journal, alloc: Global, vm: VmId) -> Result<Heard, AllocError>
+    ensures ok { IfOk result (λ heard. (h : History) → Holds journal.now h → Hears journal.now h (calls.OfVm vm) heard) }
+    ensures there { (h : History) → Holds journal.now h → OnErr result (IsOk (activity (book_at h) vm)) }
 {
-    activity_heard(journal.machine().of_vm(vm))
+    activity_heard(alloc, journal.machine().of_vm(vm))
 }
 
 pub fn hear_page(journal: &Journal, vm: VmId, page: u32) -> Heard

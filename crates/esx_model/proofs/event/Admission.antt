@@ -19,7 +19,7 @@ use Rattle.esx_model.specs.declared.scene.Vm.{Vm}
 use Rattle.esx_model.specs.declared.scene.Site.{Site}
 use Rattle.esx_model.specs.Places.{is_here_at, is_out_at, is_here, is_out, is_lent_in}
 use Rattle.esx_model.specs.Site.{vm_at, with_vm, place_in, place_of, vm_places, vm_overhead, all_places, all_overhead, memory_reserve, swap_reserve}
-use Rattle.esx_model.specs.event.Admission.{admit_gate, memory_with, swap_with, admitted, admit}
+use Rattle.esx_model.specs.event.Admission.{admit_gate, memory_with, swap_with, reserves_in, admitted, admit}
 use Rattle.esx_model.specs.sound.Machines.{IsVm, IsPlace}
 use Rattle.esx_model.specs.sound.Frames.{AreFrames}
 use Rattle.esx_model.specs.sound.Sound.{IsSound}
@@ -122,5 +122,5 @@ unfolding admit
 admit_sound c s n spec r sound named h =
     let pass = passed (admit_gate c (is_some (vm_at s n)) spec (memory_with s spec) (swap_with s spec)) _ r h in
     let below : n < length s.vms = omega (arith, sound.vms, named) in
-    gives c (answers.Admitted (memory_with s spec) c.frames (swap_with s spec) c.slots) (with_vm s n (admitted spec)) r pass.1
+    gives c (answers.Admitted (reserves_in c (memory_with s spec) (swap_with s spec))) (with_vm s n (admitted spec)) r pass.1
     (admitted_sound c s n spec sound below (no_vm (vm_at s n) pass.0.0) (good_by_test spec (not_not _ pass.0.1.0)) (most c.frames (memory_with s spec) pass.0.1.1.0) (most c.slots (swap_with s spec) pass.0.1.1.1.0))

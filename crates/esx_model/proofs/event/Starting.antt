@@ -75,7 +75,7 @@ started c s n f v sound there starting found =
 take_sound : (c : Config) (s : Site) (n : ℕ) (v : Vm) (o : Option ℕ) (r : Answer × Site) → IsSound c s → vm_at s n ≡ Some v → v.state ≡ Starting → least_free c.frames s ≡ o → take_overhead s n v o ≡ Ok r → IsSound c r.1
 take_sound c s n v None r sound there starting found h = cc
 take_sound c s n v (Some f) r sound there starting found h =
-    gives c (answers.Started f (length v.overhead + 1) v.spec.overhead (not (nat_lt (length v.overhead + 1) v.spec.overhead))) (with_vm s n (with_overhead v f)) r h (started c s n f v sound there starting found)
+    gives c (answers.Started (not (nat_lt (length v.overhead + 1) v.spec.overhead)) f (length v.overhead + 1) v.spec.overhead) (with_vm s n (with_overhead v f)) r h (started c s n f v sound there starting found)
 
 pub start_sound : (c : Config) (s : Site) (n : ℕ) (r : Answer × Site) → IsSound c s → start c s n ≡ Ok r → IsSound c r.1
 unfolding start

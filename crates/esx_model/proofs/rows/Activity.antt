@@ -8,12 +8,12 @@ use Rattle.esx_events.specs.declared.event.Refusal.TheVariants as refusals
 use Rattle.esx_events.specs.declared.call.Call.TheVariants as calls
 use Rattle.esx_events.specs.declared.call.Said.TheVariants as said
 use Rattle.esx_events.specs.declared.call.PageState.TheVariants as states
-use Rattle.esx_model.proofs.rows.Replies.{site, spec, sum, activity, reply, replies_of, AreAnswered}
+use Rattle.esx_model.proofs.rows.Replies.{site, spec, reserved, sum, activity, reply, replies_of, AreAnswered}
 
 -- Sample periods and averages.
 pub periods : AreAnswered (site 20 16 8 75 6 4 2 1 16777216) (
-    (calls.Do (events.Admit 0 (spec 2 6 1 1000 0)), reply 0 (said.Done (answers.Admitted 3 20 4 8))) ∷
-    (calls.Do (events.Start 0), reply 0 (said.Done (answers.Started 0 1 1 true))) ∷
+    (calls.Do (events.Admit 0 (spec 2 6 1 1000 0)), reply 0 (said.Done (answers.Admitted (reserved 3 20 4 8)))) ∷
+    (calls.Do (events.Start 0), reply 0 (said.Done (answers.Started true 0 1 1))) ∷
     (calls.Do (events.Read 0 0 0 16), reply 0 (said.Done (answers.Bytes (0 ∷ 0 ∷ 0 ∷ 0 ∷ 0 ∷ 0 ∷ 0 ∷ 0 ∷ 0 ∷ 0 ∷ 0 ∷ 0 ∷ 0 ∷ 0 ∷ 0 ∷ 0 ∷ [])))) ∷
     (calls.OfPage 0 0, reply 0 (said.Page (states.Private 1))) ∷
     (calls.Sum, reply 0 (said.Sum (sum 1 1 0 18 levels.High))) ∷
@@ -30,8 +30,8 @@ periods = refl
 
 -- Samples that are refused.
 pub bad_samples : AreAnswered (site 20 16 8 75 6 4 2 1 16777216) (
-    (calls.Do (events.Admit 0 (spec 2 6 1 1000 0)), reply 0 (said.Done (answers.Admitted 3 20 4 8))) ∷
-    (calls.Do (events.Start 0), reply 0 (said.Done (answers.Started 0 1 1 true))) ∷
+    (calls.Do (events.Admit 0 (spec 2 6 1 1000 0)), reply 0 (said.Done (answers.Admitted (reserved 3 20 4 8)))) ∷
+    (calls.Do (events.Start 0), reply 0 (said.Done (answers.Started true 0 1 1))) ∷
     (calls.Do (events.Read 0 0 0 16), reply 0 (said.Done (answers.Bytes (0 ∷ 0 ∷ 0 ∷ 0 ∷ 0 ∷ 0 ∷ 0 ∷ 0 ∷ 0 ∷ 0 ∷ 0 ∷ 0 ∷ 0 ∷ 0 ∷ 0 ∷ 0 ∷ [])))) ∷
     (calls.OfPage 0 0, reply 0 (said.Page (states.Private 1))) ∷
     (calls.Sum, reply 0 (said.Sum (sum 1 1 0 18 levels.High))) ∷
@@ -44,8 +44,8 @@ bad_samples = refl
 
 -- Taxes and shares that are refused.
 pub tax_and_shares : AreAnswered (site 20 16 8 75 6 4 2 1 16777216) (
-    (calls.Do (events.Admit 0 (spec 2 6 1 1000 0)), reply 0 (said.Done (answers.Admitted 3 20 4 8))) ∷
-    (calls.Do (events.Start 0), reply 0 (said.Done (answers.Started 0 1 1 true))) ∷
+    (calls.Do (events.Admit 0 (spec 2 6 1 1000 0)), reply 0 (said.Done (answers.Admitted (reserved 3 20 4 8)))) ∷
+    (calls.Do (events.Start 0), reply 0 (said.Done (answers.Started true 0 1 1))) ∷
     (calls.Do (events.Read 0 0 0 16), reply 0 (said.Done (answers.Bytes (0 ∷ 0 ∷ 0 ∷ 0 ∷ 0 ∷ 0 ∷ 0 ∷ 0 ∷ 0 ∷ 0 ∷ 0 ∷ 0 ∷ 0 ∷ 0 ∷ 0 ∷ 0 ∷ [])))) ∷
     (calls.OfPage 0 0, reply 0 (said.Page (states.Private 1))) ∷
     (calls.Sum, reply 0 (said.Sum (sum 1 1 0 18 levels.High))) ∷

@@ -8,12 +8,12 @@ use Rattle.esx_events.specs.declared.call.Call.TheVariants as calls
 use Rattle.esx_events.specs.declared.call.Said.TheVariants as said
 use Rattle.esx_events.specs.declared.call.PageState.TheVariants as states
 use Rattle.esx_events.specs.declared.call.Help.TheVariants as helps
-use Rattle.esx_model.proofs.rows.Replies.{site, spec, stand, activity, reply, replies_of, AreAnswered}
+use Rattle.esx_model.proofs.rows.Replies.{site, spec, reserved, stand, activity, reply, replies_of, AreAnswered}
 
 -- Pages are lent, one is used, and the balloon is reset.
 pub pop_and_reset : AreAnswered (site 8 16 8 75 6 4 2 1 16777216) (
-    (calls.Do (events.Admit 0 (spec 2 8 1 1000 4)), reply 0 (said.Done (answers.Admitted 3 8 6 8))) ∷
-    (calls.Do (events.Start 0), reply 0 (said.Done (answers.Started 0 1 1 true))) ∷
+    (calls.Do (events.Admit 0 (spec 2 8 1 1000 4)), reply 0 (said.Done (answers.Admitted (reserved 3 8 6 8)))) ∷
+    (calls.Do (events.Start 0), reply 0 (said.Done (answers.Started true 0 1 1))) ∷
     (calls.Do (events.Read 0 0 0 1), reply 0 (said.Done (answers.Bytes (0 ∷ [])))) ∷
     (calls.Do (events.Read 0 1 0 1), reply 0 (said.Done (answers.Bytes (0 ∷ [])))) ∷
     (calls.Do (events.Read 0 2 0 1), reply 0 (said.Done (answers.Bytes (0 ∷ [])))) ∷
@@ -37,16 +37,16 @@ pop_and_reset = refl
 
 -- Nothing is to be lent.
 pub over_goal : AreAnswered (site 8 16 8 75 6 4 2 1 16777216) (
-    (calls.Do (events.Admit 0 (spec 2 8 1 1000 4)), reply 0 (said.Done (answers.Admitted 3 8 6 8))) ∷
-    (calls.Do (events.Start 0), reply 0 (said.Done (answers.Started 0 1 1 true))) ∷
+    (calls.Do (events.Admit 0 (spec 2 8 1 1000 4)), reply 0 (said.Done (answers.Admitted (reserved 3 8 6 8)))) ∷
+    (calls.Do (events.Start 0), reply 0 (said.Done (answers.Started true 0 1 1))) ∷
     (calls.Do (events.Lend 0 0), reply 0 (said.Refused refusals.OverGoal)) ∷ [])
 unfolding replies_of
 over_goal = refl
 
 -- A reset is undone, and another call has it.
 pub undo_of_reset : AreAnswered (site 8 16 8 75 6 4 2 1 16777216) (
-    (calls.Do (events.Admit 0 (spec 2 8 1 1000 4)), reply 0 (said.Done (answers.Admitted 3 8 6 8))) ∷
-    (calls.Do (events.Start 0), reply 0 (said.Done (answers.Started 0 1 1 true))) ∷
+    (calls.Do (events.Admit 0 (spec 2 8 1 1000 4)), reply 0 (said.Done (answers.Admitted (reserved 3 8 6 8)))) ∷
+    (calls.Do (events.Start 0), reply 0 (said.Done (answers.Started true 0 1 1))) ∷
     (calls.Do (events.Read 0 0 0 1), reply 0 (said.Done (answers.Bytes (0 ∷ [])))) ∷
     (calls.Do (events.Read 0 1 0 1), reply 0 (said.Done (answers.Bytes (0 ∷ [])))) ∷
     (calls.Do (events.Read 0 2 0 1), reply 0 (said.Done (answers.Bytes (0 ∷ [])))) ∷
@@ -71,8 +71,8 @@ undo_of_reset = refl
 
 -- A page that is lent, and a balloon that lends all it is to lend.
 pub lent_before_goal : AreAnswered (site 8 16 8 75 6 4 2 1 16777216) (
-    (calls.Do (events.Admit 0 (spec 2 8 1 1000 2)), reply 0 (said.Done (answers.Admitted 3 8 6 8))) ∷
-    (calls.Do (events.Start 0), reply 0 (said.Done (answers.Started 0 1 1 true))) ∷
+    (calls.Do (events.Admit 0 (spec 2 8 1 1000 2)), reply 0 (said.Done (answers.Admitted (reserved 3 8 6 8)))) ∷
+    (calls.Do (events.Start 0), reply 0 (said.Done (answers.Started true 0 1 1))) ∷
     (calls.Do (events.Read 0 0 0 1), reply 0 (said.Done (answers.Bytes (0 ∷ [])))) ∷
     (calls.Do (events.Read 0 1 0 1), reply 0 (said.Done (answers.Bytes (0 ∷ [])))) ∷
     (calls.Do (events.Read 0 2 0 1), reply 0 (said.Done (answers.Bytes (0 ∷ [])))) ∷
@@ -90,10 +90,10 @@ lent_before_goal = refl
 
 -- A page that is lent is brought by a Replace, which is no access.
 pub replacing_pops : AreAnswered (site 8 16 8 75 6 4 2 1 16777216) (
-    (calls.Do (events.Admit 0 (spec 3 7 1 1000 4)), reply 0 (said.Done (answers.Admitted 4 8 4 8))) ∷
-    (calls.Do (events.Admit 1 (spec 3 6 1 1000 0)), reply 0 (said.Done (answers.Admitted 8 8 7 8))) ∷
-    (calls.Do (events.Start 0), reply 0 (said.Done (answers.Started 0 1 1 true))) ∷
-    (calls.Do (events.Start 1), reply 0 (said.Done (answers.Started 1 1 1 true))) ∷
+    (calls.Do (events.Admit 0 (spec 3 7 1 1000 4)), reply 0 (said.Done (answers.Admitted (reserved 4 8 4 8)))) ∷
+    (calls.Do (events.Admit 1 (spec 3 6 1 1000 0)), reply 0 (said.Done (answers.Admitted (reserved 8 8 7 8)))) ∷
+    (calls.Do (events.Start 0), reply 0 (said.Done (answers.Started true 0 1 1))) ∷
+    (calls.Do (events.Start 1), reply 0 (said.Done (answers.Started true 1 1 1))) ∷
     (calls.Do (events.Read 0 0 0 1), reply 0 (said.Done (answers.Bytes (0 ∷ [])))) ∷
     (calls.Do (events.Read 0 1 0 1), reply 0 (said.Done (answers.Bytes (0 ∷ [])))) ∷
     (calls.Do (events.Write 0 2 0 (42 ∷ [])), reply 0 (said.Done answers.Done)) ∷

@@ -11,13 +11,13 @@ use Rattle.esx_events.specs.declared.call.Call.TheVariants as calls
 use Rattle.esx_events.specs.declared.call.Said.TheVariants as said
 use Rattle.esx_events.specs.declared.call.PageState.TheVariants as states
 use Rattle.esx_events.specs.declared.call.Help.TheVariants as helps
-use Rattle.esx_model.proofs.rows.Replies.{site, spec, sum, table_row}
+use Rattle.esx_model.proofs.rows.Replies.{site, spec, reserved, sum, table_row}
 use Rattle.esx_model.proofs.rows.Told.{told_of, AreTold}
 
 -- A write changes its bytes alone; a page that was out has its bytes again when it is read or written, and its slot is free.
 pub bytes_stay : AreTold (site 8 16 8 75 6 4 2 1 16777216) (
-    (calls.Do (events.Admit 0 (spec 1 7 1 1000 0)), said.Done (answers.Admitted 2 8 6 8)) ∷
-    (calls.Do (events.Start 0), said.Done (answers.Started 0 1 1 true)) ∷
+    (calls.Do (events.Admit 0 (spec 1 7 1 1000 0)), said.Done (answers.Admitted (reserved 2 8 6 8))) ∷
+    (calls.Do (events.Start 0), said.Done (answers.Started true 0 1 1)) ∷
     (calls.Do (events.Write 0 0 0 (1 ∷ 2 ∷ 3 ∷ 4 ∷ [])), said.Done answers.Done) ∷
     (calls.Do (events.Write 0 0 1 (170 ∷ 187 ∷ [])), said.Done answers.Done) ∷
     (calls.Do (events.Read 0 0 0 16), said.Done (answers.Bytes (1 ∷ 170 ∷ 187 ∷ 4 ∷ 0 ∷ 0 ∷ 0 ∷ 0 ∷ 0 ∷ 0 ∷ 0 ∷ 0 ∷ 0 ∷ 0 ∷ 0 ∷ 0 ∷ []))) ∷
@@ -48,8 +48,8 @@ bytes_stay = refl
 
 -- Of the slots that no page is in the least is taken, also where a later one is full.
 pub slots_least : AreTold (site 8 16 8 75 6 4 2 1 16777216) (
-    (calls.Do (events.Admit 0 (spec 1 8 1 1000 0)), said.Done (answers.Admitted 2 8 7 8)) ∷
-    (calls.Do (events.Start 0), said.Done (answers.Started 0 1 1 true)) ∷
+    (calls.Do (events.Admit 0 (spec 1 8 1 1000 0)), said.Done (answers.Admitted (reserved 2 8 7 8))) ∷
+    (calls.Do (events.Start 0), said.Done (answers.Started true 0 1 1)) ∷
     (calls.Do (events.Read 0 0 0 1), said.Done (answers.Bytes (0 ∷ []))) ∷
     (calls.Do (events.Read 0 1 0 1), said.Done (answers.Bytes (0 ∷ []))) ∷
     (calls.Do (events.Read 0 2 0 1), said.Done (answers.Bytes (0 ∷ []))) ∷
@@ -68,8 +68,8 @@ slots_least = refl
 
 -- At Low a machine above its target waits with each access, also to a page in a frame; what is out of range is told first.
 pub held_in_its_frame : AreTold (site 8 16 8 75 6 4 2 1 16777216) (
-    (calls.Do (events.Admit 0 (spec 1 8 1 1000 0)), said.Done (answers.Admitted 2 8 7 8)) ∷
-    (calls.Do (events.Start 0), said.Done (answers.Started 0 1 1 true)) ∷
+    (calls.Do (events.Admit 0 (spec 1 8 1 1000 0)), said.Done (answers.Admitted (reserved 2 8 7 8))) ∷
+    (calls.Do (events.Start 0), said.Done (answers.Started true 0 1 1)) ∷
     (calls.Do (events.Read 0 0 0 1), said.Done (answers.Bytes (0 ∷ []))) ∷
     (calls.Do (events.Read 0 1 0 1), said.Done (answers.Bytes (0 ∷ []))) ∷
     (calls.Do (events.Read 0 2 0 1), said.Done (answers.Bytes (0 ∷ []))) ∷
@@ -88,8 +88,8 @@ held_in_its_frame = refl
 
 -- A page is scanned twice, shared with one of its machine and with a third; a page that is shared leaves no hint behind, and the last to be written no key.
 pub shared_again : AreTold (site 20 16 8 75 6 4 2 1 16777216) (
-    (calls.Do (events.Admit 0 (spec 2 8 1 1000 0)), said.Done (answers.Admitted 3 20 6 8)) ∷
-    (calls.Do (events.Start 0), said.Done (answers.Started 0 1 1 true)) ∷
+    (calls.Do (events.Admit 0 (spec 2 8 1 1000 0)), said.Done (answers.Admitted (reserved 3 20 6 8))) ∷
+    (calls.Do (events.Start 0), said.Done (answers.Started true 0 1 1)) ∷
     (calls.Do (events.Write 0 0 0 (42 ∷ [])), said.Done answers.Done) ∷
     (calls.Do (events.Write 0 1 0 (42 ∷ [])), said.Done answers.Done) ∷
     (calls.Do (events.Scan 0 0), said.Done (answers.Looked scanned.Hinted)) ∷
@@ -120,8 +120,8 @@ shared_again = refl
 
 -- Where no frame is free, a page in a frame with others may be read and not written.
 pub copy_without_a_frame : AreTold (site 8 16 8 75 6 4 2 1 16777216) (
-    (calls.Do (events.Admit 0 (spec 1 8 1 1000 0)), said.Done (answers.Admitted 2 8 7 8)) ∷
-    (calls.Do (events.Start 0), said.Done (answers.Started 0 1 1 true)) ∷
+    (calls.Do (events.Admit 0 (spec 1 8 1 1000 0)), said.Done (answers.Admitted (reserved 2 8 7 8))) ∷
+    (calls.Do (events.Start 0), said.Done (answers.Started true 0 1 1)) ∷
     (calls.Do (events.Write 0 0 0 (42 ∷ [])), said.Done answers.Done) ∷
     (calls.Do (events.Write 0 1 0 (42 ∷ [])), said.Done answers.Done) ∷
     (calls.Do (events.Scan 0 0), said.Done (answers.Looked scanned.Hinted)) ∷
@@ -141,8 +141,8 @@ copy_without_a_frame = refl
 
 -- A page that leaves joins a frame that is shared already; one that was shared goes to a slot.
 pub shared_frame_in_place_of_paging : AreTold (site 8 16 8 75 6 4 2 1 16777216) (
-    (calls.Do (events.Admit 0 (spec 1 7 1 1000 0)), said.Done (answers.Admitted 2 8 6 8)) ∷
-    (calls.Do (events.Start 0), said.Done (answers.Started 0 1 1 true)) ∷
+    (calls.Do (events.Admit 0 (spec 1 7 1 1000 0)), said.Done (answers.Admitted (reserved 2 8 6 8))) ∷
+    (calls.Do (events.Start 0), said.Done (answers.Started true 0 1 1)) ∷
     (calls.Do (events.Write 0 0 0 (42 ∷ [])), said.Done answers.Done) ∷
     (calls.Do (events.Write 0 1 0 (42 ∷ [])), said.Done answers.Done) ∷
     (calls.Do (events.Scan 0 0), said.Done (answers.Looked scanned.Hinted)) ∷

@@ -9,13 +9,13 @@ use Rattle.esx_events.specs.declared.event.Refusal.TheVariants as refusals
 use Rattle.esx_events.specs.declared.call.Call.TheVariants as calls
 use Rattle.esx_events.specs.declared.call.Said.TheVariants as said
 use Rattle.esx_events.specs.declared.call.PageState.TheVariants as states
-use Rattle.esx_model.proofs.rows.Replies.{site, spec, sum, table_row}
+use Rattle.esx_model.proofs.rows.Replies.{site, spec, reserved, sum, table_row}
 use Rattle.esx_model.proofs.rows.Told.{told_of, AreTold}
 
 -- What a machine lends: a page that is out, one that is nowhere; the goal that its target leaves.
 pub loans : AreTold (site 8 16 8 75 6 4 2 1 16777216) (
-    (calls.Do (events.Admit 0 (spec 1 8 1 1000 7)), said.Done (answers.Admitted 2 8 7 8)) ∷
-    (calls.Do (events.Start 0), said.Done (answers.Started 0 1 1 true)) ∷
+    (calls.Do (events.Admit 0 (spec 1 8 1 1000 7)), said.Done (answers.Admitted (reserved 2 8 7 8))) ∷
+    (calls.Do (events.Start 0), said.Done (answers.Started true 0 1 1)) ∷
     (calls.Do (events.Read 0 0 0 1), said.Done (answers.Bytes (0 ∷ []))) ∷
     (calls.Do (events.Read 0 1 0 1), said.Done (answers.Bytes (0 ∷ []))) ∷
     (calls.Do (events.Read 0 2 0 1), said.Done (answers.Bytes (0 ∷ []))) ∷
@@ -39,8 +39,8 @@ loans = refl
 
 -- A reset that is due is the one effect of a lend, and stays due through a refusal that comes before it; after it the loans of earlier epochs are none.
 pub reset_due : AreTold (site 8 16 8 75 6 4 2 1 16777216) (
-    (calls.Do (events.Admit 0 (spec 2 8 1 1000 4)), said.Done (answers.Admitted 3 8 6 8)) ∷
-    (calls.Do (events.Start 0), said.Done (answers.Started 0 1 1 true)) ∷
+    (calls.Do (events.Admit 0 (spec 2 8 1 1000 4)), said.Done (answers.Admitted (reserved 3 8 6 8))) ∷
+    (calls.Do (events.Start 0), said.Done (answers.Started true 0 1 1)) ∷
     (calls.Do (events.Read 0 0 0 1), said.Done (answers.Bytes (0 ∷ []))) ∷
     (calls.Do (events.Read 0 1 0 1), said.Done (answers.Bytes (0 ∷ []))) ∷
     (calls.Do (events.Read 0 2 0 1), said.Done (answers.Bytes (0 ∷ []))) ∷
@@ -70,8 +70,8 @@ reset_due = refl
 
 -- A machine that stops has no reset any more; a page that it lent does not keep it.
 pub loan_at_a_stop : AreTold (site 8 16 8 75 6 4 2 1 16777216) (
-    (calls.Do (events.Admit 0 (spec 2 8 1 1000 4)), said.Done (answers.Admitted 3 8 6 8)) ∷
-    (calls.Do (events.Start 0), said.Done (answers.Started 0 1 1 true)) ∷
+    (calls.Do (events.Admit 0 (spec 2 8 1 1000 4)), said.Done (answers.Admitted (reserved 3 8 6 8))) ∷
+    (calls.Do (events.Start 0), said.Done (answers.Started true 0 1 1)) ∷
     (calls.Do (events.Read 0 0 0 1), said.Done (answers.Bytes (0 ∷ []))) ∷
     (calls.Do (events.Read 0 1 0 1), said.Done (answers.Bytes (0 ∷ []))) ∷
     (calls.Do (events.Read 0 2 0 1), said.Done (answers.Bytes (0 ∷ []))) ∷
@@ -97,8 +97,8 @@ loan_at_a_stop = refl
 
 -- At Soft a machine is paged where its balloon lends all it ever can.
 pub paged_beside_the_balloon : AreTold (site 8 16 8 75 6 4 2 1 16777216) (
-    (calls.Do (events.Admit 0 (spec 1 8 1 1000 2)), said.Done (answers.Admitted 2 8 7 8)) ∷
-    (calls.Do (events.Start 0), said.Done (answers.Started 0 1 1 true)) ∷
+    (calls.Do (events.Admit 0 (spec 1 8 1 1000 2)), said.Done (answers.Admitted (reserved 2 8 7 8))) ∷
+    (calls.Do (events.Start 0), said.Done (answers.Started true 0 1 1)) ∷
     (calls.Do (events.Read 0 0 0 1), said.Done (answers.Bytes (0 ∷ []))) ∷
     (calls.Do (events.Read 0 1 0 1), said.Done (answers.Bytes (0 ∷ []))) ∷
     (calls.Do (events.Read 0 2 0 1), said.Done (answers.Bytes (0 ∷ []))) ∷
@@ -114,8 +114,8 @@ paged_beside_the_balloon = refl
 
 -- And where it stopped.
 pub paged_at_a_stop : AreTold (site 8 16 8 75 6 4 2 1 16777216) (
-    (calls.Do (events.Admit 0 (spec 1 8 1 1000 2)), said.Done (answers.Admitted 2 8 7 8)) ∷
-    (calls.Do (events.Start 0), said.Done (answers.Started 0 1 1 true)) ∷
+    (calls.Do (events.Admit 0 (spec 1 8 1 1000 2)), said.Done (answers.Admitted (reserved 2 8 7 8))) ∷
+    (calls.Do (events.Start 0), said.Done (answers.Started true 0 1 1)) ∷
     (calls.Do (events.Read 0 0 0 1), said.Done (answers.Bytes (0 ∷ []))) ∷
     (calls.Do (events.Read 0 1 0 1), said.Done (answers.Bytes (0 ∷ []))) ∷
     (calls.Do (events.Read 0 2 0 1), said.Done (answers.Bytes (0 ∷ []))) ∷

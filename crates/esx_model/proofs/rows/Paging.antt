@@ -10,12 +10,12 @@ use Rattle.esx_events.specs.declared.call.Call.TheVariants as calls
 use Rattle.esx_events.specs.declared.call.Said.TheVariants as said
 use Rattle.esx_events.specs.declared.call.PageState.TheVariants as states
 use Rattle.esx_events.specs.declared.call.Help.TheVariants as helps
-use Rattle.esx_model.proofs.rows.Replies.{site, spec, sum, table_row, reply, replies_of, AreAnswered}
+use Rattle.esx_model.proofs.rows.Replies.{site, spec, reserved, sum, table_row, reply, replies_of, AreAnswered}
 
 -- No paging while the balloon may lend.
 pub balloon_first : AreAnswered (site 8 16 8 75 6 4 2 1 16777216) (
-    (calls.Do (events.Admit 0 (spec 2 8 1 1000 4)), reply 0 (said.Done (answers.Admitted 3 8 6 8))) ∷
-    (calls.Do (events.Start 0), reply 0 (said.Done (answers.Started 0 1 1 true))) ∷
+    (calls.Do (events.Admit 0 (spec 2 8 1 1000 4)), reply 0 (said.Done (answers.Admitted (reserved 3 8 6 8)))) ∷
+    (calls.Do (events.Start 0), reply 0 (said.Done (answers.Started true 0 1 1))) ∷
     (calls.Do (events.Read 0 0 0 1), reply 0 (said.Done (answers.Bytes (0 ∷ [])))) ∷
     (calls.Do (events.Read 0 1 0 1), reply 0 (said.Done (answers.Bytes (0 ∷ [])))) ∷
     (calls.Do (events.Read 0 2 0 1), reply 0 (said.Done (answers.Bytes (0 ∷ [])))) ∷
@@ -28,8 +28,8 @@ balloon_first = refl
 
 -- Paging up to the target, and a machine that may not go while pages are out.
 pub without_balloon : AreAnswered (site 8 16 8 75 6 4 2 1 16777216) (
-    (calls.Do (events.Admit 0 (spec 2 8 1 1000 0)), reply 0 (said.Done (answers.Admitted 3 8 6 8))) ∷
-    (calls.Do (events.Start 0), reply 0 (said.Done (answers.Started 0 1 1 true))) ∷
+    (calls.Do (events.Admit 0 (spec 2 8 1 1000 0)), reply 0 (said.Done (answers.Admitted (reserved 3 8 6 8)))) ∷
+    (calls.Do (events.Start 0), reply 0 (said.Done (answers.Started true 0 1 1))) ∷
     (calls.Do (events.Read 0 0 0 1), reply 0 (said.Done (answers.Bytes (0 ∷ [])))) ∷
     (calls.Do (events.Read 0 1 0 1), reply 0 (said.Done (answers.Bytes (0 ∷ [])))) ∷
     (calls.Do (events.Read 0 2 0 1), reply 0 (said.Done (answers.Bytes (0 ∷ [])))) ∷
@@ -52,10 +52,10 @@ without_balloon = refl
 
 -- Pages that make room for others of their machine.
 pub replacing : AreAnswered (site 8 16 8 75 6 4 2 1 16777216) (
-    (calls.Do (events.Admit 0 (spec 3 6 1 1000 0)), reply 0 (said.Done (answers.Admitted 4 8 3 8))) ∷
-    (calls.Do (events.Admit 1 (spec 3 6 1 1000 0)), reply 0 (said.Done (answers.Admitted 8 8 6 8))) ∷
-    (calls.Do (events.Start 0), reply 0 (said.Done (answers.Started 0 1 1 true))) ∷
-    (calls.Do (events.Start 1), reply 0 (said.Done (answers.Started 1 1 1 true))) ∷
+    (calls.Do (events.Admit 0 (spec 3 6 1 1000 0)), reply 0 (said.Done (answers.Admitted (reserved 4 8 3 8)))) ∷
+    (calls.Do (events.Admit 1 (spec 3 6 1 1000 0)), reply 0 (said.Done (answers.Admitted (reserved 8 8 6 8)))) ∷
+    (calls.Do (events.Start 0), reply 0 (said.Done (answers.Started true 0 1 1))) ∷
+    (calls.Do (events.Start 1), reply 0 (said.Done (answers.Started true 1 1 1))) ∷
     (calls.Do (events.Write 0 0 0 (170 ∷ [])), reply 0 (said.Done answers.Done)) ∷
     (calls.Do (events.Read 0 1 0 1), reply 0 (said.Done (answers.Bytes (0 ∷ [])))) ∷
     (calls.Do (events.Read 0 2 0 1), reply 0 (said.Done (answers.Bytes (0 ∷ [])))) ∷
@@ -76,8 +76,8 @@ replacing = refl
 
 -- What advice names leads to the write.
 pub advice : AreAnswered (site 8 16 8 75 6 4 2 1 16777216) (
-    (calls.Do (events.Admit 0 (spec 1 8 1 1000 0)), reply 0 (said.Done (answers.Admitted 2 8 7 8))) ∷
-    (calls.Do (events.Start 0), reply 0 (said.Done (answers.Started 0 1 1 true))) ∷
+    (calls.Do (events.Admit 0 (spec 1 8 1 1000 0)), reply 0 (said.Done (answers.Admitted (reserved 2 8 7 8)))) ∷
+    (calls.Do (events.Start 0), reply 0 (said.Done (answers.Started true 0 1 1))) ∷
     (calls.Do (events.Read 0 0 0 1), reply 0 (said.Done (answers.Bytes (0 ∷ [])))) ∷
     (calls.Do (events.Read 0 1 0 1), reply 0 (said.Done (answers.Bytes (0 ∷ [])))) ∷
     (calls.Do (events.Read 0 2 0 1), reply 0 (said.Done (answers.Bytes (0 ∷ [])))) ∷

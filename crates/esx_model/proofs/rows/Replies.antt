@@ -4,6 +4,7 @@ use Rattle.esx_types.specs.declared.config.Config.{Config}
 use Rattle.esx_types.specs.declared.level.Level.{Level}
 use Rattle.esx_types.specs.declared.vm.VmSpec.{VmSpec}
 use Rattle.esx_types.specs.declared.vm.VmState.{VmState}
+use Rattle.esx_events.specs.declared.event.Reserves.{Reserves}
 use Rattle.esx_events.specs.declared.event.Answer.{Answer}
 use Rattle.esx_events.specs.declared.event.Refusal.{Refusal}
 use Rattle.esx_events.specs.declared.call.Call.{Call}
@@ -47,6 +48,9 @@ site frames page slots tau high soft hard low nodes = record { frames = frames; 
 
 abbrev pub spec : ℕ → ℕ → ℕ → ℕ → ℕ → VmSpec
 spec min max overhead shares balloon = record { min = min; max = max; overhead = overhead; shares = shares; balloon_max = balloon }
+
+abbrev pub reserved : ℕ → ℕ → ℕ → ℕ → Reserves
+reserved memory frames swap slots = record { memory = memory; frames = frames; swap = swap; slots = slots }
 
 abbrev pub sum : ℕ → ℕ → ℕ → ℕ → Level → Sum
 sum overhead private shared free level = record { overhead = overhead; private = private; shared = shared; free = free; level = level }

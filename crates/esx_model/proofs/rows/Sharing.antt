@@ -9,17 +9,17 @@ use Rattle.esx_events.specs.declared.event.Refusal.TheVariants as refusals
 use Rattle.esx_events.specs.declared.call.Call.TheVariants as calls
 use Rattle.esx_events.specs.declared.call.Said.TheVariants as said
 use Rattle.esx_events.specs.declared.call.PageState.TheVariants as states
-use Rattle.esx_model.proofs.rows.Replies.{site, spec, sum, stand, reply, replies_of, AreAnswered}
+use Rattle.esx_model.proofs.rows.Replies.{site, spec, reserved, sum, stand, reply, replies_of, AreAnswered}
 
 -- Two pages are shared, and each of them is written; a third is shared in between.
 pub copy_on_write : AreAnswered (site 20 16 8 75 6 4 2 1 16777216) (
-    (calls.Do (events.Admit 0 (spec 2 6 1 1000 0)), reply 0 (said.Done (answers.Admitted 3 20 4 8))) ∷
-    (calls.Do (events.Start 0), reply 0 (said.Done (answers.Started 0 1 1 true))) ∷
+    (calls.Do (events.Admit 0 (spec 2 6 1 1000 0)), reply 0 (said.Done (answers.Admitted (reserved 3 20 4 8)))) ∷
+    (calls.Do (events.Start 0), reply 0 (said.Done (answers.Started true 0 1 1))) ∷
     (calls.Do (events.Read 0 0 0 16), reply 0 (said.Done (answers.Bytes (0 ∷ 0 ∷ 0 ∷ 0 ∷ 0 ∷ 0 ∷ 0 ∷ 0 ∷ 0 ∷ 0 ∷ 0 ∷ 0 ∷ 0 ∷ 0 ∷ 0 ∷ 0 ∷ [])))) ∷
     (calls.OfPage 0 0, reply 0 (said.Page (states.Private 1))) ∷
     (calls.Sum, reply 0 (said.Sum (sum 1 1 0 18 levels.High))) ∷
-    (calls.Do (events.Admit 1 (spec 2 6 1 1000 0)), reply 0 (said.Done (answers.Admitted 6 20 8 8))) ∷
-    (calls.Do (events.Start 1), reply 0 (said.Done (answers.Started 2 1 1 true))) ∷
+    (calls.Do (events.Admit 1 (spec 2 6 1 1000 0)), reply 0 (said.Done (answers.Admitted (reserved 6 20 8 8)))) ∷
+    (calls.Do (events.Start 1), reply 0 (said.Done (answers.Started true 2 1 1))) ∷
     (calls.Do (events.Write 0 1 0 (42 ∷ [])), reply 0 (said.Done answers.Done)) ∷
     (calls.Do (events.Write 1 0 0 (42 ∷ [])), reply 0 (said.Done answers.Done)) ∷
     (calls.Do (events.Scan 0 1), reply 0 (said.Done (answers.Looked scanned.Hinted))) ∷
@@ -40,13 +40,13 @@ copy_on_write = refl
 
 -- Sharing is undone and done again.
 pub undo_of_sharing : AreAnswered (site 20 16 8 75 6 4 2 1 16777216) (
-    (calls.Do (events.Admit 0 (spec 2 6 1 1000 0)), reply 0 (said.Done (answers.Admitted 3 20 4 8))) ∷
-    (calls.Do (events.Start 0), reply 0 (said.Done (answers.Started 0 1 1 true))) ∷
+    (calls.Do (events.Admit 0 (spec 2 6 1 1000 0)), reply 0 (said.Done (answers.Admitted (reserved 3 20 4 8)))) ∷
+    (calls.Do (events.Start 0), reply 0 (said.Done (answers.Started true 0 1 1))) ∷
     (calls.Do (events.Read 0 0 0 16), reply 0 (said.Done (answers.Bytes (0 ∷ 0 ∷ 0 ∷ 0 ∷ 0 ∷ 0 ∷ 0 ∷ 0 ∷ 0 ∷ 0 ∷ 0 ∷ 0 ∷ 0 ∷ 0 ∷ 0 ∷ 0 ∷ [])))) ∷
     (calls.OfPage 0 0, reply 0 (said.Page (states.Private 1))) ∷
     (calls.Sum, reply 0 (said.Sum (sum 1 1 0 18 levels.High))) ∷
-    (calls.Do (events.Admit 1 (spec 2 6 1 1000 0)), reply 0 (said.Done (answers.Admitted 6 20 8 8))) ∷
-    (calls.Do (events.Start 1), reply 0 (said.Done (answers.Started 2 1 1 true))) ∷
+    (calls.Do (events.Admit 1 (spec 2 6 1 1000 0)), reply 0 (said.Done (answers.Admitted (reserved 6 20 8 8)))) ∷
+    (calls.Do (events.Start 1), reply 0 (said.Done (answers.Started true 2 1 1))) ∷
     (calls.Do (events.Write 0 1 0 (42 ∷ [])), reply 0 (said.Done answers.Done)) ∷
     (calls.Do (events.Write 1 0 0 (42 ∷ [])), reply 0 (said.Done answers.Done)) ∷
     (calls.Do (events.Scan 0 1), reply 0 (said.Done (answers.Looked scanned.Hinted))) ∷
@@ -66,8 +66,8 @@ undo_of_sharing = refl
 
 -- A hint whose page has changed.
 pub stale_hint : AreAnswered (site 20 16 8 75 6 4 2 1 16777216) (
-    (calls.Do (events.Admit 0 (spec 2 6 1 1000 0)), reply 0 (said.Done (answers.Admitted 3 20 4 8))) ∷
-    (calls.Do (events.Start 0), reply 0 (said.Done (answers.Started 0 1 1 true))) ∷
+    (calls.Do (events.Admit 0 (spec 2 6 1 1000 0)), reply 0 (said.Done (answers.Admitted (reserved 3 20 4 8)))) ∷
+    (calls.Do (events.Start 0), reply 0 (said.Done (answers.Started true 0 1 1))) ∷
     (calls.Do (events.Read 0 0 0 16), reply 0 (said.Done (answers.Bytes (0 ∷ 0 ∷ 0 ∷ 0 ∷ 0 ∷ 0 ∷ 0 ∷ 0 ∷ 0 ∷ 0 ∷ 0 ∷ 0 ∷ 0 ∷ 0 ∷ 0 ∷ 0 ∷ [])))) ∷
     (calls.OfPage 0 0, reply 0 (said.Page (states.Private 1))) ∷
     (calls.Sum, reply 0 (said.Sum (sum 1 1 0 18 levels.High))) ∷
@@ -83,8 +83,8 @@ stale_hint = refl
 
 -- A page that is nowhere has no content to share.
 pub untouched : AreAnswered (site 20 16 8 75 6 4 2 1 16777216) (
-    (calls.Do (events.Admit 0 (spec 2 6 1 1000 0)), reply 0 (said.Done (answers.Admitted 3 20 4 8))) ∷
-    (calls.Do (events.Start 0), reply 0 (said.Done (answers.Started 0 1 1 true))) ∷
+    (calls.Do (events.Admit 0 (spec 2 6 1 1000 0)), reply 0 (said.Done (answers.Admitted (reserved 3 20 4 8)))) ∷
+    (calls.Do (events.Start 0), reply 0 (said.Done (answers.Started true 0 1 1))) ∷
     (calls.Do (events.Read 0 0 0 16), reply 0 (said.Done (answers.Bytes (0 ∷ 0 ∷ 0 ∷ 0 ∷ 0 ∷ 0 ∷ 0 ∷ 0 ∷ 0 ∷ 0 ∷ 0 ∷ 0 ∷ 0 ∷ 0 ∷ 0 ∷ 0 ∷ [])))) ∷
     (calls.OfPage 0 0, reply 0 (said.Page (states.Private 1))) ∷
     (calls.Sum, reply 0 (said.Sum (sum 1 1 0 18 levels.High))) ∷
@@ -94,10 +94,10 @@ untouched = refl
 
 -- A page that can be shared is not paged out.
 pub shared_in_place_of_paging : AreAnswered (site 8 16 8 75 6 4 2 1 16777216) (
-    (calls.Do (events.Admit 0 (spec 1 6 1 1000 0)), reply 0 (said.Done (answers.Admitted 2 8 5 8))) ∷
-    (calls.Do (events.Admit 1 (spec 1 4 1 1000 0)), reply 0 (said.Done (answers.Admitted 4 8 8 8))) ∷
-    (calls.Do (events.Start 0), reply 0 (said.Done (answers.Started 0 1 1 true))) ∷
-    (calls.Do (events.Start 1), reply 0 (said.Done (answers.Started 1 1 1 true))) ∷
+    (calls.Do (events.Admit 0 (spec 1 6 1 1000 0)), reply 0 (said.Done (answers.Admitted (reserved 2 8 5 8)))) ∷
+    (calls.Do (events.Admit 1 (spec 1 4 1 1000 0)), reply 0 (said.Done (answers.Admitted (reserved 4 8 8 8)))) ∷
+    (calls.Do (events.Start 0), reply 0 (said.Done (answers.Started true 0 1 1))) ∷
+    (calls.Do (events.Start 1), reply 0 (said.Done (answers.Started true 1 1 1))) ∷
     (calls.Do (events.Write 0 0 0 (42 ∷ [])), reply 0 (said.Done answers.Done)) ∷
     (calls.Do (events.Write 1 0 0 (42 ∷ [])), reply 0 (said.Done answers.Done)) ∷
     (calls.Do (events.Scan 1 0), reply 0 (said.Done (answers.Looked scanned.Hinted))) ∷
@@ -118,8 +118,8 @@ shared_in_place_of_paging = refl
 
 -- Of a look that does not end in sharing nothing remains where the page is paged out.
 pub paging_leaves_hints : AreAnswered (site 8 16 8 75 6 4 2 1 16777216) (
-    (calls.Do (events.Admit 0 (spec 1 8 1 1000 0)), reply 0 (said.Done (answers.Admitted 2 8 7 8))) ∷
-    (calls.Do (events.Start 0), reply 0 (said.Done (answers.Started 0 1 1 true))) ∷
+    (calls.Do (events.Admit 0 (spec 1 8 1 1000 0)), reply 0 (said.Done (answers.Admitted (reserved 2 8 7 8)))) ∷
+    (calls.Do (events.Start 0), reply 0 (said.Done (answers.Started true 0 1 1))) ∷
     (calls.Do (events.Write 0 0 0 (42 ∷ [])), reply 0 (said.Done answers.Done)) ∷
     (calls.Do (events.Scan 0 0), reply 0 (said.Done (answers.Looked scanned.Hinted))) ∷
     (calls.Do (events.Write 0 0 0 (43 ∷ [])), reply 0 (said.Done answers.Done)) ∷

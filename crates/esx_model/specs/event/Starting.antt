@@ -20,7 +20,7 @@ with_overhead v f = record v { overhead = v.overhead ++ f ∷ []; state = if nat
 abbrev pub take_overhead : Site → ℕ → Vm → Option ℕ → Outcome
 take_overhead s n v None = Err Short
 take_overhead s n v (Some f) =
-    Ok (answers.Started f (length v.overhead + 1) v.spec.overhead (not (nat_lt (length v.overhead + 1) v.spec.overhead)), with_vm s n (with_overhead v f))
+    Ok (answers.Started (not (nat_lt (length v.overhead + 1) v.spec.overhead)) f (length v.overhead + 1) v.spec.overhead, with_vm s n (with_overhead v f))
 
 unfoldable pub start : Config → Site → ℕ → Outcome
 start c s n = at_vm (vm_at s n) (λ v. unless (start_gate (standing v)) (take_overhead s n v (least_free c.frames s)))

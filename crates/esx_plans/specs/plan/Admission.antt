@@ -7,7 +7,7 @@ use Rattle.esx_model.specs.declared.book.VmRow.{VmRow}
 use Rattle.esx_model.specs.declared.tables.Tables.{Tables}
 use Rattle.esx_model.specs.Tables.{vm_table}
 use Rattle.esx_model.specs.event.Outcome.{unless}
-use Rattle.esx_model.specs.event.Admission.{admit_gate, admitted}
+use Rattle.esx_model.specs.event.Admission.{admit_gate, reserves_in, admitted}
 use Rattle.esx_tables.specs.declared.change.Change.TheVariants.{VmAt}
 use Rattle.esx_tables.specs.Readings.{row_at}
 use Rattle.esx_changes.specs.Planned.{Planned}
@@ -31,4 +31,4 @@ swap_after t spec = sum_by swap_of t.vms + (spec.max - spec.min)
 unfoldable pub admit_plan : Config → Tables → ℕ → VmSpec → Planned
 admit_plan c t n spec =
     unless (admit_gate c (is_some (row_at t n)) spec (memory_after t spec) (swap_after t spec))
-    (Ok (answers.Admitted (memory_after t spec) c.frames (swap_after t spec) c.slots, VmAt n (Some (vm_table (admitted spec))) ∷ []))
+    (Ok (answers.Admitted (reserves_in c (memory_after t spec) (swap_after t spec)), VmAt n (Some (vm_table (admitted spec))) ∷ []))

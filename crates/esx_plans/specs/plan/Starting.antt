@@ -19,7 +19,7 @@ use Rattle.esx_tables.specs.Readings.{row_at}
 use Rattle.esx_changes.specs.Planned.{Planned, at_row}
 
 abbrev pub started : VmRow → ℕ → Answer
-started v f = Started f (length v.overhead + 1) v.spec.overhead (not (nat_lt (length v.overhead + 1) v.spec.overhead))
+started v f = Started (not (nat_lt (length v.overhead + 1) v.spec.overhead)) f (length v.overhead + 1) v.spec.overhead
 
 -- the frame is its overhead; with all of them the machine runs
 abbrev pub start_changes : ℕ → VmRow → ℕ → List Change

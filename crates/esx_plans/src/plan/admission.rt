@@ -6,7 +6,7 @@ ghost use Rattle.esx_changes.specs.Planned.{Plans};
 ghost use Rattle.esx_plans.specs.plan.Admission.{memory_of, swap_of, admit_plan};
 
 use esx_changes::Plan;
-use esx_events::{Answer, Refusal};
+use esx_events::{Answer, Boxed, Refusal, Reserves};
 use esx_tables::{Change, Record, SiteTables, VmTable};
 use esx_types::{Config, VmId, VmSpec};
 use std::alloc::Global;
@@ -94,13 +94,15 @@ pub fn plan_admit(
     }
     let row = VmTable::admitted(alloc, spec)?;
     let changes = vec![in alloc; Change::VmAt { vm, row: Some(row) }]?;
+    let reserves = Reserves {
+        memory,
+        frames: config.frames,
+        swap,
+        slots: config.slots,
+    };
+    let reserves = Boxed::new(alloc, reserves)?;
     Ok(Plan {
-        answer: Answer::Admitted {
-            memory,
-            frames: config.frames,
-            swap,
-            slots: config.slots,
-        },
+        answer: Answer::Admitted { reserves },
         changes: Record::of(changes),
     })
 }

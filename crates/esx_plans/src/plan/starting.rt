@@ -16,10 +16,10 @@ fn started(row: &VmTable, frame: u32) -> Answer
     let overhead = row.spec().overhead;
     let held = row.overhead().len() as u32 + 1;
     Answer::Started {
+        running: overhead <= held,
         frame,
         held,
         overhead,
-        running: overhead <= held,
     }
 }
 

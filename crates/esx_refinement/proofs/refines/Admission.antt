@@ -13,7 +13,7 @@ use Rattle.esx_model.specs.declared.scene.Site.{Site}
 use Rattle.esx_model.specs.Site.{vm_at, with_vm, memory_reserve, swap_reserve}
 use Rattle.esx_model.specs.Tables.{vm_table, tables_of}
 use Rattle.esx_model.specs.event.Outcome.{unless}
-use Rattle.esx_model.specs.event.Admission.{memory_with, swap_with, admit_gate, admitted, admit}
+use Rattle.esx_model.specs.event.Admission.{memory_with, swap_with, reserves_in, admit_gate, admitted, admit}
 use Rattle.esx_model.specs.sound.Sound.{IsSound}
 use Rattle.esx_model.proofs.Callers.{admitted_shown}
 use Rattle.esx_tables.specs.declared.change.Change.TheVariants.{VmAt}
@@ -66,14 +66,14 @@ nobody (Some v) h = cc
 -- the plan, from what it reads
 abbrev plan_by : Config → ℕ → VmSpec → Bool → ℕ → ℕ → Planned
 plan_by c n spec there memory swap =
-    unless (admit_gate c there spec memory swap) (Ok (Admitted memory c.frames swap c.slots, VmAt n (Some (vm_table (admitted spec))) ∷ []))
+    unless (admit_gate c there spec memory swap) (Ok (Admitted (reserves_in c memory swap), VmAt n (Some (vm_table (admitted spec))) ∷ []))
 
 admits : (c : Config) (s : Site) (n : ℕ) (spec : VmSpec) → IsSound c s → n < VM_NUMBERS → Refines c s (plan_by c n spec (is_some (vm_at s n)) (memory_with s spec) (swap_with s spec)) (admit c s n spec)
 unfolding admit exchanged traded
 admits c s n spec sound named =
     passes_gate c s (admit_gate c (is_some (vm_at s n)) spec (memory_with s spec) (swap_with s spec)) _ _ (λ pass.
     let below : n < length s.vms = omega (arith, named, sound.vms) in
-    makes_shown c s (Admitted (memory_with s spec) c.frames (swap_with s spec) c.slots) (VmAt n (Some (vm_table (admitted spec))) ∷ []) (with_vm s n (admitted spec)) _
+    makes_shown c s (Admitted (reserves_in c (memory_with s spec) (swap_with s spec))) (VmAt n (Some (vm_table (admitted spec))) ∷ []) (with_vm s n (admitted spec)) _
     refl (admitted_shown c s n spec below (nobody (vm_at s n) pass.0)))
 
 pub admit_refines : (c : Config) (s : Site) (n : ℕ) (spec : VmSpec) → IsSound c s → n < VM_NUMBERS → Refines c s (admit_plan c (tables_of c s) n spec) (admit c s n spec)

@@ -8,7 +8,7 @@ ghost use Rattle.esx_model.specs.event.Admission.{admit, admitted};
 ghost use Rattle.esx_steps.specs.Gives.{Gives};
 
 use crate::site::{memory_reserved, swap_reserved, vm_at};
-use esx_events::{Answer, Refusal};
+use esx_events::{Answer, Boxed, Refusal, Reserves};
 use esx_model::{Place, Site, Vm};
 use esx_types::{Config, Rows, VmId, VmSpec, VmState};
 use std::alloc::{AllocError, Global};
@@ -68,13 +68,14 @@ pub fn admit(
         return Err(Refusal::NoSwapReserve);
     }
     let row = admitted(alloc, spec)?;
-    let mut site = site;
-    site.vms.set(number, Some(row));
-    let answer = Answer::Admitted {
+    let reserves = Reserves {
         memory: memory as u32,
         frames: config.frames,
         swap: swap as u32,
         slots: config.slots,
     };
-    Ok((answer, site))
+    let reserves = Boxed::new(alloc, reserves)?;
+    let mut site = site;
+    site.vms.set(number, Some(row));
+    Ok((Answer::Admitted { reserves }, site))
 }

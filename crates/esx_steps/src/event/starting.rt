@@ -16,8 +16,8 @@ use esx_types::{Config, VmId, VmState};
 fn take_frame(vm: &mut Vm, frame: u32) -> Result<Answer, Refusal>
     requires { length vm.old.overhead ≤ 1048576 }
     ensures vm { OnOk result (vm.new ≡ with_overhead vm.old frame) }
-    ensures answer { IfOk result (λ a. a ≡ answers.Started frame (length vm.old.overhead + 1) vm.old.spec.overhead
-        (not (nat_lt (length vm.old.overhead + 1) vm.old.spec.overhead))) }
+    ensures answer { IfOk result (λ a. a ≡ answers.Started (not (nat_lt (length vm.old.overhead + 1) vm.old.spec.overhead))
+        frame (length vm.old.overhead + 1) vm.old.spec.overhead) }
     ensures err { IfErr result (λ e. e ≡ Refusal.OutOfMemory) }
 {
     let held = vm.overhead.len() + 1;
@@ -29,10 +29,10 @@ fn take_frame(vm: &mut Vm, frame: u32) -> Result<Answer, Refusal>
         VmState::Starting
     };
     Ok(Answer::Started {
+        running,
         frame,
         held: held as u32,
         overhead: vm.spec.overhead,
-        running,
     })
 }
 

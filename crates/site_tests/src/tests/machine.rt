@@ -28,6 +28,6 @@ fn admits_with_ample_memory(rt: HostRuntime) -> Result<(), Fail> {
     let vm = VmId::new(0).ok_or("vm")?;
     let mut machine = Machine::open(rt.alloc(), SITE)?;
     let admitted = answer(&rt, &mut machine, &Event::Admit { vm, spec: SPEC })?;
-    assert!(rt; matches!(&admitted, Answer::Admitted { memory: 3, .. }));
+    assert!(rt; matches!(&admitted, Answer::Admitted { reserves } if reserves.get().memory == 3));
     Ok(())
 }

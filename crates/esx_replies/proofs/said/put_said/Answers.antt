@@ -7,4 +7,4 @@ pub returns-in-Sum-clause-bytes : goal.returns-in-Sum-clause-bytes
 returns-in-Sum-clause-bytes g c = rw c.in-Sum.is c.put_sum.ensures.bytes
 
 pub returns-in-Activity-clause-bytes : goal.returns-in-Activity-clause-bytes
-returns-in-Activity-clause-bytes g c = rw c.in-Activity.is c.put_activity.ensures.bytes
+returns-in-Activity-clause-bytes g c = rw c.in-Activity.is (rw c.get-in-Activity.ensures at c.put_activity.ensures.bytes)
