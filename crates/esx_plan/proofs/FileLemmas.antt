@@ -1,6 +1,7 @@
 -- What a file that was opened and read comes to.
 use Rattle.std.proofs.Common.{◌≡◌, ◌⊎◌, ℕ, List, Option, Result, Ok, Err, refl}
-use Rattle.std.specs.Prelude.{◌+◌, ◌^◌, IsUtf8}
+use Rattle.std.specs.Prelude.{◌+◌, ◌^◌, ◌≤◌, length, IsUtf8}
+use Rattle.std.specs.Io.KnownBytes.{Consumes}
 use Rattle.std.specs.Result.{IfErr, IfOk, IsErrOf}
 use Rattle.std.specs.IoError.{error_kind}
 use Rattle.std.specs.declared.io.Error.{Error}
@@ -9,32 +10,39 @@ use Rattle.esx_reading.specs.declared.fault.TextFault.TheVariants.{NotToml, BadK
 use Rattle.esx_reading.specs.Whole.{GivesMore, GivesWhole, IsOfText}
 use Rattle.esx_scenario.specs.Scenarios.{IsRefused as IsNoPlan}
 use Rattle.esx_session.specs.Sessions.{IsRefused}
-use Rattle.esx_plan.specs.Files.{HasText, IsNoScenario, IsNoSession, IsNoText, LacksSession, LacksText, Opened}
+use Rattle.esx_plan.specs.Files.{FailsToRead, HasText, IsNoScenario, IsNoSession, IsNoText, IsRead, LacksSession, LacksText, Opened}
 use Rattle.esx_plan.specs.States.{SourceState}
 
 module _ (old new : SourceState) where
   no_text_of : (e : TextFault) → IsOfText e
       → (e ≡ NotText → (bytes : List ℕ) × GivesWhole old.remaining new.remaining bytes × (IsUtf8 bytes → ⊥))
-      → (e ≡ Read → (new.failures ≡ old.failures + 1)
-      ⊎ ((new.failures ≡ old.failures) × ((new.calls ≡ old.calls + 2 ^ 26) ⊎ GivesMore old.remaining new.remaining)))
-      → IsNoText old new e
-  no_text_of NotToml is none fails = is
-  no_text_of (BadKey path) is none fails = is
-  no_text_of (BadLine n) is none fails = is
-  no_text_of NotText is none fails = none refl
-  no_text_of (Differs k) is none fails = is
-  no_text_of Read is none fails = fails refl
-  no_text_of Write is none fails = is
-  no_text_of OutOfMemory is none fails = tt
+      → (e ≡ Read → FailsToRead old new) → ((e ≡ Read → ⊥) → new.failures ≡ old.failures) → IsNoText old new e
+  no_text_of NotToml is none fails same = is
+  no_text_of (BadKey path) is none fails same = is
+  no_text_of (BadLine n) is none fails same = is
+  no_text_of NotText is none fails same = let bytes = none refl in (bytes.0, bytes.1, bytes.2, same (λ h. cc))
+  no_text_of (Differs k) is none fails same = is
+  no_text_of Read is none fails same = fails refl
+  no_text_of Write is none fails same = is
+  no_text_of OutOfMemory is none fails same = same (λ h. cc)
 
   -- a text that could not be read
   pub no_text : {T : Type 0} (r : Result T TextFault) → IfErr r IsOfText
       → (IsErrOf r NotText → (bytes : List ℕ) × GivesWhole old.remaining new.remaining bytes × (IsUtf8 bytes → ⊥))
       → (IsErrOf r Read → (new.failures ≡ old.failures + 1)
       ⊎ ((new.failures ≡ old.failures) × ((new.calls ≡ old.calls + 2 ^ 26) ⊎ GivesMore old.remaining new.remaining)))
-      → IfErr r (IsNoText old new)
-  no_text (Ok v) is none fails = tt
-  no_text (Err e) is none fails = no_text_of e is (λ h. none (cc)) (λ h. fails (cc))
+      → (IsErrOf r Read → (bytes : List ℕ) × Consumes old.remaining new.remaining bytes × (new.calls ≤ old.calls + length bytes + 1))
+      → ((IsErrOf r Read → ⊥) → new.failures ≡ old.failures) → IfErr r (IsNoText old new)
+  no_text (Ok v) is none cause each same = tt
+  no_text (Err e) is none cause each same =
+      no_text_of e is (λ h. none (cc)) (λ h. record { cause = cause (cc); each = each (cc) }) (λ other. same (λ h. other (cc)))
+
+  -- a text that was read
+  pub is_text : {T : Type 0} (r : Result T TextFault) (bytes : T → List ℕ) → IfOk r (λ v. GivesWhole old.remaining new.remaining (bytes v))
+      → IfOk r (λ v. new.calls ≤ old.calls + length (bytes v) + 1) → ((IsErrOf r Read → ⊥) → new.failures ≡ old.failures)
+      → IfOk r (λ v. IsRead old new (bytes v))
+  is_text (Ok v) bytes given calls same = record { given = given; failures = same (λ h. cc); calls = calls }
+  is_text (Err e) bytes given calls same = tt
 
   -- it has no scenario either
   pub no_scenario_unread : (e : TextFault) → IsNoText old new e → IsNoScenario old new e
@@ -59,7 +67,7 @@ module _ (old new : SourceState) where
   no_session_unread OutOfMemory n = n
 
   -- a text that was refused
-  module _ (text : List ℕ) (given : GivesWhole old.remaining new.remaining text) where
+  module _ (text : List ℕ) (given : IsRead old new text) where
     no_plan_of : (e : TextFault) → IsNoPlan text e → IsNoScenario old new e
     no_plan_of NotToml n = (text, given, n)
     no_plan_of (BadKey path) n = (text, given, n)
@@ -68,7 +76,7 @@ module _ (old new : SourceState) where
     no_plan_of (Differs k) n = n
     no_plan_of Read n = absurd n
     no_plan_of Write n = n
-    no_plan_of OutOfMemory n = tt
+    no_plan_of OutOfMemory n = given.failures
 
     pub no_scenario : {T : Type 0} (r : Result T TextFault) → IfErr r (IsNoPlan text) → IfErr r (IsNoScenario old new)
     no_scenario (Ok v) n = tt
@@ -82,7 +90,7 @@ module _ (old new : SourceState) where
     no_session_of (Differs k) n = n
     no_session_of Read n = absurd n
     no_session_of Write n = n
-    no_session_of OutOfMemory n = tt
+    no_session_of OutOfMemory n = given.failures
 
     pub no_session : {T : Type 0} (r : Result T TextFault) → IfErr r (λ e. IsRefused e text) → IfErr r (IsNoSession old new)
     no_session (Ok v) n = tt

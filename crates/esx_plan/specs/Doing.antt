@@ -13,7 +13,6 @@ use Rattle.esx_text.specs.declared.fault.ServeFault.{ServeFault}
 use Rattle.esx_check.specs.Checks.{ChecksText}
 use Rattle.esx_check.specs.declared.check.Checked.{Checked as Outcome}
 use Rattle.esx_check.specs.declared.fault.OutputFault.{OutputFault}
-use Rattle.esx_plan.specs.declared.TheConstants.{SITE}
 use Rattle.esx_plan.specs.declared.running.RunFault.{RunFault}
 use Rattle.esx_plan.specs.declared.words.Asked.{Asked}
 use Rattle.esx_plan.specs.declared.words.Asked.TheVariants as asked
@@ -30,9 +29,13 @@ use Rattle.esx_plan.specs.States.{SourceState, SinkState}
 use Rattle.esx_plan.specs.Streams.{IsServed}
 use Rattle.esx_plan.specs.Words.{AskAlike, asked_in, program_app, word_and_file}
 
+-- the program's own site
+abbrev pub own_site : Config
+own_site = record { frames = 20; page = 16; slots = 8; tau = 75; high = 6; soft = 4; hard = 2; low = 1; nodes = 16777216 }
+
 -- the site of the scenario in a file, or the program's own where no file is named
 abbrev pub IsSiteAsked : Option Opened → Config → Type 0
-IsSiteAsked None site = site ≡ SITE
+IsSiteAsked None site = site ≡ own_site
 IsSiteAsked (Some read) site = (plan : Plan) × HasScenario read plan × (site ≡ plan.site)
 
 -- why there is no such site

@@ -1,5 +1,6 @@
 -- Files as they were opened and read.
-use Rattle.std.specs.Prelude.{◌≡◌, ◌⊎◌, ℕ, ◌+◌, ◌^◌, List, Option, Result, Ok, Err, IsUtf8}
+use Rattle.std.specs.Prelude.{◌≡◌, ◌⊎◌, ℕ, ◌+◌, ◌^◌, ◌≤◌, List, length, Option, Result, Ok, Err, IsUtf8}
+use Rattle.std.specs.Io.KnownBytes.{Consumes}
 use Rattle.std.specs.IoError.{error_kind}
 use Rattle.std.specs.declared.io.Error.{Error}
 use Rattle.esx_types.specs.declared.config.Config.{Config}
@@ -13,28 +14,34 @@ use Rattle.esx_session.specs.Sessions.{IsRefused, Reads}
 use Rattle.esx_plan.specs.Given.{open_fault}
 use Rattle.esx_plan.specs.States.{SourceState}
 
--- a read failed, or none of 2^26 found the end, or there were more bytes than a file may have
-abbrev pub FailsToRead : SourceState → SourceState → Type 0
-FailsToRead old new =
-    (new.failures ≡ old.failures + 1)
-    ⊎ ((new.failures ≡ old.failures) × ((new.calls ≡ old.calls + 2 ^ 26) ⊎ GivesMore old.remaining new.remaining))
+-- all bytes of a file were read, by reads of which each gave some but for the last, and none failed
+pub record IsRead (old new : SourceState) (bytes : List ℕ) : Type 0 where
+  pub given : GivesWhole old.remaining new.remaining bytes
+  pub failures : new.failures ≡ old.failures
+  pub calls : new.calls ≤ old.calls + length bytes + 1
 
--- What a fault tells of a file: its bytes are no text, or reading failed, or memory ran out.
+-- A read failed, or none of 2^26 found the end, or there were more bytes than a file may have. Each read gave some, but for the last.
+pub record FailsToRead (old new : SourceState) : Type 0 where
+  pub cause : (new.failures ≡ old.failures + 1)
+      ⊎ ((new.failures ≡ old.failures) × ((new.calls ≡ old.calls + 2 ^ 26) ⊎ GivesMore old.remaining new.remaining))
+  pub each : (bytes : List ℕ) × Consumes old.remaining new.remaining bytes × (new.calls ≤ old.calls + length bytes + 1)
+
+-- What a fault tells of a file: its bytes are no text, or reading failed, or memory ran out where no read failed.
 abbrev pub IsNoText : SourceState → SourceState → TextFault → Type 0
-IsNoText old new NotText = (bytes : List ℕ) × GivesWhole old.remaining new.remaining bytes × (IsUtf8 bytes → ⊥)
+IsNoText old new NotText = (bytes : List ℕ) × GivesWhole old.remaining new.remaining bytes × (IsUtf8 bytes → ⊥) × (new.failures ≡ old.failures)
 IsNoText old new Read = FailsToRead old new
-IsNoText old new OutOfMemory = Unit {0}
+IsNoText old new OutOfMemory = new.failures ≡ old.failures
 IsNoText old new _ = ⊥
 
 -- The same, or its bytes are a text that is refused so, where a scenario is wanted.
 abbrev pub IsNoScenario : SourceState → SourceState → TextFault → Type 0
-IsNoScenario old new NotToml = (text : List ℕ) × GivesWhole old.remaining new.remaining text × IsNoPlan text NotToml
-IsNoScenario old new (BadKey path) = (text : List ℕ) × GivesWhole old.remaining new.remaining text × IsNoPlan text (BadKey path)
+IsNoScenario old new NotToml = (text : List ℕ) × IsRead old new text × IsNoPlan text NotToml
+IsNoScenario old new (BadKey path) = (text : List ℕ) × IsRead old new text × IsNoPlan text (BadKey path)
 IsNoScenario old new e = IsNoText old new e
 
 -- The same, where a session is wanted.
 abbrev pub IsNoSession : SourceState → SourceState → TextFault → Type 0
-IsNoSession old new (BadLine n) = (text : List ℕ) × GivesWhole old.remaining new.remaining text × IsRefused (BadLine n) text
+IsNoSession old new (BadLine n) = (text : List ℕ) × IsRead old new text × IsRefused (BadLine n) text
 IsNoSession old new e = IsNoText old new e
 
 -- a file as it was opened and as it was left, or why it was not opened
@@ -61,7 +68,7 @@ IsSame remaining given opened other = ⊥
 
 -- the file has this text, and was read to its end
 abbrev pub HasText : Opened → List ℕ → Type 0
-HasText (Ok states) text = GivesWhole states.0.remaining states.1.remaining text
+HasText (Ok states) text = IsRead states.0 states.1 text
 HasText (Err e) text = ⊥
 
 -- its text is that scenario

@@ -1,11 +1,10 @@
 //! What is in a file that was opened, or was not.
 
-ghost use Rattle.std.specs.Prelude.{◌≡◌, ℕ, List, string_bytes, IfOk, IfErr, IsErrOf};
+ghost use Rattle.std.specs.Prelude.{◌≡◌, ℕ, List, string_bytes, IfOk, IfErr};
 ghost use Rattle.esx_types.specs.Ranges.{IsConfig};
-ghost use Rattle.esx_reading.specs.Whole.{GivesWhole};
 ghost use Rattle.esx_scenario.specs.Scenarios.{IsScenario};
 ghost use Rattle.esx_session.specs.Sessions.{Reads};
-ghost use Rattle.esx_plan.specs.Files.{Opened, IsLeft, IsNoScenario, IsNoSession, IsNoText, HasScenario, HasSession, HasText, LacksScenario, LacksSession, LacksText};
+ghost use Rattle.esx_plan.specs.Files.{Opened, IsLeft, IsNoScenario, IsNoSession, IsNoText, IsRead, HasScenario, HasSession, HasText, LacksScenario, LacksSession, LacksText};
 ghost use Rattle.esx_plan.specs.Given.{open_fault};
 ghost use Rattle.esx_plan.specs.States.{source_state};
 
@@ -28,16 +27,16 @@ fn fault_of_kind(kind: ErrorKind) -> TextFault
 
 /// The text that a file gives.
 fn text_of_source<F: Source>(alloc: Global, file: &mut F) -> Result<String, TextFault>
-    ensures text { IfOk result (λ s. GivesWhole (F.remaining file.old) (F.remaining file.new) (string_bytes s)) }
+    ensures text { IfOk result (λ s. IsRead (source_state F.remaining F.calls F.failures file.old) (source_state F.remaining F.calls F.failures file.new) (string_bytes s)) }
     ensures fault { IfErr result (IsNoText (source_state F.remaining F.calls F.failures file.old) (source_state F.remaining F.calls F.failures file.new)) }
-    ensures no_read_fault { (IsErrOf result TextFault.Read → ⊥) → F.failures file.new ≡ F.failures file.old }
 {
     read_text(alloc, file)
 }
 
 /// The scenario that a file gives.
 fn scenario_of_source<F: Source>(alloc: Global, file: &mut F) -> Result<Scenario, TextFault>
-    ensures scenario { IfOk result (λ plan. (text : List ℕ) × GivesWhole (F.remaining file.old) (F.remaining file.new) text × IsScenario text plan) }
+    ensures scenario { IfOk result (λ plan. (text : List ℕ)
+        × IsRead (source_state F.remaining F.calls F.failures file.old) (source_state F.remaining F.calls F.failures file.new) text × IsScenario text plan) }
     ensures fault { IfErr result (IsNoScenario (source_state F.remaining F.calls F.failures file.old) (source_state F.remaining F.calls F.failures file.new)) }
 {
     let text = text_of_source(alloc, file)?;
@@ -47,7 +46,8 @@ fn scenario_of_source<F: Source>(alloc: Global, file: &mut F) -> Result<Scenario
 /// The session that a file gives.
 fn session_of_source<F: Source>(alloc: Global, file: &mut F) -> Result<Session, TextFault>
     ensures config { IfOk result (λ session. IsConfig session.site) }
-    ensures session { IfOk result (λ session. (text : List ℕ) × GivesWhole (F.remaining file.old) (F.remaining file.new) text
+    ensures session { IfOk result (λ session. (text : List ℕ)
+        × IsRead (source_state F.remaining F.calls F.failures file.old) (source_state F.remaining F.calls F.failures file.new) text
         × Reads text session.site session.entries) }
     ensures fault { IfErr result (IsNoSession (source_state F.remaining F.calls F.failures file.old) (source_state F.remaining F.calls F.failures file.new)) }
 {
