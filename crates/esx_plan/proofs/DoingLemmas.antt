@@ -1,7 +1,7 @@
 -- What is done with a file and with streams, by the word that asks for it.
 use Rattle.std.proofs.Common.{◌≡◌, ◌∙◌, ◌⊎◌, ◌+◌, ℕ, List, [], Option, Some, None, Result, Ok, Err, refl, inl, inr, arith}
 use Rattle.std.specs.Prelude.{codes, IsSome}
-use Rattle.std.specs.Result.{IfOk, IfErr, OnOk}
+use Rattle.std.specs.Result.{IfOk, IfErr, IsErrOf, OnOk}
 use Rattle.std.specs.IoError.{error_kind}
 use Rattle.std.specs.Io.KnownBytes.{Appends}
 use Rattle.std.specs.declared.io.ErrorKind.{ErrorKind}
@@ -28,12 +28,13 @@ use Rattle.esx_plan.specs.Failing.{MayFail, WantsSession}
 use Rattle.esx_plan.specs.Files.{HasScenario, HasSession, HasText, LacksScenario, LacksSession, Opened}
 use Rattle.esx_plan.specs.Given.{open_fault}
 use Rattle.esx_plan.specs.Runs.{Plays, RunStops}
-use Rattle.esx_plan.specs.Sessions.{GivenOut, IsReplayed, IsNotReplayed, failed_writes}
+use Rattle.esx_plan.specs.Sessions.{GivenOut, IsReplayed, IsNotReplayed}
 use Rattle.esx_plan.specs.States.{SinkState, SourceState}
 use Rattle.esx_plan.specs.Status.{TellsCheck, TellsNoCheck, word_of_done}
 use Rattle.esx_plan.specs.Streams.{IsServed}
 use Rattle.esx_plan.specs.Words.{asked_of}
 use Rattle.esx_plan.proofs.FileLemmas.{text_refused}
+use Rattle.esx_plan.proofs.SessionLemmas.{faults_of}
 
 module _ {A : Type 0} (asked : Word × Option A) (some : IsSome asked.1) where
   -- a file that could not be opened
@@ -156,18 +157,24 @@ pub run_ends : (read : Opened) (plan : Plan) (errors errors' out out' : SinkStat
 run_ends read plan errors errors' out out' (Ok done) here ok fault = (plan, here, ok)
 run_ends read plan errors errors' out out' (Err e) here ok fault = (plan, here, fault)
 
--- how many writes failed with a replay
-fails_so : (e : OutputFault) (old new : ℕ) → new ≡ old + write_faults {T = Unit {0}} (Err e) → new ≡ old + failed_writes e
-fails_so output.Write old new f = f
-fails_so output.OutOfMemory old new f = f
-
 -- the session of a file was gone through again
 pub replay_ends : (read : Opened) (site : Config) (entries : List Entry) (out out' : SinkState) (r : Result (Unit {0}) OutputFault)
     → HasSession read site entries → OnOk r (Appends out.contents out'.contents (replay_text site entries))
     → IfErr r (λ e. (taken : Option (List ℕ)) × ReplayStops e site entries out.contents taken × GivenOut e taken out'.contents)
-    → out'.failures ≡ out.failures + write_faults r → OnOk r (out'.waiting ≡ [])
+    → out'.failures ≡ out.failures + write_faults r → out'.flushes + write_faults r ≡ out.flushes + 1 → ((IsErrOf r output.Write → ⊥) → out'.waiting ≡ [])
     → EndsReplay read (replayed_as r) out out'
-replay_ends read site entries out out' (Ok done) here ok fault failures sent =
-    (site, entries, here, record { told = ok; failures = omega (arith, failures); sent = sent })
-replay_ends read site entries out out' (Err e) here ok fault failures sent =
-    (site, entries, here, record { taken = fault.0; stops = fault.1; given = fault.2; failures = fails_so e out.failures out'.failures failures })
+replay_ends read site entries out out' (Ok done) here ok fault failures flushes sent =
+    (site, entries, here, record { told = ok; failures = omega (arith, failures); flushes = omega (arith, flushes); sent = sent (λ h. cc) })
+replay_ends read site entries out out' (Err e) here ok fault failures flushes sent = (
+  site,
+  entries,
+  here,
+  record {
+    taken = fault.0;
+    stops = fault.1;
+    given = fault.2;
+    failures = rw (faults_of e) at failures;
+    flushes = rw (faults_of e) at flushes;
+    sent = λ other. sent (λ h. other (cc));
+  },
+)

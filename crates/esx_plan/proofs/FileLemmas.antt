@@ -1,5 +1,5 @@
 -- What a file that was opened and read comes to.
-use Rattle.std.proofs.Common.{◌≡◌, ◌⊎◌, ℕ, List, Option, Result, Ok, Err, refl}
+use Rattle.std.proofs.Common.{◌≡◌, ◌⊎◌, ℕ, List, Option, Result, Ok, Err, refl, arith}
 use Rattle.std.specs.Prelude.{◌+◌, ◌^◌, ◌≤◌, length, IsUtf8}
 use Rattle.std.specs.Io.KnownBytes.{Consumes}
 use Rattle.std.specs.Result.{IfErr, IfOk, IsErrOf}
@@ -7,35 +7,45 @@ use Rattle.std.specs.IoError.{error_kind}
 use Rattle.std.specs.declared.io.Error.{Error}
 use Rattle.esx_reading.specs.declared.fault.TextFault.{TextFault}
 use Rattle.esx_reading.specs.declared.fault.TextFault.TheVariants.{NotToml, BadKey, BadLine, NotText, Differs, Read, Write, OutOfMemory}
-use Rattle.esx_reading.specs.Whole.{GivesMore, GivesWhole, IsOfText}
+use Rattle.esx_reading.specs.Whole.{GivesMore, GivesOn, GivesWhole, IsOfText}
 use Rattle.esx_scenario.specs.Scenarios.{IsRefused as IsNoPlan}
 use Rattle.esx_session.specs.Sessions.{IsRefused}
-use Rattle.esx_plan.specs.Files.{FailsToRead, HasText, IsNoScenario, IsNoSession, IsNoText, IsRead, LacksSession, LacksText, Opened}
+use Rattle.esx_plan.specs.Files.{FailsToRead, HasText, IsNoScenario, IsNoSession, IsNoText, IsRead, ReadsWell, LacksSession, LacksText, Opened}
 use Rattle.esx_plan.specs.States.{SourceState}
 
 module _ (old new : SourceState) where
   no_text_of : (e : TextFault) → IsOfText e
       → (e ≡ NotText → (bytes : List ℕ) × GivesWhole old.remaining new.remaining bytes × (IsUtf8 bytes → ⊥))
-      → (e ≡ Read → FailsToRead old new) → ((e ≡ Read → ⊥) → new.failures ≡ old.failures) → IsNoText old new e
-  no_text_of NotToml is none fails same = is
-  no_text_of (BadKey path) is none fails same = is
-  no_text_of (BadLine n) is none fails same = is
-  no_text_of NotText is none fails same = let bytes = none refl in (bytes.0, bytes.1, bytes.2, same (λ h. cc))
-  no_text_of (Differs k) is none fails same = is
-  no_text_of Read is none fails same = fails refl
-  no_text_of Write is none fails same = is
-  no_text_of OutOfMemory is none fails same = same (λ h. cc)
+      → (e ≡ NotText → (bytes : List ℕ) × GivesWhole old.remaining new.remaining bytes × (new.calls ≤ old.calls + length bytes + 1))
+      → (e ≡ Read → FailsToRead old new) → (e ≡ OutOfMemory → GivesOn old.remaining new.remaining old.calls new.calls)
+      → ((e ≡ Read → ⊥) → new.failures ≡ old.failures) → IsNoText old new e
+  no_text_of NotToml is none end fails memory same = is
+  no_text_of (BadKey path) is none end fails memory same = is
+  no_text_of (BadLine n) is none end fails memory same = is
+  no_text_of NotText is none end fails memory same =
+      let at_end = end refl in
+      (none refl, record { failures = same (λ h. cc); each = record { input = at_end.0; read = at_end.1.given; each = at_end.2 } })
+  no_text_of (Differs k) is none end fails memory same = is
+  no_text_of Read is none end fails memory same = fails refl
+  no_text_of Write is none end fails memory same = is
+  no_text_of OutOfMemory is none end fails memory same =
+      let on = memory refl in
+      record { failures = same (λ h. cc); each = record { input = on.bytes; read = on.given; each = omega (arith, on.each) } }
 
   -- a text that could not be read
   pub no_text : {T : Type 0} (r : Result T TextFault) → IfErr r IsOfText
       → (IsErrOf r NotText → (bytes : List ℕ) × GivesWhole old.remaining new.remaining bytes × (IsUtf8 bytes → ⊥))
+      → (IsErrOf r NotText → (bytes : List ℕ) × GivesWhole old.remaining new.remaining bytes × (new.calls ≤ old.calls + length bytes + 1))
       → (IsErrOf r Read → (new.failures ≡ old.failures + 1)
       ⊎ ((new.failures ≡ old.failures) × ((new.calls ≡ old.calls + 2 ^ 26) ⊎ GivesMore old.remaining new.remaining)))
       → (IsErrOf r Read → (bytes : List ℕ) × Consumes old.remaining new.remaining bytes × (new.calls ≤ old.calls + length bytes + 1))
+      → (IsErrOf r OutOfMemory → GivesOn old.remaining new.remaining old.calls new.calls)
       → ((IsErrOf r Read → ⊥) → new.failures ≡ old.failures) → IfErr r (IsNoText old new)
-  no_text (Ok v) is none cause each same = tt
-  no_text (Err e) is none cause each same =
-      no_text_of e is (λ h. none (cc)) (λ h. record { cause = cause (cc); each = each (cc) }) (λ other. same (λ h. other (cc)))
+  no_text (Ok v) is none end cause each memory same = tt
+  no_text (Err e) is none end cause each memory same =
+      no_text_of e is (λ h. none (cc)) (λ h. end (cc))
+      (λ h. let on = each (cc) in record { cause = cause (cc); each = record { input = on.0; read = on.1; each = on.2 } })
+      (λ h. memory (cc)) (λ other. same (λ h. other (cc)))
 
   -- a text that was read
   pub is_text : {T : Type 0} (r : Result T TextFault) (bytes : T → List ℕ) → IfOk r (λ v. GivesWhole old.remaining new.remaining (bytes v))
@@ -68,6 +78,9 @@ module _ (old new : SourceState) where
 
   -- a text that was refused
   module _ (text : List ℕ) (given : IsRead old new text) where
+    read_well : ReadsWell old new
+    read_well = record { failures = given.failures; each = record { input = text; read = given.given.given; each = given.calls } }
+
     no_plan_of : (e : TextFault) → IsNoPlan text e → IsNoScenario old new e
     no_plan_of NotToml n = (text, given, n)
     no_plan_of (BadKey path) n = (text, given, n)
@@ -76,7 +89,7 @@ module _ (old new : SourceState) where
     no_plan_of (Differs k) n = n
     no_plan_of Read n = absurd n
     no_plan_of Write n = n
-    no_plan_of OutOfMemory n = given.failures
+    no_plan_of OutOfMemory n = read_well
 
     pub no_scenario : {T : Type 0} (r : Result T TextFault) → IfErr r (IsNoPlan text) → IfErr r (IsNoScenario old new)
     no_scenario (Ok v) n = tt
@@ -90,7 +103,7 @@ module _ (old new : SourceState) where
     no_session_of (Differs k) n = n
     no_session_of Read n = absurd n
     no_session_of Write n = n
-    no_session_of OutOfMemory n = given.failures
+    no_session_of OutOfMemory n = read_well
 
     pub no_session : {T : Type 0} (r : Result T TextFault) → IfErr r (λ e. IsRefused e text) → IfErr r (IsNoSession old new)
     no_session (Ok v) n = tt

@@ -5,6 +5,7 @@ use Rattle.std.proofs.lemmas.List.{take-append-drop}
 use Rattle.std.specs.Result.{IfOk, IfErr, IsErrOf}
 use Rattle.std.specs.Io.KnownBytes.{Appends, Keeps, append_known}
 use Rattle.esx_types.specs.Ends.{write_failures}
+use Rattle.esx_writing.specs.Writing.{Writes}
 use Rattle.std.proofs.lemmas.Grind.{common_steps}
 use Rattle.esx_model.specs.Console.{Session}
 use Rattle.esx_text.specs.declared.fault.ServeFault.{ServeFault}
@@ -50,6 +51,17 @@ takes_none (Some xs) (Some ys) (Some zs) waited waits s k =
 pub keeps_all : (a : Option (List ℕ)) → Keeps a a
 keeps_all None = tt
 keeps_all (Some xs) = refl
+
+-- what was written before a flush
+pub appends_kept : (a b c : Option (List ℕ)) (text : List ℕ) → Appends a b text → Keeps b c → Appends a c text
+appends_kept None b c text p k = tt
+appends_kept (Some xs) None c text p k = absurd p
+appends_kept (Some xs) (Some ys) None text p k = absurd k
+appends_kept (Some xs) (Some ys) (Some zs) text p k = k ∙ p
+
+pub writes_kept : {T E : Type 0} (r : Result T E) (a b c : Option (List ℕ)) (text : List ℕ) → Appends a b text → Keeps b c → Writes a c text r
+writes_kept (Ok v) a b c text p k = appends_kept a b c text p k
+writes_kept (Err e) a b c text p k = (text, [], sym (append-nil text), appends_kept a b c text p k)
 
 pub appends_known : (a : Option (List ℕ)) (waits : List ℕ) → Appends a (append_known a waits) waits
 appends_known None waits = tt

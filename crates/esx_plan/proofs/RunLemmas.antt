@@ -25,18 +25,7 @@ use Rattle.esx_plan.specs.declared.running.RunFault.TheVariants.{Refused, Write,
 use Rattle.esx_plan.specs.Ends.{endings, ending_text, ends_text, workers_named}
 use Rattle.esx_plan.specs.Runs.{AreTold, IsPlayed, IsRefusedOpening, NotPlayed, Plays, RunStops, StopsTelling, fault_of, told_session, written_as}
 use Rattle.esx_plan.specs.States.{SinkState}
-use Rattle.esx_plan.proofs.OutgoingLemmas.{appends_known, none_wait, second_none}
-
--- what was written before a flush
-appends_kept : (a b c : Option (List ℕ)) (text : List ℕ) → Appends a b text → Keeps b c → Appends a c text
-appends_kept None b c text p k = tt
-appends_kept (Some xs) None c text p k = absurd p
-appends_kept (Some xs) (Some ys) None text p k = absurd k
-appends_kept (Some xs) (Some ys) (Some zs) text p k = k ∙ p
-
-writes_kept : {T E : Type 0} (r : Result T E) (a b c : Option (List ℕ)) (text : List ℕ) → Appends a b text → Keeps b c → Writes a c text r
-writes_kept (Ok v) a b c text p k = appends_kept a b c text p k
-writes_kept (Err e) a b c text p k = (text, [], sym (append-nil text), appends_kept a b c text p k)
+use Rattle.esx_plan.proofs.OutgoingLemmas.{appends_known, none_wait, second_none, writes_kept}
 
 -- the session of a console, whose site and log are told
 pub writes_session : {E : Type 0} (r : Result (Unit {0}) E) (a b c : Option (List ℕ)) (site site' : Config) (log log' : List Line) → site' ≡ site → log' ≡ log
@@ -110,12 +99,13 @@ module _ (console : Session) (out out' : SinkState) where
 
 module _ (p : Plan) (console : Session) (ends : List End) (played : IsPlayed p console ends) (all : List Ending) (are : all ≡ endings (workers_named (in_order p.guests)) ends)
     (errors errors' : SinkState) (told : Result (Unit {0}) SinkFailed) (ends_told : Writes errors.contents errors'.contents (flat_map ending_text all) told)
-    (failures : errors'.failures ≡ errors.failures + sink_faults told) (out out' : SinkState) where
+    (failures : errors'.failures ≡ errors.failures + sink_faults told) (sent : OnOk told (errors'.waiting ≡ [])) (out out' : SinkState) where
   ends_are_told : AreTold p ends errors errors'
   ends_are_told = record {
     ended = told;
     written = subst (λ (l : List Ending). Writes errors.contents errors'.contents (flat_map ending_text l) told) are ends_told;
     failures = failures;
+    sent = sent;
   }
 
   pub plays : (r : Result (Unit {0}) RunFault) → OnOk r (Appends out.contents out'.contents (told_session console) × (out'.failures ≡ out.failures) × (out'.waiting ≡ []))

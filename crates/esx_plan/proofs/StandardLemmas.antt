@@ -11,37 +11,43 @@ use Rattle.esx_plan.specs.declared.Failure.{Failure}
 use Rattle.esx_plan.specs.declared.Failure.TheVariants.{Words, Text, Serve, Output, Run}
 use Rattle.esx_plan.specs.Doing.{Does, DoesOver}
 use Rattle.esx_plan.specs.Failing.{MayFail}
-use Rattle.esx_plan.specs.Files.{IsFile, IsLeft, IsSame, Opened}
+use Rattle.esx_plan.specs.Files.{AreLeft, IsFile, IsLeft, IsSame, MayBeLeft, Opened}
 use Rattle.esx_plan.specs.States.{SinkState, SourceState}
 use Rattle.esx_plan.specs.Status.{word_of_done}
 use Rattle.esx_plan.specs.Words.{AskAlike, MayBe, asked_of}
 use Rattle.esx_plan.proofs.DoingLemmas.{does_fail, does_word}
 
-may_be_then : {F G H : Type 0} (R : F → G → Type 0) (S : G → H → Type 0) (T : F → H → Type 0)
-    → ((a : F) (b : G) (c : H) → R a b → S b c → T a c) → (a : Option F) (b : Option G) (c : Option H) → MayBe R a b → MayBe S b c → MayBe T a c
-may_be_then R S T then None None None r s = tt
-may_be_then R S T then None None (Some c) r s = absurd s
-may_be_then R S T then None (Some b) c r s = absurd r
-may_be_then R S T then (Some a) None c r s = absurd r
-may_be_then R S T then (Some a) (Some b) None r s = absurd s
-may_be_then R S T then (Some a) (Some b) (Some c) r s = then a b c r s
-
 -- a source of a file's bytes that was left so
 file_there : {F G : Type 0} (remaining : F → Option (List ℕ)) (given : G → Option (List ℕ)) (state : G → SourceState) → ((g : G) → (state g).remaining ≡ given g)
-    → (opened : Result F Error) (other : Result G Error) (read : Opened) → IsSame remaining given opened other → IsLeft state other read → IsFile remaining opened read
-file_there remaining given state seen (Ok file) (Ok source) (Ok states) same left = rw left.0 (seen source) ∙ same
-file_there remaining given state seen (Ok file) (Ok source) (Err e) same left = absurd left
-file_there remaining given state seen (Ok file) (Err e) read same left = absurd same
-file_there remaining given state seen (Err e) (Ok source) read same left = absurd same
-file_there remaining given state seen (Err e) (Err d) (Ok states) same left = absurd left
-file_there remaining given state seen (Err e) (Err d) (Err b) same left = left ∙ same
+    → (opened : Result F Error) (other left : Result G Error) (read : Opened) → IsSame remaining given opened other → IsLeft state other left read → IsFile remaining opened read
+file_there remaining given state seen (Ok file) (Ok source) (Ok l) (Ok states) same so = rw so.0 (seen source) ∙ same
+file_there remaining given state seen (Ok file) (Ok source) (Ok l) (Err e) same so = absurd so
+file_there remaining given state seen (Ok file) (Ok source) (Err e) read same so = absurd so
+file_there remaining given state seen (Ok file) (Err e) left read same so = absurd same
+file_there remaining given state seen (Err e) (Ok source) left read same so = absurd same
+file_there remaining given state seen (Err e) (Err d) (Ok l) read same so = absurd so
+file_there remaining given state seen (Err e) (Err d) (Err c) (Ok states) same so = absurd so
+file_there remaining given state seen (Err e) (Err d) (Err c) (Err b) same so = so.1 ∙ same
+
+-- the same where a file may be named
+file_may_be_there : {F G : Type 0} (remaining : F → Option (List ℕ)) (given : G → Option (List ℕ)) (state : G → SourceState) → ((g : G) → (state g).remaining ≡ given g)
+    → (opened : Option (Result F Error)) (other left : Option (Result G Error)) (read : Option Opened)
+    → MayBe (IsSame remaining given) opened other → MayBeLeft state other left read → MayBe (IsFile remaining) opened read
+file_may_be_there remaining given state seen None None None None same so = tt
+file_may_be_there remaining given state seen None None None (Some r) same so = absurd so
+file_may_be_there remaining given state seen None None (Some l) read same so = absurd so
+file_may_be_there remaining given state seen None (Some o) left read same so = absurd same
+file_may_be_there remaining given state seen (Some a) None left read same so = absurd same
+file_may_be_there remaining given state seen (Some a) (Some o) None read same so = absurd so
+file_may_be_there remaining given state seen (Some a) (Some o) (Some l) None same so = absurd so
+file_may_be_there remaining given state seen (Some a) (Some o) (Some l) (Some r) same so = file_there remaining given state seen a o l r same so
 
 pub files_there : {F G : Type 0} (remaining : F → Option (List ℕ)) (given : G → Option (List ℕ)) (state : G → SourceState) → ((g : G) → (state g).remaining ≡ given g)
-    → (wanted : Asked (Result F Error)) (other : Asked (Result G Error)) (read : Asked Opened)
-    → AskAlike (IsSame remaining given) wanted other → AskAlike (IsLeft state) other read → AskAlike (IsFile remaining) wanted read
-files_there remaining given state seen wanted other read same left = record {
-  word = left.word ∙ same.word;
-  file = may_be_then (IsSame remaining given) (IsLeft state) (IsFile remaining) (file_there remaining given state seen) (asked_of wanted).1 (asked_of other).1 (asked_of read).1 same.file left.file;
+    → (wanted : Asked (Result F Error)) (other left : Asked (Result G Error)) (read : Asked Opened)
+    → AskAlike (IsSame remaining given) wanted other → AreLeft state other left read → AskAlike (IsFile remaining) wanted read
+files_there remaining given state seen wanted other left read same so = record {
+  word = so.word.1 ∙ same.word;
+  file = file_may_be_there remaining given state seen (asked_of wanted).1 (asked_of other).1 (asked_of left).1 (asked_of read).1 same.file so.file;
 }
 
 -- the same is asked for, with a file where a file is named
@@ -77,14 +83,14 @@ may_fail_alike R a b alike (Err failure) m = may_fail_so (asked_of a) (asked_of 
 
 -- what was done of a source of a file's bytes, and of sources and sinks of these bytes
 pub over_ends : {F G : Type 0} (remaining : F → Option (List ℕ)) (given : G → Option (List ℕ)) (state : G → SourceState) → ((g : G) → (state g).remaining ≡ given g)
-    → (wanted : Asked (Result F Error)) (other : Asked (Result G Error)) (read : Asked Opened)
-    → AskAlike (IsSame remaining given) wanted other → AskAlike (IsLeft state) other read
+    → (wanted : Asked (Result F Error)) (other after : Asked (Result G Error)) (read : Asked Opened)
+    → AskAlike (IsSame remaining given) wanted other → AreLeft state other after read
     → (ended : Result Done Failure) (source source' : SourceState) (told told' written written' : SinkState) → Does read ended source source' told told' written written'
     → (unread left errors errors' out out' : Option (List ℕ)) → source.remaining ≡ unread → told.contents ≡ errors → written.contents ≡ out
     → left ≡ source'.remaining → errors' ≡ told'.contents → out' ≡ written'.contents → DoesOver remaining wanted ended unread left errors errors' out out'
-over_ends remaining given state seen wanted other read same left_so ended source source' told told' written written' does unread left errors errors' out out' a b c d e f = record {
+over_ends remaining given state seen wanted other after read same left_so ended source source' told told' written written' does unread left errors errors' out out' a b c d e f = record {
   read = read;
-  file = files_there remaining given state seen wanted other read same left_so;
+  file = files_there remaining given state seen wanted other after read same left_so;
   source = source;
   source' = source';
   told = told;

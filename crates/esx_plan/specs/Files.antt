@@ -1,6 +1,5 @@
 -- Files as they were opened and read.
-use Rattle.std.specs.Prelude.{◌≡◌, ◌⊎◌, ℕ, ◌+◌, ◌^◌, ◌≤◌, List, length, Option, Result, Ok, Err, IsUtf8}
-use Rattle.std.specs.Io.KnownBytes.{Consumes}
+use Rattle.std.specs.Prelude.{◌≡◌, ◌⊎◌, ℕ, ◌+◌, ◌^◌, ◌≤◌, List, length, Option, Some, None, Result, Ok, Err, IsUtf8}
 use Rattle.std.specs.IoError.{error_kind}
 use Rattle.std.specs.declared.io.Error.{Error}
 use Rattle.esx_types.specs.declared.config.Config.{Config}
@@ -11,8 +10,11 @@ use Rattle.esx_scenario.specs.Plans.{Plan}
 use Rattle.esx_scenario.specs.Scenarios.{IsScenario, IsRefused as IsNoPlan}
 use Rattle.esx_session.specs.declared.session.Entry.{Entry}
 use Rattle.esx_session.specs.Sessions.{IsRefused, Reads}
+use Rattle.esx_text.specs.Answers.{ReadsOn}
 use Rattle.esx_plan.specs.Given.{open_fault}
 use Rattle.esx_plan.specs.States.{SourceState}
+use Rattle.esx_plan.specs.Words.{asked_of}
+use Rattle.esx_plan.specs.declared.words.Asked.{Asked}
 
 -- all bytes of a file were read, by reads of which each gave some but for the last, and none failed
 pub record IsRead (old new : SourceState) (bytes : List ℕ) : Type 0 where
@@ -24,13 +26,18 @@ pub record IsRead (old new : SourceState) (bytes : List ℕ) : Type 0 where
 pub record FailsToRead (old new : SourceState) : Type 0 where
   pub cause : (new.failures ≡ old.failures + 1)
       ⊎ ((new.failures ≡ old.failures) × ((new.calls ≡ old.calls + 2 ^ 26) ⊎ GivesMore old.remaining new.remaining))
-  pub each : (bytes : List ℕ) × Consumes old.remaining new.remaining bytes × (new.calls ≤ old.calls + length bytes + 1)
+  pub each : ReadsOn old.remaining new.remaining old.calls new.calls
 
--- What a fault tells of a file: its bytes are no text, or reading failed, or memory ran out where no read failed.
+-- no read failed, and each gave some bytes, but for the last
+pub record ReadsWell (old new : SourceState) : Type 0 where
+  pub failures : new.failures ≡ old.failures
+  pub each : ReadsOn old.remaining new.remaining old.calls new.calls
+
+-- What a fault tells of a file: all its bytes were read and are no text, or reading failed, or memory ran out where no read failed.
 abbrev pub IsNoText : SourceState → SourceState → TextFault → Type 0
-IsNoText old new NotText = (bytes : List ℕ) × GivesWhole old.remaining new.remaining bytes × (IsUtf8 bytes → ⊥) × (new.failures ≡ old.failures)
+IsNoText old new NotText = ((bytes : List ℕ) × GivesWhole old.remaining new.remaining bytes × (IsUtf8 bytes → ⊥)) × ReadsWell old new
 IsNoText old new Read = FailsToRead old new
-IsNoText old new OutOfMemory = new.failures ≡ old.failures
+IsNoText old new OutOfMemory = ReadsWell old new
 IsNoText old new _ = ⊥
 
 -- The same, or its bytes are a text that is refused so, where a scenario is wanted.
@@ -48,11 +55,22 @@ IsNoSession old new e = IsNoText old new e
 abbrev pub Opened : Type 0
 Opened = Result (SourceState × SourceState) Error
 
--- it is this file, of which so much is known, that was left so
-abbrev pub IsLeft : {F : Type 0} → (F → SourceState) → Result F Error → Opened → Type 0
-IsLeft {F} state (Ok file) (Ok states) = (states.0 ≡ state file) × (left : F) × (states.1 ≡ state left)
-IsLeft state (Err e) (Err d) = d ≡ e
-IsLeft state opened read = ⊥
+-- it is this file, of which so much is known, and the same file as it was left
+abbrev pub IsLeft : {F : Type 0} → (F → SourceState) → Result F Error → Result F Error → Opened → Type 0
+IsLeft state (Ok file) (Ok left) (Ok states) = (states.0 ≡ state file) × (states.1 ≡ state left)
+IsLeft state (Err e) (Err d) (Err b) = (d ≡ e) × (b ≡ e)
+IsLeft state opened left read = ⊥
+
+-- the same where a file may be named
+abbrev pub MayBeLeft : {F : Type 0} → (F → SourceState) → Option (Result F Error) → Option (Result F Error) → Option Opened → Type 0
+MayBeLeft state None None None = Unit {0}
+MayBeLeft state (Some opened) (Some left) (Some read) = IsLeft state opened left read
+MayBeLeft state opened left read = ⊥
+
+-- the same of what is asked for
+pub record AreLeft {F : Type 0} (state : F → SourceState) (wanted left : Asked (Result F Error)) (read : Asked Opened) : Type 0 where
+  pub word : ((asked_of left).0 ≡ (asked_of wanted).0) × ((asked_of read).0 ≡ (asked_of wanted).0)
+  pub file : MayBeLeft state (asked_of wanted).1 (asked_of left).1 (asked_of read).1
 
 -- it is this file, whose bytes alone are known
 abbrev pub IsFile : {F : Type 0} → (F → Option (List ℕ)) → Result F Error → Opened → Type 0

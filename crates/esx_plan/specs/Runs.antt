@@ -1,5 +1,5 @@
 -- What a run of a scenario leaves, and what is told of it.
-use Rattle.std.specs.Prelude.{◌≡◌, ℕ, ◌+◌, List, [], map, length, Option, Result, Ok, Err}
+use Rattle.std.specs.Prelude.{◌≡◌, ℕ, ◌+◌, List, [], map, length, Option, Result, Ok, Err, OnOk}
 use Rattle.std.specs.Io.KnownBytes.{Appends}
 use Rattle.esx_types.specs.declared.ends.SinkFailed.{SinkFailed}
 use Rattle.esx_events.specs.declared.event.Refusal.{Refusal}
@@ -31,11 +31,12 @@ pub record IsPlayed (p : Plan) (console : Session) (ends : List End) : Type 0 wh
 abbrev pub told_session : Session → List ℕ
 told_session console = session_text console.site (map logged console.log)
 
--- The ends of the workers were told. Or one write failed, and a front of them was written.
+-- The ends of the workers were told, and none of them waits. Or one write or flush failed, and a front of them was written.
 pub record AreTold (p : Plan) (ends : List End) (old new : SinkState) : Type 0 where
   pub ended : Result (Unit {0}) SinkFailed
   pub written : Writes old.contents new.contents (ends_text p.guests ends) ended
   pub failures : new.failures ≡ old.failures + sink_faults ended
+  pub sent : OnOk ended (new.waiting ≡ [])
 
 -- one write or flush failed, and a front of the session was written
 pub record StopsTelling (console : Session) (out out' : SinkState) : Type 0 where

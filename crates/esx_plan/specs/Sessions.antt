@@ -12,10 +12,12 @@ use Rattle.esx_check.specs.Checks.{checked_text}
 use Rattle.esx_check.specs.Replays.{ReplayStops, replay_text}
 use Rattle.esx_plan.specs.States.{SinkState}
 
--- the line of what a check came to was written, and nothing failed
+-- the line of what a check came to was written, nothing failed, and after one flush nothing waits
 pub record IsTold (checked : Checked) (out out' : SinkState) : Type 0 where
   pub told : Appends out.contents out'.contents (checked_text checked)
   pub failures : out'.failures ≡ out.failures
+  pub flushes : out'.flushes ≡ out.flushes + 1
+  pub sent : out'.waiting ≡ []
 
 -- after a fault of writing a front of what the check came to was written, and nothing where memory ran out
 abbrev pub CheckStops : OutputFault → Checked → Option (List ℕ) → Option (List ℕ) → Type 0
@@ -27,28 +29,33 @@ abbrev pub failed_writes : OutputFault → ℕ
 failed_writes output.Write = 1
 failed_writes output.OutOfMemory = 0
 
--- the line was not written, or not all of it
+-- the line was not written, or not all of it, or it could not be handed on
 pub record IsNotTold (e : OutputFault) (checked : Checked) (out out' : SinkState) : Type 0 where
   pub stops : CheckStops e checked out.contents out'.contents
   pub failures : out'.failures ≡ out.failures + failed_writes e
+  pub flushes : out'.flushes + failed_writes e ≡ out.flushes + 1
+  pub sent : (e ≡ output.Write → ⊥) → out'.waiting ≡ []
 
 -- all that was taken came out, or after a fault of writing a front of it
 abbrev pub GivenOut : OutputFault → Option (List ℕ) → Option (List ℕ) → Type 0
 GivenOut output.Write taken out = (rest : List ℕ) × Appends out taken rest
 GivenOut output.OutOfMemory taken out = taken ≡ out
 
--- the replies of a session and the table were written, nothing failed, and nothing waits
+-- the replies of a session and the table were written, nothing failed, and after one flush nothing waits
 pub record IsReplayed (site : Config) (entries : List Entry) (out out' : SinkState) : Type 0 where
   pub told : Appends out.contents out'.contents (replay_text site entries)
   pub failures : out'.failures ≡ out.failures
+  pub flushes : out'.flushes ≡ out.flushes + 1
   pub sent : out'.waiting ≡ []
 
--- they were not written, or not all of them
+-- they were not written, or not all of them, or they could not be handed on
 pub record IsNotReplayed (e : OutputFault) (site : Config) (entries : List Entry) (out out' : SinkState) : Type 0 where
   pub taken : Option (List ℕ)
   pub stops : ReplayStops e site entries out.contents taken
   pub given : GivenOut e taken out'.contents
   pub failures : out'.failures ≡ out.failures + failed_writes e
+  pub flushes : out'.flushes + failed_writes e ≡ out.flushes + 1
+  pub sent : (e ≡ output.Write → ⊥) → out'.waiting ≡ []
 
 -- 1 at a difference
 abbrev pub check_status : Checked → ℕ

@@ -4,10 +4,9 @@ ghost use Rattle.std.specs.Prelude.{◌≡◌, ℕ, Option, IfOk, IfErr};
 ghost use Rattle.esx_types.specs.Ranges.{IsConfig};
 ghost use Rattle.esx_plan.specs.declared.words.Asked.{Asked as Wanted};
 ghost use Rattle.esx_plan.specs.Doing.{served_as, ran_as, replayed_as, Does, EndsCheck, EndsConsole, EndsReplay, EndsRun, IsSiteAsked, LacksSite};
-ghost use Rattle.esx_plan.specs.Files.{Opened, IsLeft};
+ghost use Rattle.esx_plan.specs.Files.{AreLeft, IsLeft, MayBeLeft, Opened};
 ghost use Rattle.esx_plan.specs.States.{sink_state, source_state};
 ghost use Rattle.esx_plan.specs.Status.{TellsCheck, TellsNoCheck};
-ghost use Rattle.esx_plan.specs.Words.{AskAlike, MayBe};
 
 use crate::files::{scenario_of_file, session_of_file, text_of_file};
 use crate::running::{RunFault, run_to};
@@ -50,12 +49,12 @@ struct End<W: Drop> {
 }
 
 /// The site of the scenario in a file, or the program's own where no file is named.
-fn site_asked<F: Source + Drop>(
+fn site_asked<F: Source>(
     alloc: Global,
-    file: Option<io::Result<F>>,
+    file: &mut Option<io::Result<F>>,
 ) -> Result<Config, TextFault>
     ensures config { IfOk result IsConfig }
-    ensures site { (read : Option Opened) × MayBe (IsLeft (source_state F.remaining F.calls F.failures)) file read
+    ensures site { (read : Option Opened) × MayBeLeft (source_state F.remaining F.calls F.failures) file.old file.new read
         × IfOk result (IsSiteAsked read) × IfErr result (LacksSite read) }
 {
     match file {
@@ -78,13 +77,13 @@ fn served_as(ended: Result<u64, ServeFault>) -> Result<Done, Failure>
 }
 
 /// Serves a reader to a writer, at the site of a scenario if a file is named.
-fn serve_file<F: Source + Drop, I: Source + Drop, W: Sink + Drop>(
+fn serve_file<F: Source, I: Source + Drop, W: Sink + Drop>(
     alloc: Global,
-    file: Option<io::Result<F>>,
+    file: &mut Option<io::Result<F>>,
     mut reader: I,
     writer: W,
 ) -> ConsoleEnd<I, W>
-    ensures { (read : Option Opened) × MayBe (IsLeft (source_state F.remaining F.calls F.failures)) file read
+    ensures { (read : Option Opened) × MayBeLeft (source_state F.remaining F.calls F.failures) file.old file.new read
         × EndsConsole read result.ended
         (source_state I.remaining I.calls I.failures reader) (source_state I.remaining I.calls I.failures result.reader)
         (sink_state W.contents W.waiting W.failures W.flushes writer) (sink_state W.contents W.waiting W.failures W.flushes result.writer) }
@@ -128,11 +127,11 @@ fn ran_as(ended: Result<(), RunFault>) -> Result<Done, Failure>
 fn run_file<
     R: AllocGlobal + Threads + Wait + Sync,
     P: Print + Sync,
-    F: Source + Drop,
+    F: Source,
     E: Sink + Drop,
     W: Sink + Drop,
->(rt: &R, opened: io::Result<F>, to: Option<&P>, errors: E, writer: W) -> RunEnd<E, W>
-    ensures { (read : Opened) × IsLeft (source_state F.remaining F.calls F.failures) opened read
+>(rt: &R, opened: &mut io::Result<F>, to: Option<&P>, errors: E, writer: W) -> RunEnd<E, W>
+    ensures { (read : Opened) × IsLeft (source_state F.remaining F.calls F.failures) opened.old opened.new read
         × EndsRun read result.ended
         (sink_state E.contents E.waiting E.failures E.flushes errors) (sink_state E.contents E.waiting E.failures E.flushes result.errors)
         (sink_state W.contents W.waiting W.failures W.flushes writer) (sink_state W.contents W.waiting W.failures W.flushes result.writer) }
@@ -166,13 +165,13 @@ fn replayed_as(ended: Result<(), OutputFault>) -> Result<Done, Failure>
 }
 
 /// Writes the replies of the session in a file anew. How far it is, is told to `to`, where there is one.
-fn replay_file<P: Print, F: Source + Drop, W: Sink + Drop>(
+fn replay_file<P: Print, F: Source, W: Sink + Drop>(
     alloc: Global,
-    opened: io::Result<F>,
+    opened: &mut io::Result<F>,
     to: Option<&P>,
     writer: W,
 ) -> End<W>
-    ensures { (read : Opened) × IsLeft (source_state F.remaining F.calls F.failures) opened read
+    ensures { (read : Opened) × IsLeft (source_state F.remaining F.calls F.failures) opened.old opened.new read
         × EndsReplay read result.ended
         (sink_state W.contents W.waiting W.failures W.flushes writer) (sink_state W.contents W.waiting W.failures W.flushes result.writer) }
 {
@@ -221,13 +220,13 @@ fn check_to<P: Print, W: Sink + Drop>(
 
 /// Checks the session in a file, while its text is read, and tells a writer what came of it. How far it is, is
 /// told to `to`, where there is one.
-fn check_file<P: Print, F: Source + Drop, W: Sink + Drop>(
+fn check_file<P: Print, F: Source, W: Sink + Drop>(
     alloc: Global,
-    opened: io::Result<F>,
+    opened: &mut io::Result<F>,
     to: Option<&P>,
     writer: W,
 ) -> End<W>
-    ensures { (read : Opened) × IsLeft (source_state F.remaining F.calls F.failures) opened read
+    ensures { (read : Opened) × IsLeft (source_state F.remaining F.calls F.failures) opened.old opened.new read
         × EndsCheck read result.ended
         (sink_state W.contents W.waiting W.failures W.flushes writer) (sink_state W.contents W.waiting W.failures W.flushes result.writer) }
 {
@@ -275,12 +274,17 @@ fn ended_with<I: Drop, E: Drop, W: Drop>(
 pub fn run_asked<
     R: AllocGlobal + Threads + Wait + Sync,
     P: Print + Sync,
-    F: Source + Drop,
+    F: Source,
     I: Source + Drop,
     E: Sink + Drop,
     W: Sink + Drop,
->(rt: &R, asked: Asked<io::Result<F>>, to: Option<&P>, streams: Streams<I, E, W>) -> Ended<I, E, W>
-    ensures { (read : Wanted Opened) × AskAlike (IsLeft (source_state F.remaining F.calls F.failures)) asked read
+>(
+    rt: &R,
+    asked: &mut Asked<io::Result<F>>,
+    to: Option<&P>,
+    streams: Streams<I, E, W>,
+) -> Ended<I, E, W>
+    ensures { (read : Wanted Opened) × AreLeft (source_state F.remaining F.calls F.failures) asked.old asked.new read
         × Does read result.ended
         (source_state I.remaining I.calls I.failures streams.reader) (source_state I.remaining I.calls I.failures result.streams.reader)
         (sink_state E.contents E.waiting E.failures E.flushes streams.errors) (sink_state E.contents E.waiting E.failures E.flushes result.streams.errors)

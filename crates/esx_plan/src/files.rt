@@ -56,44 +56,44 @@ fn session_of_source<F: Source>(alloc: Global, file: &mut F) -> Result<Session, 
 }
 
 /// The text in a file.
-pub fn text_of_file<F: Source + Drop>(
+pub fn text_of_file<F: Source>(
     alloc: Global,
-    opened: io::Result<F>,
+    opened: &mut io::Result<F>,
 ) -> Result<String, TextFault>
-    ensures { (read : Opened) × IsLeft (source_state F.remaining F.calls F.failures) opened read
+    ensures { (read : Opened) × IsLeft (source_state F.remaining F.calls F.failures) opened.old opened.new read
         × IfOk result (λ s. HasText read (string_bytes s)) × IfErr result (LacksText read) }
 {
     match opened {
-        Ok(mut file) => text_of_source(alloc, &mut file),
+        Ok(file) => text_of_source(alloc, file),
         Err(error) => Err(fault_of_kind(error.kind())),
     }
 }
 
 /// The scenario in a file.
-pub fn scenario_of_file<F: Source + Drop>(
+pub fn scenario_of_file<F: Source>(
     alloc: Global,
-    opened: io::Result<F>,
+    opened: &mut io::Result<F>,
 ) -> Result<Scenario, TextFault>
-    ensures { (read : Opened) × IsLeft (source_state F.remaining F.calls F.failures) opened read
+    ensures { (read : Opened) × IsLeft (source_state F.remaining F.calls F.failures) opened.old opened.new read
         × IfOk result (HasScenario read) × IfErr result (LacksScenario read) }
 {
     match opened {
-        Ok(mut file) => scenario_of_source(alloc, &mut file),
+        Ok(file) => scenario_of_source(alloc, file),
         Err(error) => Err(fault_of_kind(error.kind())),
     }
 }
 
 /// The session in a file.
-pub fn session_of_file<F: Source + Drop>(
+pub fn session_of_file<F: Source>(
     alloc: Global,
-    opened: io::Result<F>,
+    opened: &mut io::Result<F>,
 ) -> Result<Session, TextFault>
     ensures config { IfOk result (λ session. IsConfig session.site) }
-    ensures session { (read : Opened) × IsLeft (source_state F.remaining F.calls F.failures) opened read
+    ensures session { (read : Opened) × IsLeft (source_state F.remaining F.calls F.failures) opened.old opened.new read
         × IfOk result (λ session. HasSession read session.site session.entries) × IfErr result (LacksSession read) }
 {
     match opened {
-        Ok(mut file) => session_of_source(alloc, &mut file),
+        Ok(file) => session_of_source(alloc, file),
         Err(error) => Err(fault_of_kind(error.kind())),
     }
 }

@@ -174,6 +174,21 @@ fn session_buffered<W: Sink + Drop, L: Ledger>(
     (told, outgoing.into_sink())
 }
 
+/// Writes how the workers ended, and hands it on.
+fn tell_endings<W: Sink>(
+    sink: &mut W,
+    held: &mut AnswerBuffer,
+    endings: &[Ending],
+) -> Result<(), SinkFailed>
+    requires { held.old ≡ [] }
+    ensures bytes { Writes (W.contents sink.old) (W.contents sink.new) (flat_map ending_text endings.now) result }
+    ensures failures { W.failures sink.new ≡ W.failures sink.old + sink_faults result }
+    ensures sent { OnOk result (W.waiting sink.new ≡ []) }
+{
+    write_endings(sink, held, endings)?;
+    sink.flush()
+}
+
 /// How a run ended, and the two sinks as they are then.
 #[derive(Drop)]
 pub struct Ran<E: Drop, W: Drop> {
@@ -187,7 +202,7 @@ fn tell<E: Sink + Drop, W: Sink + Drop>(made: Played, mut errors: E, writer: W) 
     requires { (made.for_ends ≡ []) × (made.for_session ≡ []) × (made.waiting ≡ []) }
     ensures told { (told : Result (Unit {0}) SinkFailed)
         × Writes (E.contents errors) (E.contents result.errors) (flat_map ending_text made.endings.items) told
-        × (E.failures result.errors ≡ E.failures errors + sink_faults told) }
+        × (E.failures result.errors ≡ E.failures errors + sink_faults told) × OnOk told (E.waiting result.errors ≡ []) }
     ensures ok { OnOk result.ended (Appends (W.contents writer) (W.contents result.writer) (told_session made.console)
         × (W.failures result.writer ≡ W.failures writer) × (W.waiting result.writer ≡ [])) }
     ensures fault { IfErr result.ended (λ e. (e ≡ RunFault.Write)
@@ -202,7 +217,7 @@ fn tell<E: Sink + Drop, W: Sink + Drop>(made: Played, mut errors: E, writer: W) 
         waiting,
     } = made;
     // What cannot be told is left out.
-    let _ = write_endings(&mut errors, &mut for_ends, &endings);
+    let _ = tell_endings(&mut errors, &mut for_ends, &endings);
     let (printed, writer) = session_buffered::<_, Brand>(
         &console,
         &mut for_session,

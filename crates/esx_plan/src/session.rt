@@ -1,12 +1,13 @@
 //! A session, gone through again.
 
 ghost use Rattle.std.specs.Prelude.{◌≡◌, ◌+◌, ◌≤◌, [], ℕ, List, Option, IfOk, IfErr, IsErrOf, OnOk};
-ghost use Rattle.std.specs.Io.KnownBytes.{Appends};
+ghost use Rattle.std.specs.Io.KnownBytes.{Appends, Keeps};
 ghost use Rattle.esx_types.specs.Ranges.{IsConfig};
 ghost use Rattle.esx_session.specs.Sessions.{HasOpening, IsRefused};
 ghost use Rattle.esx_check.specs.Checks.{ChecksText, checked_text};
 ghost use Rattle.esx_check.specs.Replays.{ReplayStops, replay_text, write_faults};
-ghost use Rattle.esx_plan.specs.Sessions.{CheckStops, GivenOut, check_status};
+ghost use Rattle.esx_writing.specs.Writing.{Writes, sink_faults};
+ghost use Rattle.esx_plan.specs.Sessions.{CheckStops, GivenOut, check_status, failed_writes};
 
 use crate::gates::Counting;
 use crate::outgoing::{Outgoing, Waiting};
@@ -42,7 +43,36 @@ pub fn check_watched<P: Print>(
     checked
 }
 
-/// Writes what a check came to as a line.
+/// Hands on what waits, where memory ran out, and tells what an output comes to by that.
+fn give_up<W: Sink>(writer: &mut W) -> OutputFault
+    ensures bytes { Keeps (W.contents writer.old) (W.contents writer.new) }
+    ensures failures { W.failures writer.new ≡ W.failures writer.old + failed_writes result }
+    ensures flushes { W.flushes writer.new + failed_writes result ≡ W.flushes writer.old + 1 }
+    ensures sent { (result ≡ OutputFault.Write → ⊥) → W.waiting writer.new ≡ [] }
+{
+    match writer.flush() {
+        Ok(()) => OutputFault::OutOfMemory,
+        Err(SinkFailed) => OutputFault::Write,
+    }
+}
+
+/// Writes what a check came to as a line, and hands it on.
+fn write_line<W: Sink>(
+    writer: &mut W,
+    held: &mut AnswerBuffer,
+    checked: Checked,
+) -> Result<(), SinkFailed>
+    requires { held.old ≡ [] }
+    ensures bytes { Writes (W.contents writer.old) (W.contents writer.new) (checked_text checked) result }
+    ensures failures { W.failures writer.new ≡ W.failures writer.old + sink_faults result }
+    ensures flushes { W.flushes writer.new + sink_faults result ≡ W.flushes writer.old + 1 }
+    ensures sent { OnOk result (W.waiting writer.new ≡ []) }
+{
+    write_checked(writer, held, checked)?;
+    writer.flush()
+}
+
+/// Writes what a check came to as a line, and hands it on.
 pub fn tell_check<W: Sink>(
     alloc: Global,
     checked: Checked,
@@ -51,11 +81,13 @@ pub fn tell_check<W: Sink>(
     ensures told { OnOk result (Appends (W.contents writer.old) (W.contents writer.new) (checked_text checked)) }
     ensures fault { IfErr result (λ e. CheckStops e checked (W.contents writer.old) (W.contents writer.new)) }
     ensures failures { W.failures writer.new ≡ W.failures writer.old + write_faults result }
+    ensures flushes { W.flushes writer.new + write_faults result ≡ W.flushes writer.old + 1 }
+    ensures sent { (IsErrOf result OutputFault.Write → ⊥) → W.waiting writer.new ≡ [] }
 {
     let Ok(mut held) = AnswerBuffer::new(alloc) else {
-        return Err(OutputFault::OutOfMemory);
+        return Err(give_up(writer));
     };
-    match write_checked(writer, &mut held, checked) {
+    match write_line(writer, &mut held, checked) {
         Ok(()) => Ok(()),
         Err(SinkFailed) => Err(OutputFault::Write),
     }
@@ -75,7 +107,7 @@ pub fn status_of_check(checked: Checked) -> u8
 fn replay_buffered<W: Sink + Drop, L: Ledger>(
     alloc: Global,
     session: Session,
-    writer: W,
+    mut writer: W,
     blank: Blank,
 ) -> (Result<(), OutputFault>, W)
     requires config { IsConfig session.site }
@@ -86,10 +118,12 @@ fn replay_buffered<W: Sink + Drop, L: Ledger>(
     ensures fault { IfErr result.0 (λ e. (taken : Option (List ℕ)) × ReplayStops e session.site session.entries (W.contents writer) taken
         × GivenOut e taken (W.contents result.1)) }
     ensures failures { W.failures result.1 ≡ W.failures writer + write_faults result.0 }
-    ensures sent { OnOk result.0 (W.waiting result.1 ≡ []) }
+    ensures flushes { W.flushes result.1 + write_faults result.0 ≡ W.flushes writer + 1 }
+    ensures sent { (IsErrOf result.0 OutputFault.Write → ⊥) → W.waiting result.1 ≡ [] }
 {
     let Ok(waiting) = Waiting::new(alloc) else {
-        return (Err(OutputFault::OutOfMemory), writer);
+        let fault = give_up(&mut writer);
+        return (Err(fault), writer);
     };
     let mut outgoing = Outgoing::<W, L>::new(writer, waiting, blank);
     let replayed = replay_session(alloc, session, &mut outgoing);
@@ -115,7 +149,8 @@ pub fn replay_watched<P: Print, W: Sink + Drop>(
     ensures fault { IfErr result.ended (λ e. (taken : Option (List ℕ)) × ReplayStops e session.site session.entries (W.contents writer) taken
         × GivenOut e taken (W.contents result.writer)) }
     ensures failures { W.failures result.writer ≡ W.failures writer + write_faults result.ended }
-    ensures sent { OnOk result.ended (W.waiting result.writer ≡ []) }
+    ensures flushes { W.flushes result.writer + write_faults result.ended ≡ W.flushes writer + 1 }
+    ensures sent { (IsErrOf result.ended OutputFault.Write → ⊥) → W.waiting result.writer ≡ [] }
 {
     let progress = Progress::new(to, None, "bytes of replies");
     let watched = Watched::new(writer, &progress);

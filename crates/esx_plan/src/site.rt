@@ -3,7 +3,7 @@
 ghost use Rattle.std.specs.Prelude.{◌≡◌, ◌+◌, ◌-◌, ◌^◌, ◌<◌, ◌≤◌, ◌⊎◌, [], IfOk, IfErr, IsErrOf};
 ghost use Rattle.esx_types.specs.Ranges.{IsConfig};
 ghost use Rattle.esx_model.specs.Console.{Session};
-ghost use Rattle.esx_text.specs.Answers.{Answers, Faults, write_faults};
+ghost use Rattle.esx_text.specs.Answers.{Answers, Faults, ReadsOn, write_faults};
 ghost use Rattle.esx_plan.specs.Site.{at_opening};
 
 use esx_console::Console;
@@ -30,6 +30,7 @@ pub fn serve_site<R: Source, W: Sink>(
 
     // As of `serve`.
     ensures reads { R.calls reader.new ≤ R.calls reader.old + 2 ^ 26 }
+    ensures each { ReadsOn (R.remaining reader.old) (R.remaining reader.new) (R.calls reader.old) (R.calls reader.new) }
     ensures read { IsErrOf result ServeFault.Read
         → (R.failures reader.new ≡ R.failures reader.old + 1)
         ⊎ ((R.failures reader.new ≡ R.failures reader.old) × (R.calls reader.new ≡ R.calls reader.old + 2 ^ 26)) }

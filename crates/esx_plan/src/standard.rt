@@ -110,13 +110,13 @@ fn run_counted<
         errors,
         writer,
     } = streams;
-    let asked = with_source::<_, Files>(asked, calls_file);
+    let mut asked = with_source::<_, Files>(asked, calls_file);
     let streams = Streams {
         reader: ReadSource::<I, In>::new(reader, calls_in),
         errors: WriteSink::<E, Told>::new(errors, calls_told),
         writer: WriteSink::<W, Out>::new(writer, calls_out),
     };
-    let Ended { ended, streams } = run_asked(rt, asked, to, streams);
+    let Ended { ended, streams } = run_asked(rt, &mut asked, to, streams);
     let Streams {
         reader,
         errors,

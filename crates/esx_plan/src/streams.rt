@@ -3,7 +3,7 @@
 ghost use Rattle.std.specs.Prelude.{◌≡◌, ◌+◌, ◌-◌, ◌^◌, ◌<◌, ◌≤◌, ◌⊎◌, [], ℕ, List, Option, IfOk, IfErr, IsErrOf};
 ghost use Rattle.esx_types.specs.Ranges.{IsConfig};
 ghost use Rattle.esx_model.specs.Console.{Session};
-ghost use Rattle.esx_text.specs.Answers.{Answers, Faults, write_faults};
+ghost use Rattle.esx_text.specs.Answers.{Answers, Faults, ReadsOn, write_faults};
 ghost use Rattle.esx_plan.specs.Site.{at_opening};
 ghost use Rattle.esx_plan.specs.Streams.{ComesOut};
 
@@ -37,6 +37,7 @@ pub fn serve_buffered<R: Source, W: Sink + Drop, L: Ledger>(
 
     // As of `serve`.
     ensures reads { R.calls reader.new ≤ R.calls reader.old + 2 ^ 26 }
+    ensures each { ReadsOn (R.remaining reader.old) (R.remaining reader.new) (R.calls reader.old) (R.calls reader.new) }
     ensures read { IsErrOf result.0 ServeFault.Read
         → (R.failures reader.new ≡ R.failures reader.old + 1)
         ⊎ ((R.failures reader.new ≡ R.failures reader.old) × (R.calls reader.new ≡ R.calls reader.old + 2 ^ 26)) }

@@ -149,6 +149,12 @@ pub record Faults (fault : ServeFault) (caller : ℕ) (before after : Session) (
   pub read : Consumes unread left input
   pub stops : Stops fault caller before after input old new ⊎ (IsAtEnd left × StopsLast fault caller before after input old new)
 
+-- Each read gave some bytes, but for the last.
+pub record ReadsOn (unread left : Option (List ℕ)) (before after : ℕ) : Type 0 where
+  pub input : List ℕ
+  pub read : Consumes unread left input
+  pub each : after ≤ before + length input + 1
+
 -- What a whole run came to: all lines were answered, so many, or there was a fault.
 abbrev pub Ends : Result ℕ ServeFault → ℕ → Session → Session → Option (List ℕ) → Option (List ℕ) → Option (List ℕ) → Option (List ℕ) → Type 0
 Ends (Ok n) caller before after unread left old new = Answers caller n before after unread left old new

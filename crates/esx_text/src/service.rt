@@ -5,7 +5,7 @@ ghost use Rattle.std.specs.Io.KnownBytes.{Keeps, Consumes, IsAtEnd};
 ghost use Rattle.esx_types.specs.Ends.{call_successes};
 ghost use Rattle.esx_model.specs.Console.{Session};
 ghost use Rattle.esx_text.specs.Lines.{Holds, HasNoFeed};
-ghost use Rattle.esx_text.specs.Answers.{Progress, Answers, Stops, StopsLast, Faults, Reaches, Ends, fault_writes, read_faults, write_faults};
+ghost use Rattle.esx_text.specs.Answers.{Progress, Answers, Stops, StopsLast, Faults, Reaches, ReadsOn, Ends, fault_writes, read_faults, write_faults};
 
 use crate::answer::{Asked, answer_line};
 use crate::fault::ServeFault;
@@ -210,6 +210,7 @@ fn serve_reads<R: Source, W: Sink>(
         (R.remaining reader.old) (R.remaining reader.new) (W.contents writer.old) (W.contents writer.new) }
     ensures reads { R.calls reader.new ≤ R.calls reader.old + 2 ^ 26 }
     ensures endless { result ≡ Ok None → R.calls reader.new ≡ R.calls reader.old + 2 ^ 26 }
+    ensures each { ReadsOn (R.remaining reader.old) (R.remaining reader.new) (R.calls reader.old) (R.calls reader.new) }
     ensures read { R.failures reader.new ≡ R.failures reader.old + read_faults result }
     ensures write { W.failures writer.new ≡ W.failures writer.old + write_faults result }
     ensures flushes { W.flushes writer.new + R.calls reader.old ≡ W.flushes writer.old + R.calls reader.new }
@@ -276,8 +277,10 @@ pub fn serve<R: Source, W: Sink>(
     ensures fault { IfErr result (λ e. Faults e caller console.old console.new
         (R.remaining reader.old) (R.remaining reader.new) (W.contents writer.old) (W.contents writer.new)) }
 
-    // The source fails once where reading is at fault, or gives no end, and never elsewhere.
+    // The source fails once where reading is at fault, or gives no end, and never elsewhere. Each read gave some
+    // bytes, but for the last.
     ensures reads { R.calls reader.new ≤ R.calls reader.old + 2 ^ 26 }
+    ensures each { ReadsOn (R.remaining reader.old) (R.remaining reader.new) (R.calls reader.old) (R.calls reader.new) }
     ensures read { IsErrOf result ServeFault.Read
         → (R.failures reader.new ≡ R.failures reader.old + 1)
         ⊎ ((R.failures reader.new ≡ R.failures reader.old) × (R.calls reader.new ≡ R.calls reader.old + 2 ^ 26)) }

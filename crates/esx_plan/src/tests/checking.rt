@@ -1,5 +1,6 @@
 //! Checks that tell how far they are, and checks that do not.
 
+use super::ends::Stuck;
 use super::opening::taped;
 use super::running::disk;
 use crate::commands::{Ended, Streams};
@@ -172,6 +173,15 @@ fn a_full_disk(rt: HostRuntime) {
         let (ended, writer) = check(&rt, row.text, disk(rt.alloc(), 4));
         assert!(rt; matches!(&ended, Err(Failure::Output(OutputFault::Write))));
         assert!(rt; writer.bytes.as_slice() == &row.line[..4]);
+    }
+}
+
+/// A line that cannot be handed on is a fault of writing.
+#[test]
+fn a_writer_that_cannot_flush(rt: HostRuntime) {
+    for row in &ROWS {
+        let (ended, _) = check(&rt, row.text, Stuck);
+        assert!(rt; matches!(&ended, Err(Failure::Output(OutputFault::Write))));
     }
 }
 

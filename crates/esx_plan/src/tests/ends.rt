@@ -58,7 +58,7 @@ const TURNS: [Turn; 4] = [
     },
 ];
 
-type Screen = Rc<RefCell<Vec<u8>>>;
+pub(super) type Screen = Rc<RefCell<Vec<u8>>>;
 
 /// Asks for the next line only where all answers so far are on the screen, and fails otherwise.
 #[derive(Drop)]
@@ -87,8 +87,8 @@ impl Read for Person {
 }
 
 #[derive(Drop)]
-struct Terminal {
-    screen: Screen,
+pub(super) struct Terminal {
+    pub(super) screen: Screen,
 }
 
 impl Write for Terminal {
@@ -181,7 +181,7 @@ fn a_full_disk(rt: HostRuntime) -> Result<(), Fail> {
 
 /// Takes all bytes, and cannot flush them.
 #[derive(Drop)]
-struct Stuck;
+pub(super) struct Stuck;
 
 impl Write for Stuck {
     fn write(&mut self, bytes: &[u8]) -> io::Result<usize> {

@@ -1,6 +1,6 @@
 //! Runs of scenarios, and what is told of them.
 
-use super::ends::Disk;
+use super::ends::{Disk, Screen, Terminal};
 use crate::commands::{Ended, Streams};
 use crate::running::RunFault;
 use crate::session::check_watched;
@@ -10,7 +10,9 @@ use crate::{Done, Failure};
 use esx_check::Checked;
 use esx_events::Refusal;
 use std::alloc::{AllocGlobal, Global};
+use std::cell::RefCell;
 use std::io::{self, Stderr, Write};
+use std::rc::Rc;
 use std::sync::Wait;
 use std::test::Fail;
 use std::thread::Threads;
@@ -64,6 +66,25 @@ fn a_run(rt: HostRuntime) -> Result<(), Fail> {
         check_watched(alloc, text.as_str(), to),
         Ok(Checked::Same(32))
     );
+    Ok(())
+}
+
+/// The ends are told before the session.
+#[test]
+fn ends_before_the_session(rt: HostRuntime) -> Result<(), Fail> {
+    let screen: Screen = Rc::new(rt.alloc(), RefCell::new(Vec::new(rt.alloc())))?;
+    let errors = Terminal {
+        screen: screen.clone()?,
+    };
+    let writer = Terminal {
+        screen: screen.clone()?,
+    };
+    let (ended, _, _) = run(&rt, TWO_GUESTS, errors, writer);
+    assert!(rt; matches!(&ended, Ok(Done::Ran)));
+    let Ok(written) = screen.try_borrow() else {
+        panic!(rt; "the screen is in use");
+    };
+    assert!(rt; written.as_slice().starts_with(ENDS));
     Ok(())
 }
 

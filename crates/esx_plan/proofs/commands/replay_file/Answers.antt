@@ -9,7 +9,7 @@ returns-in-Ok g c =
       here.0,
       here.1,
       rw c.replayed_as-ended.ensures
-          (replay_ends here.0 c.in-Ok.session.site c.in-Ok.session.entries _ _ c.replay_watched-replayed.result.ended here.2 e.ok e.fault e.failures e.sent),
+          (replay_ends here.0 c.in-Ok.session.site c.in-Ok.session.entries _ _ c.replay_watched-replayed.result.ended here.2 e.ok e.fault e.failures e.flushes e.sent),
     )
 
 pub returns-in-Err : goal.returns-in-Err

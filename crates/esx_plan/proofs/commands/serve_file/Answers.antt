@@ -13,6 +13,7 @@ returns-in-Ok g c =
             ok = e.ok;
             fault = e.fault;
             reads = e.reads;
+            each = e.each;
             read = e.read;
             no_read_fault = e.no_read_fault;
             write = e.write;

@@ -6,7 +6,7 @@ use Rattle.esx_plan.proofs.files.scenario_of_file.Goals as goal
 pub returns-in-Ok : goal.returns-in-Ok
 returns-in-Ok g c =
     let state = source_state g.F.Source.remaining g.F.Source.calls g.F.Source.failures in
-    rw c.in-Ok.is (Ok (state c.in-Ok.file, state c.scenario_of_source.new.file), (refl, c.scenario_of_source.new.file, refl), c.scenario_of_source.ensures.scenario, c.scenario_of_source.ensures.fault)
+    rw c.in-Ok.is (Ok (state c.in-Ok.file, state c.scenario_of_source.new.file), (refl, refl), c.scenario_of_source.ensures.scenario, c.scenario_of_source.ensures.fault)
 
 pub returns-in-Err : goal.returns-in-Err
-returns-in-Err g c = rw c.in-Err.is (Err c.in-Err.error, refl, tt, c.fault_of_kind.ensures ∙ ap open_fault c.kind.ensures)
+returns-in-Err g c = rw c.in-Err.is (Err c.in-Err.error, (refl, refl), tt, c.fault_of_kind.ensures ∙ ap open_fault c.kind.ensures)

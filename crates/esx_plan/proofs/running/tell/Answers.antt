@@ -8,10 +8,11 @@ use Rattle.esx_plan.proofs.running.tell.Goals as goal
 
 pub returns-clause-told : goal.returns-clause-told
 returns-clause-told g c = (
-  c.write_endings.result,
-  subst (λ (l : List Ending). Writes (g.E.Sink.contents c.args.errors) (g.E.Sink.contents c.write_endings.new.sink) (flat_map ending_text l) c.write_endings.result)
-      c.deref.ensures.value c.write_endings.ensures.bytes,
-  c.write_endings.ensures.failures,
+  c.tell_endings.result,
+  subst (λ (l : List Ending). Writes (g.E.Sink.contents c.args.errors) (g.E.Sink.contents c.tell_endings.new.sink) (flat_map ending_text l) c.tell_endings.result)
+      c.deref.ensures.value c.tell_endings.ensures.bytes,
+  c.tell_endings.ensures.failures,
+  c.tell_endings.ensures.sent,
 )
 
 pub returns-clause-ok : goal.returns-clause-ok

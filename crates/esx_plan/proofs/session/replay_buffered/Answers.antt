@@ -1,11 +1,16 @@
-use Rattle.std.proofs.Common.{◌∙◌, refl}
-use Rattle.esx_check.proofs.ReplayLemmas.{no_replies}
+use Rattle.std.proofs.Common.{◌∙◌}
 use Rattle.esx_plan.proofs.OutgoingLemmas.{second_none}
-use Rattle.esx_plan.proofs.SessionLemmas.{text_comes_out, stop_comes_out}
+use Rattle.esx_plan.proofs.SessionLemmas.{faults_of, no_replay, stop_comes_out, text_comes_out}
 use Rattle.esx_plan.proofs.session.replay_buffered.Goals as goal
 
 pub returns-in_default-clause-fault : goal.returns-in_default-clause-fault
-returns-in_default-clause-fault g c = (g.W.Sink.contents c.args.writer, (0, no_replies _ _), refl)
+returns-in_default-clause-fault g c = no_replay c.give_up-fault.result c.args.session.site c.args.session.entries _ _ c.give_up-fault.ensures.bytes
+
+pub returns-in_default-clause-failures : goal.returns-in_default-clause-failures
+returns-in_default-clause-failures g c = rw (faults_of c.give_up-fault.result) c.give_up-fault.ensures.failures
+
+pub returns-in_default-clause-flushes : goal.returns-in_default-clause-flushes
+returns-in_default-clause-flushes g c = rw (faults_of c.give_up-fault.result) c.give_up-fault.ensures.flushes
 
 pub returns-clause-ok : goal.returns-clause-ok
 returns-clause-ok g c =

@@ -1,4 +1,5 @@
-use Rattle.std.proofs.Common.{◌∙◌}
+use Rattle.std.proofs.Common.{◌∙◌, [], arith}
+use Rattle.std.proofs.KnownBytes.{Consumes-nil}
 use Rattle.esx_plan.specs.Site.{at_opening}
 use Rattle.esx_plan.proofs.OutgoingLemmas.{comes_out_whole, answers_come_out, fault_comes_out, second_none}
 use Rattle.esx_plan.proofs.streams.serve_buffered.Goals as goal
@@ -7,6 +8,9 @@ pub returns-in_default-clause-fault : goal.returns-in_default-clause-fault
 returns-in_default-clause-fault g c =
     let site = at_opening c.args.config in
     (site, g.W.Sink.contents c.give_up-fault.new.writer, c.give_up-fault.ensures.at_once 0 site _, comes_out_whole c.give_up-fault.result _)
+
+pub returns-in_default-clause-each : goal.returns-in_default-clause-each
+returns-in_default-clause-each g c = record { input = []; read = Consumes-nil _; each = omega arith }
 
 pub returns-clause-ok : goal.returns-clause-ok
 returns-clause-ok g c =

@@ -1,5 +1,13 @@
+use Rattle.std.proofs.Common.{[], arith}
 use Rattle.esx_text.proofs.SendingLemmas.{ends_ok, ends_fault, unread_once}
+use Rattle.esx_text.proofs.ProgressLemmas.{consumes_nothing}
 use Rattle.esx_text.proofs.service.serve.Goals as goal
+
+pub returns-in_default-clause-each : goal.returns-in_default-clause-each
+returns-in_default-clause-each g c = record { input = []; read = consumes_nothing _; each = omega arith }
+
+pub returns-in_default-vec-clause-each : goal.returns-in_default-vec-clause-each
+returns-in_default-vec-clause-each g c = record { input = []; read = consumes_nothing _; each = omega arith }
 
 pub returns-clause-ok : goal.returns-clause-ok
 returns-clause-ok g c = ends_ok c.finish.result _ _ _ _ _ _ _ (c.finish.ensures.served _ _ _ _ _ _ c.serve_reads-served.ensures.served)

@@ -1,11 +1,11 @@
-use Rattle.std.proofs.Common.{[], ◌++◌, inl, inr, arith, refl, take}
+use Rattle.std.proofs.Common.{[], ◌++◌, inl, inr, arith, length-append, length-take, refl, take}
 use Rattle.esx_text.proofs.ProgressLemmas.{progress_start, consumes_nothing, consumes_more, read_nothing}
 use Rattle.esx_text.proofs.SendingLemmas.{consumes_kept, progress_kept, progress_unread, progress_unsent, reaches_err}
 use Rattle.esx_text.proofs.service.serve_reads.Goals as goal
 
 pub loop-init : goal.loop-init
 loop-init g c = record {
-  progress = ([], consumes_nothing _, rw c.requires.none (progress_start c.args.caller _ _ _ c.requires.start));
+  progress = ([], consumes_nothing _, rw c.requires.none (progress_start c.args.caller _ _ _ c.requires.start), omega arith);
   failures = refl;
   reads = refl;
   empty = c.requires.empty;
@@ -76,6 +76,43 @@ returns-in_err-serve_bytes-clause-served g c =
           (g.W.Sink.contents c.loop.writer) (g.W.Sink.contents c.send.new.writer) c.in_ok-send.ensures.bytes p.2)));
     })
 
+pub returns-in_err-send-clause-each : goal.returns-in_err-send-clause-each
+returns-in_err-send-clause-each g c =
+    let p = c.loop.invariant.progress in
+    record { input = p.0; read = p.1; each = omega (arith, p.3, c.loop.invariant.calls) }
+
+pub returns-in_default-clause-each : goal.returns-in_default-clause-each
+returns-in_default-clause-each g c =
+    let p = c.loop.invariant.progress in
+    record { input = p.0; read = consumes_kept _ _ _ p.0 p.1 c.in_default.ensures.bytes; each = omega (arith, p.3, c.loop.invariant.calls, c.in_default.ensures.calls) }
+
+pub returns-in_err-count-clause-each : goal.returns-in_err-count-clause-each
+returns-in_err-count-clause-each g c =
+    let p = c.loop.invariant.progress in
+    let r = read_nothing _ _ _ p.0 c.in-Ok.given c.read.new.buffer c.if-given-eq0.true (omega (arith, c.requires.room)) p.1 c.in-Ok.ensures.bytes in
+    record { input = p.0; read = r.0; each = omega (arith, p.3, c.loop.invariant.calls, c.in-Ok.ensures.calls) }
+
+pub returns-then-given-eq0-clause-each : goal.returns-then-given-eq0-clause-each
+returns-then-given-eq0-clause-each g c =
+    let p = c.loop.invariant.progress in
+    let r = read_nothing _ _ _ p.0 c.in-Ok.given c.read.new.buffer c.if-given-eq0.true (omega (arith, c.requires.room)) p.1 c.in-Ok.ensures.bytes in
+    record { input = p.0; read = r.0; each = omega (arith, p.3, c.loop.invariant.calls, c.in-Ok.ensures.calls) }
+
+pub returns-in_err-serve_bytes-clause-each : goal.returns-in_err-serve_bytes-clause-each
+returns-in_err-serve_bytes-clause-each g c =
+    let p = c.loop.invariant.progress in
+    let front = take c.in-Ok.given c.read.new.buffer in
+    record {
+      input = p.0 ++ front;
+      read = consumes_more _ _ _ _ _ p.1 c.in-Ok.ensures.bytes.0;
+      each = omega (arith, p.3, c.loop.invariant.calls, c.in-Ok.ensures.calls, length-append p.0 front);
+    }
+
+pub returns-clause-each : goal.returns-clause-each
+returns-clause-each g c =
+    let p = c.loop.invariant.progress in
+    record { input = p.0; read = p.1; each = omega (arith, p.3, c.loop.invariant.calls) }
+
 pub loop-preserved : goal.loop-preserved
 loop-preserved g c =
     let p = c.loop.invariant.progress in
@@ -85,6 +122,7 @@ loop-preserved g c =
         consumes_more _ _ _ _ _ p.1 c.in-Ok.ensures.bytes.0,
         rw c.split_at.ensures.front at (c.in_ok-serve_bytes.ensures.ok _ _ p.0 (progress_kept c.args.caller c.args.console.now (g.W.Sink.contents c.args.writer.now) p.0 c.loop.work.count c.loop.work.line c.loop.console
             (g.W.Sink.contents c.loop.writer) (g.W.Sink.contents c.send.new.writer) c.in_ok-send.ensures.bytes p.2)),
+        omega (arith, p.3, c.if-given-eq0.false, c.in-Ok.ensures.bound, length-append p.0 (take c.in-Ok.given c.read.new.buffer), length-take c.in-Ok.given c.read.new.buffer),
       );
       failures = omega (arith, c.loop.invariant.failures, c.in_ok-send.ensures.failures, c.in_ok-serve_bytes.ensures.failures);
       reads = omega (arith, c.loop.invariant.reads, c.in-Ok.ensures.failures);

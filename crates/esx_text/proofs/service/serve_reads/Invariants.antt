@@ -1,4 +1,4 @@
-use Rattle.std.proofs.Common.{◌≡◌, ◌+◌, ◌*◌, ◌≤◌, ℕ, List, []}
+use Rattle.std.proofs.Common.{◌≡◌, ◌+◌, ◌*◌, ◌≤◌, length, ℕ, List, []}
 use Rattle.std.specs.Io.KnownBytes.{Consumes}
 use Rattle.esx_text.specs.Answers.{Progress}
 use Rattle.esx_text.proofs.service.serve_reads.Given as goal
@@ -6,7 +6,8 @@ use Rattle.esx_text.proofs.service.serve_reads.Given as goal
 abbrev pub invariant-loop : goal.invariant-loop
 invariant-loop g l = record {
   progress : (input : List ℕ) × Consumes (g.R.Source.remaining l.initial.reader) (g.R.Source.remaining l.reader) input
-      × Progress l.caller l.initial.console (g.W.Sink.contents l.initial.writer) input l.work.count l.work.line l.console (g.W.Sink.contents l.writer);
+      × Progress l.caller l.initial.console (g.W.Sink.contents l.initial.writer) input l.work.count l.work.line l.console (g.W.Sink.contents l.writer)
+      × (l.counter ≤ length input);
   failures : g.W.Sink.failures l.writer ≡ g.W.Sink.failures l.initial.writer;
   reads : g.R.Source.failures l.reader ≡ g.R.Source.failures l.initial.reader;
   empty : l.work.answer ≡ [];
