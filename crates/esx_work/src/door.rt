@@ -17,6 +17,7 @@ pub struct DeskDoor<'a, R> {
 }
 
 impl<'a, R: Wait> Door for DeskDoor<'a, R> {
+    ghost use Rattle.esx_desk.specs.Told.{HadIt};
     ghost use Rattle.esx_work.specs.Doors.{IsReady, Leads};
     ghost use Rattle.esx_work.specs.Growth.{leads_self, leads_on};
 
@@ -27,6 +28,8 @@ impl<'a, R: Wait> Door for DeskDoor<'a, R> {
     ghost seen = { λ d. d.pass.view.seen };
 
     ghost leads = { λ d e. Leads d.desk.now e.desk.now d.pass e.pass };
+
+    ghost wanted = { λ _ _ e. HadIt e.pass.view };
 
     fn submit(&mut self, call: Call) -> Result<Reply, AllocError> {
         self.desk.submit(self.rt, &mut self.pass, call)

@@ -6,6 +6,7 @@ use Rattle.std.proofs.lemmas.List.Sums.{sum_by-append, sum_by-cons}
 use Rattle.esx_events.specs.declared.call.Call.{Call}
 use Rattle.esx_events.specs.declared.call.Reply.{Reply}
 use Rattle.esx_events.specs.declared.call.Line.{Line}
+use Rattle.esx_door.specs.Calls.{AreMade}
 use Rattle.esx_door.specs.Gates.{LetThrough, GaveUp}
 use Rattle.esx_door.specs.Own.{line}
 use Rattle.esx_workers.specs.declared.end.How.{How}
@@ -15,10 +16,10 @@ use Rattle.esx_scenario.specs.declared.plan.TraceLine.{TraceLine}
 use Rattle.esx_workers.specs.declared.visiting.Step.{Step}
 use Rattle.esx_workers.specs.declared.worker.Worker.{Worker}
 use Rattle.esx_workers.specs.declared.worker.Worker.TheVariants.{Guest, Sharer, Swapper, Policy}
-use Rattle.esx_workers.specs.Passed.{is_access, is_passed, is_passed_over, first_of}
+use Rattle.esx_workers.specs.Passed.{may_want, is_access, is_passed, is_passed_over, first_of}
 use Rattle.esx_workers.specs.Visiting.{call_at_line, rest_at}
 use Rattle.esx_workers.specs.Workers.{asks, asked, rest}
-use Rattle.esx_workers.specs.Runs.{goes_on, worker_after, AreAsked, AreAfter, IsStraight, IsRewound, Ended, Broken, Since, Running, Gated, Stopped}
+use Rattle.esx_workers.specs.Runs.{goes_on, worker_after, AreAsked, AreAfter, IsStraight, IsRewound, Ended, Broken, Since, Running, Gated, Stopped, Called, Short}
 
 pub on_err : {T E : Type 0} (P : Type 0) → P → (r : Result T E) → OnErr r P
 on_err P p (Ok x) = tt
@@ -45,6 +46,15 @@ asks_rest (Guest w) call e = line_left w.vm w.step (slice_get w.trace.now w.next
 asks_rest (Sharer w) call e = refl
 asks_rest (Swapper w) call e = refl
 asks_rest (Policy w) call e = refl
+
+module _ {D : Type 0} (made : D → Call → Reply → D → Type 0) where
+  pub made_none : (d : D) → AreMade made 0 d d
+  unfolding AreMade
+  made_none d = refl
+
+  pub made_more : (n : ℕ) (d m e : D) (call : Call) (reply : Reply) → AreMade made n d m → made m call reply e → AreMade made (n + 1) d e
+  unfolding AreMade
+  made_more n d m e call reply before at = subst (λ (i : ℕ). AreMade made i d e) (sym (add-one n)) (m, before, (call, reply, at))
 
 module _ {G : Type 0} (passes : G → ℕ → Bool → G → Type 0) where
   pub let_none : (g : G) → LetThrough passes 0 g g
@@ -126,6 +136,25 @@ module _ (k : ℕ) (w now : Worker) (first : Option ℕ) (passed turn : ℕ) (a 
     };
   }
 
+  pub called_rest : {D : Type 0} (made : D → Call → Reply → D → Type 0) (d e : D) (n : ℕ) (l : List Line) → n ≡ turn → l ≡ b → AreMade made n d e → Called made d e a l
+  called_rest made d e n l is same all = record { lines = r.lines; more = same ∙ r.more; all = subst (λ (i : ℕ). AreMade made i d e) (is ∙ sym r.many) all }
+
+  pub short_asking : {G D : Type 0} (passes : G → ℕ → Bool → G → Type 0) (made : D → Call → Reply → D → Type 0) (wanted : D → Call → D → Type 0) (g h : G) (d e : D) (l : List Line) → l ≡ b
+      → LetThrough passes turn g h → AreMade made turn d e → may_want (asks now) ≡ true → Short passes made wanted g h d e w a l
+  short_asking passes made wanted g h d e l same passed all room = record {
+    lines = r.lines;
+    more = same ∙ r.more;
+    how = inl (subst (λ (n : ℕ). LetThrough passes n g h) (sym r.many) passed, subst (λ (n : ℕ). AreMade made n d e) (sym r.many) all, ap (λ (v : Worker). may_want (asks v)) (sym r.now_is) ∙ room);
+  }
+
+  pub short_calling : {G D : Type 0} (passes : G → ℕ → Bool → G → Type 0) (made : D → Call → Reply → D → Type 0) (wanted : D → Call → D → Type 0) (g n h : G) (d m e : D) (answer : Bool) (call : Call) (l : List Line) → l ≡ b
+      → LetThrough passes turn g n → passes n (turn + 1) answer h → answer ≡ true → AreMade made turn d m → asks now ≡ Some call → wanted m call e → Short passes made wanted g h d e w a l
+  short_calling passes made wanted g n h d m e answer call l same passed at is all asks_it want = record {
+    lines = r.lines;
+    more = same ∙ r.more;
+    how = inr (subst (λ (n : ℕ). LetThrough passes (n + 1) g h) (sym r.many) (let_more passes turn g n h answer passed at is), (m, call, subst (λ (n : ℕ). AreMade made n d m) (sym r.many) all, ap asks (sym r.now_is) ∙ asks_it, want));
+  }
+
   module _ {G : Type 0} (passes : G → ℕ → Bool → G → Type 0) where
     pub stopped_asking : (g h : G) (d : List Line) → d ≡ b → LetThrough passes turn g h → Stopped passes g h w a d
     stopped_asking g h d same passed = record { lines = r.lines; more = same ∙ r.more; gate = inl (subst (λ (n : ℕ). LetThrough passes n g h) (sym r.many) passed) }
@@ -200,4 +229,11 @@ module _ (k : ℕ) (w now : Worker) (first : Option ℕ) (passed turn : ℕ) (a 
       lines = r.lines ++ line k call reply ∷ [];
       more = more_lines;
       gate = inl (subst (λ (n : ℕ). LetThrough passes n g h) (sym more_many) passed, inl how);
+    }
+
+    pub called_rewound : {D : Type 0} (made : D → Call → Reply → D → Type 0) (x m e : D) → AreMade made turn x m → made m call reply e → Called made x e a d
+    called_rewound made x m e all at = record {
+      lines = r.lines ++ line k call reply ∷ [];
+      more = more_lines;
+      all = subst (λ (n : ℕ). AreMade made n x e) (sym more_many) (made_more made turn x m e call reply all at);
     }

@@ -6,7 +6,7 @@ use Rattle.esx_events.specs.declared.call.Said.{Said}
 use Rattle.esx_events.specs.declared.call.Said.TheVariants.{Refused}
 use Rattle.esx_events.specs.declared.call.Line.{Line}
 use Rattle.esx_events.specs.declared.event.Event.{Event}
-use Rattle.esx_events.specs.declared.event.Event.TheVariants.{Read, Write}
+use Rattle.esx_events.specs.declared.event.Event.TheVariants.{Read, Write, Sample}
 use Rattle.esx_events.specs.declared.event.Refusal.{Refusal}
 use Rattle.esx_events.specs.declared.event.Refusal.TheVariants.{Held, Short}
 
@@ -46,3 +46,17 @@ is_passed_over x = is_passed (is_access x.call) x.reply.said
 abbrev pub first_of : Option ℕ → ℕ → ℕ
 first_of None jumps = jumps
 first_of (Some first) jumps = first
+
+-- a call that takes room on the heap: the bytes of a write, or the words of a sample
+abbrev pub event_takes_room : Event → Bool
+event_takes_room (Write vm page at bytes) = true
+event_takes_room (Sample vm length words) = true
+event_takes_room _ = false
+
+abbrev pub takes_room : Call → Bool
+takes_room (Do event) = event_takes_room event
+takes_room _ = false
+
+abbrev pub may_want : Option Call → Bool
+may_want None = false
+may_want (Some call) = takes_room call

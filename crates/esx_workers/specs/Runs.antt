@@ -1,14 +1,15 @@
 -- The lines of a worker's run, and why it ended.
-use Rattle.std.specs.Prelude.{◌≡◌, ◌≢◌, ◌⊎◌, ℕ, ◌+◌, ◌<◌, ◌≤◌, Bool, List, [], ◌∷◌, ◌++◌, length, count_by, Option, Some, None}
+use Rattle.std.specs.Prelude.{◌≡◌, ◌≢◌, ◌⊎◌, ℕ, true, ◌+◌, ◌<◌, ◌≤◌, Bool, List, [], ◌∷◌, ◌++◌, length, count_by, Option, Some, None}
 use Rattle.esx_events.specs.declared.call.Call.{Call}
 use Rattle.esx_events.specs.declared.call.Reply.{Reply}
 use Rattle.esx_events.specs.declared.call.Line.{Line}
+use Rattle.esx_door.specs.Calls.{AreMade}
 use Rattle.esx_door.specs.Gates.{LetThrough, GaveUp}
 use Rattle.esx_workers.specs.declared.end.How.{How}
 use Rattle.esx_workers.specs.declared.end.How.TheVariants.{Rewound, Turns}
 use Rattle.esx_workers.specs.declared.end.End.{End}
 use Rattle.esx_workers.specs.declared.worker.Worker.{Worker}
-use Rattle.esx_workers.specs.Passed.{is_passed_over}
+use Rattle.esx_workers.specs.Passed.{is_passed_over, may_want}
 use Rattle.esx_workers.specs.Workers.{asks, asked, hears, rest}
 
 -- the worker after the reply to its next call
@@ -121,3 +122,26 @@ pub record Running (k : ℕ) (w now : Worker) (first : Option ℕ) (passed turn 
   pub many : length lines ≡ turn
   pub passed_are : passed ≡ count_by is_passed_over lines
   pub since : Since first lines
+
+-- the door before and after a worker's run: each line of it is a call that was answered, and no other call was made
+pub record Called {D : Type 0} (made : D → Call → Reply → D → Type 0) (d e : D) (before after : List Line) : Type 0 where
+  pub lines : List Line
+  pub more : after ≡ before ++ lines
+  pub all : AreMade made (length lines) d e
+
+module _ {G D : Type 0} (passes : G → ℕ → Bool → G → Type 0) (made : D → Call → Reply → D → Type 0) (wanted : D → Call → D → Type 0) where
+  -- There was no room for what the worker asks next, and it was not called.
+  abbrev pub AsksShort : G → G → D → D → Worker → List Line → Type 0
+  AsksShort g h d e w lines = LetThrough passes (length lines) g h × AreMade made (length lines) d e × (may_want (asks (worker_after w lines)) ≡ true)
+
+  -- The gate let through once more, and what the worker asks next was called once and found no memory.
+  abbrev pub CallsShort : G → G → D → D → Worker → List Line → Type 0
+  CallsShort g h d e w lines =
+      LetThrough passes (length lines + 1) g h
+      × ((m : D) × (call : Call) × AreMade made (length lines) d m × (asks (worker_after w lines) ≡ Some call) × wanted m call e)
+
+  -- the gate and the door before and after a worker's run that memory was wanting for
+  pub record Short (g h : G) (d e : D) (w : Worker) (before after : List Line) : Type 0 where
+    pub lines : List Line
+    pub more : after ≡ before ++ lines
+    pub how : AsksShort g h d e w lines ⊎ CallsShort g h d e w lines

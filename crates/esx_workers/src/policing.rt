@@ -1,6 +1,7 @@
 //! The worker that sets targets and opens sample periods.
 
-ghost use Rattle.std.specs.Prelude.{◌≡◌, IfOk, OnOk};
+ghost use Rattle.std.specs.Prelude.{◌≡◌, true, IfOk, OnOk, OnErr};
+ghost use Rattle.esx_workers.specs.Passed.{takes_room};
 ghost use Rattle.esx_workers.specs.Policing.{new_period, policy_asks, policy_asked};
 ghost use Rattle.esx_workers.specs.Draws.{after_words};
 
@@ -29,6 +30,7 @@ impl<'a> PolicyWorker<'a> {
     pub fn ask(&mut self, alloc: Global) -> Result<Call, AllocError>
         ensures call { IfOk result (λ call. call ≡ policy_asks self.old) }
         ensures asked { OnOk result (self.new ≡ policy_asked self.old) }
+        ensures late { OnErr result (takes_room (policy_asks self.old) ≡ true) }
     {
         match self.machines.get(self.next) {
             Some(machine) => {

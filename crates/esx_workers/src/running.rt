@@ -1,8 +1,8 @@
 //! The run of a worker.
 
-ghost use Rattle.std.specs.Prelude.{◌≡◌, IfOk, OnErr};
+ghost use Rattle.std.specs.Prelude.{◌≡◌, IfOk, OnOk, OnErr};
 ghost use Rattle.esx_door.specs.Own.{lines_of};
-ghost use Rattle.esx_workers.specs.Runs.{Ended, Broken, Gated, Stopped};
+ghost use Rattle.esx_workers.specs.Runs.{Ended, Broken, Gated, Stopped, Called, Short};
 
 use crate::end::{End, How};
 use crate::passed::{Tally, is_access};
@@ -27,6 +27,8 @@ pub fn run<D: Door, G: Gate>(
     ensures gate { IfOk result (λ end. Gated G.passes gate.old gate.new worker.entry turns end (lines_of (D.caller door.old) (D.seen door.old)) (lines_of (D.caller door.old) (D.seen door.new))) }
     ensures err { OnErr result (Broken (D.caller door.old) worker.entry turns (lines_of (D.caller door.old) (D.seen door.old)) (lines_of (D.caller door.old) (D.seen door.new))) }
     ensures stopped { OnErr result (Stopped G.passes gate.old gate.new worker.entry (lines_of (D.caller door.old) (D.seen door.old)) (lines_of (D.caller door.old) (D.seen door.new))) }
+    ensures made { OnOk result (Called D.made door.old door.new (lines_of (D.caller door.old) (D.seen door.old)) (lines_of (D.caller door.old) (D.seen door.new))) }
+    ensures wanted { OnErr result (Short G.passes D.made D.wanted gate.old gate.new door.old door.new worker.entry (lines_of (D.caller door.old) (D.seen door.old)) (lines_of (D.caller door.old) (D.seen door.new))) }
 {
     let mut tally = Tally {
         first: None,

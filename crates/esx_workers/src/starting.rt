@@ -1,8 +1,8 @@
 //! Each kind of worker, from its start to its end.
 
-ghost use Rattle.std.specs.Prelude.{◌≡◌, IfOk, OnErr, length};
+ghost use Rattle.std.specs.Prelude.{◌≡◌, IfOk, OnOk, OnErr, length};
 ghost use Rattle.esx_door.specs.Own.{lines_of};
-ghost use Rattle.esx_workers.specs.Runs.{Ended, Broken, Gated, Stopped};
+ghost use Rattle.esx_workers.specs.Runs.{Ended, Broken, Gated, Stopped, Called, Short};
 ghost use Rattle.esx_workers.specs.Starts.{guest_of, sharer_of, swapper_of, policy_of};
 
 use crate::end::End;
@@ -39,6 +39,8 @@ pub fn guest<D: Door, G: Gate>(
     ensures gate { IfOk result (λ end. Gated G.passes gate.old gate.new (guest_of vm trace.entry rng) turns end (lines_of (D.caller door.old) (D.seen door.old)) (lines_of (D.caller door.old) (D.seen door.new))) }
     ensures err { OnErr result (Broken (D.caller door.old) (guest_of vm trace.entry rng) turns (lines_of (D.caller door.old) (D.seen door.old)) (lines_of (D.caller door.old) (D.seen door.new))) }
     ensures stopped { OnErr result (Stopped G.passes gate.old gate.new (guest_of vm trace.entry rng) (lines_of (D.caller door.old) (D.seen door.old)) (lines_of (D.caller door.old) (D.seen door.new))) }
+    ensures made { OnOk result (Called D.made door.old door.new (lines_of (D.caller door.old) (D.seen door.old)) (lines_of (D.caller door.old) (D.seen door.new))) }
+    ensures wanted { OnErr result (Short G.passes D.made D.wanted gate.old gate.new door.old door.new (guest_of vm trace.entry rng) (lines_of (D.caller door.old) (D.seen door.old)) (lines_of (D.caller door.old) (D.seen door.new))) }
 {
     let worker = Worker::Guest(GuestWorker {
         vm,
@@ -67,6 +69,8 @@ pub fn sharer<D: Door, G: Gate>(
     ensures gate { IfOk result (λ end. Gated G.passes gate.old gate.new (sharer_of machines.entry rng) turns end (lines_of (D.caller door.old) (D.seen door.old)) (lines_of (D.caller door.old) (D.seen door.new))) }
     ensures err { OnErr result (Broken (D.caller door.old) (sharer_of machines.entry rng) turns (lines_of (D.caller door.old) (D.seen door.old)) (lines_of (D.caller door.old) (D.seen door.new))) }
     ensures stopped { OnErr result (Stopped G.passes gate.old gate.new (sharer_of machines.entry rng) (lines_of (D.caller door.old) (D.seen door.old)) (lines_of (D.caller door.old) (D.seen door.new))) }
+    ensures made { OnOk result (Called D.made door.old door.new (lines_of (D.caller door.old) (D.seen door.old)) (lines_of (D.caller door.old) (D.seen door.new))) }
+    ensures wanted { OnErr result (Short G.passes D.made D.wanted gate.old gate.new door.old door.new (sharer_of machines.entry rng) (lines_of (D.caller door.old) (D.seen door.old)) (lines_of (D.caller door.old) (D.seen door.new))) }
 {
     let worker = Worker::Sharer(SharerWorker { machines, rng });
     run(door, gate, alloc, worker, turns)
@@ -90,6 +94,8 @@ pub fn swapper<D: Door, G: Gate>(
     ensures gate { IfOk result (λ end. Gated G.passes gate.old gate.new (swapper_of machines.entry rng) turns end (lines_of (D.caller door.old) (D.seen door.old)) (lines_of (D.caller door.old) (D.seen door.new))) }
     ensures err { OnErr result (Broken (D.caller door.old) (swapper_of machines.entry rng) turns (lines_of (D.caller door.old) (D.seen door.old)) (lines_of (D.caller door.old) (D.seen door.new))) }
     ensures stopped { OnErr result (Stopped G.passes gate.old gate.new (swapper_of machines.entry rng) (lines_of (D.caller door.old) (D.seen door.old)) (lines_of (D.caller door.old) (D.seen door.new))) }
+    ensures made { OnOk result (Called D.made door.old door.new (lines_of (D.caller door.old) (D.seen door.old)) (lines_of (D.caller door.old) (D.seen door.new))) }
+    ensures wanted { OnErr result (Short G.passes D.made D.wanted gate.old gate.new door.old door.new (swapper_of machines.entry rng) (lines_of (D.caller door.old) (D.seen door.old)) (lines_of (D.caller door.old) (D.seen door.new))) }
 {
     let worker = Worker::Swapper(SwapperWorker { machines, rng });
     run(door, gate, alloc, worker, turns)
@@ -115,6 +121,8 @@ pub fn policy<D: Door, G: Gate>(
     ensures gate { IfOk result (λ end. Gated G.passes gate.old gate.new (policy_of machines.entry sample length rng) turns end (lines_of (D.caller door.old) (D.seen door.old)) (lines_of (D.caller door.old) (D.seen door.new))) }
     ensures err { OnErr result (Broken (D.caller door.old) (policy_of machines.entry sample length rng) turns (lines_of (D.caller door.old) (D.seen door.old)) (lines_of (D.caller door.old) (D.seen door.new))) }
     ensures stopped { OnErr result (Stopped G.passes gate.old gate.new (policy_of machines.entry sample length rng) (lines_of (D.caller door.old) (D.seen door.old)) (lines_of (D.caller door.old) (D.seen door.new))) }
+    ensures made { OnOk result (Called D.made door.old door.new (lines_of (D.caller door.old) (D.seen door.old)) (lines_of (D.caller door.old) (D.seen door.new))) }
+    ensures wanted { OnErr result (Short G.passes D.made D.wanted gate.old gate.new door.old door.new (policy_of machines.entry sample length rng) (lines_of (D.caller door.old) (D.seen door.old)) (lines_of (D.caller door.old) (D.seen door.new))) }
 {
     let worker = Worker::Policy(PolicyWorker {
         machines,

@@ -1,6 +1,7 @@
 //! The worker that goes through a trace.
 
-ghost use Rattle.std.specs.Prelude.{◌≡◌, IfOk};
+ghost use Rattle.std.specs.Prelude.{◌≡◌, true, IfOk, OnErr};
+ghost use Rattle.esx_workers.specs.Passed.{event_takes_room, may_want};
 ghost use Rattle.esx_workers.specs.Visiting.{event_of, page_of, is_access_line, guest_asks, guest_hears, sent, advised, guest_rest};
 
 use crate::draws::draw_word;
@@ -38,7 +39,8 @@ pub struct GuestWorker<'a> {
 
 /// The event of a trace's line.
 pub fn event_of(alloc: Global, vm: VmId, line: &TraceLine) -> Result<Event, AllocError>
-    ensures { IfOk result (λ event. event ≡ event_of vm line.now) }
+    ensures event { IfOk result (λ event. event ≡ event_of vm line.now) }
+    ensures late { OnErr result (event_takes_room (event_of vm line.now) ≡ true) }
 {
     match line {
         TraceLine::Read { page, at, len } => Ok(Event::Read {
@@ -82,7 +84,8 @@ fn is_access_line(line: &TraceLine) -> bool
 impl<'a> GuestWorker<'a> {
     /// The next call, if a line is left.
     pub fn ask(&self, alloc: Global) -> Result<Option<Call>, AllocError>
-        ensures { IfOk result (λ call. call ≡ guest_asks self.now) }
+        ensures call { IfOk result (λ call. call ≡ guest_asks self.now) }
+        ensures late { OnErr result (may_want (guest_asks self.now) ≡ true) }
     {
         let Some(line) = self.trace.get(self.next) else {
             return Ok(None);

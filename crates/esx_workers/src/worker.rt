@@ -1,6 +1,7 @@
 //! Any worker.
 
-ghost use Rattle.std.specs.Prelude.{◌≡◌, IfOk, OnOk};
+ghost use Rattle.std.specs.Prelude.{◌≡◌, true, IfOk, OnOk, OnErr};
+ghost use Rattle.esx_workers.specs.Passed.{may_want};
 ghost use Rattle.esx_workers.specs.Workers.{asks, asked, hears, rest};
 
 use crate::end::How;
@@ -25,6 +26,7 @@ impl<'a> Worker<'a> {
     pub fn ask(&mut self, alloc: Global) -> Result<Option<Call>, AllocError>
         ensures call { IfOk result (λ call. call ≡ asks self.old) }
         ensures asked { OnOk result (self.new ≡ asked self.old) }
+        ensures late { OnErr result (may_want (asks self.old) ≡ true) }
     {
         match self {
             Worker::Guest(guest) => guest.ask(alloc),

@@ -4,11 +4,11 @@ use Rattle.esx_workers.specs.declared.end.End.{End}
 use Rattle.esx_workers.specs.declared.worker.Worker.{Worker}
 use Rattle.esx_workers.specs.Passed.{is_passed}
 use Rattle.esx_workers.specs.Workers.{asks, hears, rest}
-use Rattle.esx_workers.proofs.Going.{on_err, not_other, rest_asked, running_none, broken, ended_rest, running_more, ended_rewound, let_none, let_more, gated_rest, gated_up, gated_rewound, stopped_asking, stopped_calling}
+use Rattle.esx_workers.proofs.Going.{on_err, not_other, rest_asked, running_none, broken, ended_rest, running_more, ended_rewound, let_none, let_more, gated_rest, gated_up, gated_rewound, stopped_asking, stopped_calling, made_none, made_more, called_rest, called_rewound, short_asking, short_calling}
 use Rattle.esx_workers.proofs.running.run.Goals as goal
 
 pub loop-turn-init : goal.loop-turn-init
-loop-turn-init g c = (c.requires, g.met.D.Door.leads_self c.args.door.now, refl, running_none _ _ _, λ o. o, let_none _ _)
+loop-turn-init g c = (c.requires, g.met.D.Door.leads_self c.args.door.now, refl, running_none _ _ _, λ o. o, let_none _ _, made_none _ _)
 
 pub loop-turn-preserved : goal.loop-turn-preserved
 loop-turn-preserved g c =
@@ -29,6 +29,7 @@ loop-turn-preserved g c =
           (not_other false _ _ refl c.if-hear.ensures.jumped),
       (λ o. (c.pass_through.ensures.open (inv.4 o)).1),
       let_more _ _ _ _ _ _ inv.5 c.pass_through.ensures.passes c.if-not-pass_through.false,
+      made_more _ _ _ _ _ call reply inv.6 c.in_ok-reply.ensures.made,
     )
 
 pub returns-in_err-call-clause-err : goal.returns-in_err-call-clause-err
@@ -116,3 +117,32 @@ returns-in_err-reply-clause-stopped g c =
     on_err _ (stopped_calling _ _ _ _ _ _ _ _ c.loop-turn.invariant.3 _ _ _ _ _ c.in-Some.call _
     (subst (λ (k : ℕ). lines_of k (g.D.Door.seen c.submit.new.self) ≡ lines_of k (g.D.Door.seen c.loop-turn.door)) c.loop-turn.invariant.2 c.in_err-reply.ensures.err)
     c.loop-turn.invariant.5 c.pass_through.ensures.passes c.if-not-pass_through.false (sym c.in_ok-call.ensures.call ∙ c.in-Some.is)) c.from_residual-in_err-reply.result
+
+pub returns-in_default-clause-made : goal.returns-in_default-clause-made
+returns-in_default-clause-made g c = called_rest _ _ _ _ _ _ _ _ c.loop-turn.invariant.3 _ _ _ _ _ refl refl c.loop-turn.invariant.6
+
+pub returns-then-not-pass_through-clause-made : goal.returns-then-not-pass_through-clause-made
+returns-then-not-pass_through-clause-made g c = called_rest _ _ _ _ _ _ _ _ c.loop-turn.invariant.3 _ _ _ _ _ refl refl c.loop-turn.invariant.6
+
+pub returns-clause-made : goal.returns-clause-made
+returns-clause-made g c = called_rest _ _ _ _ _ _ _ _ c.loop-turn.invariant.3 _ _ _ _ _ refl refl c.loop-turn.invariant.6
+
+pub returns-then-hear-clause-made : goal.returns-then-hear-clause-made
+returns-then-hear-clause-made g c =
+    let inv = c.loop-turn.invariant in
+    let call = c.in-Some.call in
+    let reply = c.in_ok-reply.reply in
+    let w : Worker = c.loop-turn.worker in
+    let asks_it : asks w ≡ Some call = sym c.in_ok-call.ensures.call ∙ c.in-Some.is in
+    called_rewound _ _ _ _ _ _ _ _ inv.3 call reply _
+    (subst (λ (k : ℕ). lines_of k (g.D.Door.seen c.submit.new.self) ≡ lines_of k (g.D.Door.seen c.loop-turn.door) ++ line k call reply ∷ []) inv.2 c.in_ok-reply.ensures.ok)
+    asks_it _ _ _ _ inv.6 c.in_ok-reply.ensures.made
+
+pub returns-in_err-call-clause-wanted : goal.returns-in_err-call-clause-wanted
+returns-in_err-call-clause-wanted g c = on_err _ (short_asking _ _ _ _ _ _ _ _ c.loop-turn.invariant.3 _ _ _ _ _ _ _ _ refl c.loop-turn.invariant.5 c.loop-turn.invariant.6 c.in_err-call.ensures.late) c.from_residual.result
+
+pub returns-in_err-reply-clause-wanted : goal.returns-in_err-reply-clause-wanted
+returns-in_err-reply-clause-wanted g c =
+    on_err _ (short_calling _ _ _ _ _ _ _ _ c.loop-turn.invariant.3 _ _ _ _ _ _ _ _ _ _ c.in-Some.call _
+    (subst (λ (k : ℕ). lines_of k (g.D.Door.seen c.submit.new.self) ≡ lines_of k (g.D.Door.seen c.loop-turn.door)) c.loop-turn.invariant.2 c.in_err-reply.ensures.err)
+    c.loop-turn.invariant.5 c.pass_through.ensures.passes c.if-not-pass_through.false c.loop-turn.invariant.6 (sym c.in_ok-call.ensures.call ∙ c.in-Some.is) c.in_err-reply.ensures.wanted) c.from_residual-in_err-reply.result
