@@ -1,5 +1,5 @@
 -- What a file that was opened and read comes to.
-use Rattle.std.proofs.Common.{◌≡◌, ◌⊎◌, ℕ, List, Option, Result, Ok, Err, refl, arith}
+use Rattle.std.proofs.Common.{◌≡◌, ◌⊎◌, inl, inr, ℕ, List, Option, Result, Ok, Err, refl, arith}
 use Rattle.std.specs.Prelude.{◌+◌, ◌^◌, ◌≤◌, length, IsUtf8}
 use Rattle.std.specs.Io.KnownBytes.{Consumes}
 use Rattle.std.specs.Result.{IfErr, IfOk, IsErrOf}
@@ -10,10 +10,10 @@ use Rattle.esx_reading.specs.declared.fault.TextFault.TheVariants.{NotToml, BadK
 use Rattle.esx_reading.specs.Whole.{GivesMore, GivesOn, GivesWhole, IsOfText}
 use Rattle.esx_scenario.specs.Scenarios.{IsRefused as IsNoPlan}
 use Rattle.esx_session.specs.Sessions.{IsRefused}
-use Rattle.esx_plan.specs.Files.{FailsToRead, HasText, IsNoScenario, IsNoSession, IsNoText, IsRead, ReadsWell, LacksSession, LacksText, Opened}
+use Rattle.esx_plan.specs.Files.{FailsToRead, HasText, IsNoScenario, IsNoSession, IsNoText, IsRead, ReadsWell, StopsReading, LacksSession, LacksText, Opened}
 use Rattle.esx_plan.specs.States.{SourceState}
 
-module _ (old new : SourceState) where
+module _ (old new : SourceState) (most : new.calls ≤ old.calls + 2 ^ 26) where
   no_text_of : (e : TextFault) → IsOfText e
       → (e ≡ NotText → (bytes : List ℕ) × GivesWhole old.remaining new.remaining bytes × (IsUtf8 bytes → ⊥))
       → (e ≡ NotText → (bytes : List ℕ) × GivesWhole old.remaining new.remaining bytes × (new.calls ≤ old.calls + length bytes + 1))
@@ -24,13 +24,16 @@ module _ (old new : SourceState) where
   no_text_of (BadLine n) is none end fails memory same = is
   no_text_of NotText is none end fails memory same =
       let at_end = end refl in
-      (none refl, record { failures = same (λ h. cc); each = record { input = at_end.0; read = at_end.1.given; each = at_end.2 } })
+      (none refl, record { failures = same (λ h. cc); each = record { input = at_end.0; read = at_end.1.given; each = at_end.2 }; most = most })
   no_text_of (Differs k) is none end fails memory same = is
   no_text_of Read is none end fails memory same = fails refl
   no_text_of Write is none end fails memory same = is
   no_text_of OutOfMemory is none end fails memory same =
       let on = memory refl in
-      record { failures = same (λ h. cc); each = record { input = on.bytes; read = on.given; each = omega (arith, on.each) } }
+      record {
+        read = record { failures = same (λ h. cc); each = record { input = on.bytes; read = on.given; each = omega (arith, on.each) }; most = most };
+        where_it_stops = inl on;
+      }
 
   -- a text that could not be read
   pub no_text : {T : Type 0} (r : Result T TextFault) → IfErr r IsOfText
@@ -44,16 +47,17 @@ module _ (old new : SourceState) where
   no_text (Ok v) is none end cause each memory same = tt
   no_text (Err e) is none end cause each memory same =
       no_text_of e is (λ h. none (cc)) (λ h. end (cc))
-      (λ h. let on = each (cc) in record { cause = cause (cc); each = record { input = on.0; read = on.1; each = on.2 } })
+      (λ h. let on = each (cc) in record { cause = cause (cc); each = record { input = on.0; read = on.1; each = on.2 }; most = most })
       (λ h. memory (cc)) (λ other. same (λ h. other (cc)))
 
   -- a text that was read
   pub is_text : {T : Type 0} (r : Result T TextFault) (bytes : T → List ℕ) → IfOk r (λ v. GivesWhole old.remaining new.remaining (bytes v))
       → IfOk r (λ v. new.calls ≤ old.calls + length (bytes v) + 1) → ((IsErrOf r Read → ⊥) → new.failures ≡ old.failures)
       → IfOk r (λ v. IsRead old new (bytes v))
-  is_text (Ok v) bytes given calls same = record { given = given; failures = same (λ h. cc); calls = calls }
+  is_text (Ok v) bytes given calls same = record { given = given; failures = same (λ h. cc); calls = calls; most = most }
   is_text (Err e) bytes given calls same = tt
 
+module _ (old new : SourceState) where
   -- it has no scenario either
   pub no_scenario_unread : (e : TextFault) → IsNoText old new e → IsNoScenario old new e
   no_scenario_unread NotToml n = absurd n
@@ -78,8 +82,11 @@ module _ (old new : SourceState) where
 
   -- a text that was refused
   module _ (text : List ℕ) (given : IsRead old new text) where
-    read_well : ReadsWell old new
-    read_well = record { failures = given.failures; each = record { input = text; read = given.given.given; each = given.calls } }
+    read_well : StopsReading old new
+    read_well = record {
+      read = record { failures = given.failures; each = record { input = text; read = given.given.given; each = given.calls }; most = given.most };
+      where_it_stops = inr (text, given.given);
+    }
 
     no_plan_of : (e : TextFault) → IsNoPlan text e → IsNoScenario old new e
     no_plan_of NotToml n = (text, given, n)

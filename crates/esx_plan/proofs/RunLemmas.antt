@@ -85,32 +85,34 @@ nothing_told OutOfMemory p errors out n = (refl, refl)
 -- what came out of a buffer of a session
 module _ (console : Session) (out out' : SinkState) where
   pub session_told_ok : (r : Result (Unit {0}) SinkFailed) → OnOk r (Appends out.contents out'.contents (told_session console))
-      → out'.failures ≡ out.failures + sink_faults r → OnOk r (out'.waiting ≡ [])
-      → OnOk (written_as r) (Appends out.contents out'.contents (told_session console) × (out'.failures ≡ out.failures) × (out'.waiting ≡ []))
-  session_told_ok (Ok v) told failures sent = (told, omega (arith, failures), sent)
-  session_told_ok (Err e) told failures sent = tt
+      → out'.failures ≡ out.failures + sink_faults r → out'.flushes + sink_faults r ≡ out.flushes + 1 → OnOk r (out'.waiting ≡ [])
+      → OnOk (written_as r) (Appends out.contents out'.contents (told_session console) × (out'.failures ≡ out.failures) × (out'.flushes ≡ out.flushes + 1) × (out'.waiting ≡ []))
+  session_told_ok (Ok v) told failures flushes sent = (told, omega (arith, failures), omega (arith, flushes), sent)
+  session_told_ok (Err e) told failures flushes sent = tt
 
   pub session_told_err : (r : Result (Unit {0}) SinkFailed)
       → IfErr r (λ e. (taken : Option (List ℕ)) × WritesFront out.contents taken (told_session console) × (rest : List ℕ) × Appends out'.contents taken rest)
-      → out'.failures ≡ out.failures + sink_faults r
+      → out'.failures ≡ out.failures + sink_faults r → out'.flushes + sink_faults r ≡ out.flushes + 1
       → IfErr (written_as r) (λ e. (e ≡ Write) × StopsTelling console out out')
-  session_told_err (Ok v) stops failures = tt
-  session_told_err (Err e) stops failures = (refl, record { taken = stops.0; front = stops.1; rest = stops.2; out_of_it = stops.3; failures = failures })
+  session_told_err (Ok v) stops failures flushes = tt
+  session_told_err (Err e) stops failures flushes =
+      (refl, record { taken = stops.0; front = stops.1; rest = stops.2; out_of_it = stops.3; failures = failures; flushes = omega (arith, flushes) })
 
 module _ (p : Plan) (console : Session) (ends : List End) (played : IsPlayed p console ends) (all : List Ending) (are : all ≡ endings (workers_named (in_order p.guests)) ends)
     (errors errors' : SinkState) (told : Result (Unit {0}) SinkFailed) (ends_told : Writes errors.contents errors'.contents (flat_map ending_text all) told)
-    (failures : errors'.failures ≡ errors.failures + sink_faults told) (sent : OnOk told (errors'.waiting ≡ [])) (out out' : SinkState) where
+    (failures : errors'.failures ≡ errors.failures + sink_faults told) (flushes : errors'.flushes + sink_faults told ≡ errors.flushes + 1) (sent : OnOk told (errors'.waiting ≡ [])) (out out' : SinkState) where
   ends_are_told : AreTold p ends errors errors'
   ends_are_told = record {
     ended = told;
     written = subst (λ (l : List Ending). Writes errors.contents errors'.contents (flat_map ending_text l) told) are ends_told;
     failures = failures;
+    flushes = flushes;
     sent = sent;
   }
 
-  pub plays : (r : Result (Unit {0}) RunFault) → OnOk r (Appends out.contents out'.contents (told_session console) × (out'.failures ≡ out.failures) × (out'.waiting ≡ []))
+  pub plays : (r : Result (Unit {0}) RunFault) → OnOk r (Appends out.contents out'.contents (told_session console) × (out'.failures ≡ out.failures) × (out'.flushes ≡ out.flushes + 1) × (out'.waiting ≡ []))
       → OnOk r (Plays p errors errors' out out')
-  plays (Ok v) s = record { console = console; ends = ends; played = played; told = ends_are_told; session_told = s.0; failures = s.1; sent = s.2 }
+  plays (Ok v) s = record { console = console; ends = ends; played = played; told = ends_are_told; session_told = s.0; failures = s.1; flushes = s.2; sent = s.3 }
   plays (Err e) s = tt
 
   stops_at : (e : RunFault) → e ≡ Write → StopsTelling console out out' → RunStops e p errors errors' out out'

@@ -5,7 +5,7 @@ use Rattle.std.specs.declared.io.Error.{Error}
 use Rattle.esx_types.specs.declared.config.Config.{Config}
 use Rattle.esx_reading.specs.declared.fault.TextFault.{TextFault}
 use Rattle.esx_reading.specs.declared.fault.TextFault.TheVariants.{NotToml, BadKey, BadLine, NotText, Read, OutOfMemory}
-use Rattle.esx_reading.specs.Whole.{GivesMore, GivesWhole}
+use Rattle.esx_reading.specs.Whole.{GivesMore, GivesOn, GivesWhole}
 use Rattle.esx_scenario.specs.Plans.{Plan}
 use Rattle.esx_scenario.specs.Scenarios.{IsScenario, IsRefused as IsNoPlan}
 use Rattle.esx_session.specs.declared.session.Entry.{Entry}
@@ -16,28 +16,36 @@ use Rattle.esx_plan.specs.States.{SourceState}
 use Rattle.esx_plan.specs.Words.{asked_of}
 use Rattle.esx_plan.specs.declared.words.Asked.{Asked}
 
--- all bytes of a file were read, by reads of which each gave some but for the last, and none failed
+-- All bytes of a file were read, and no read failed. There were at most 2^26 reads, and at most one more than bytes.
 pub record IsRead (old new : SourceState) (bytes : List ℕ) : Type 0 where
   pub given : GivesWhole old.remaining new.remaining bytes
   pub failures : new.failures ≡ old.failures
   pub calls : new.calls ≤ old.calls + length bytes + 1
+  pub most : new.calls ≤ old.calls + 2 ^ 26
 
--- A read failed, or none of 2^26 found the end, or there were more bytes than a file may have. Each read gave some, but for the last.
+-- A read failed, or none of 2^26 found the end, or there were more bytes than a file may have.
 pub record FailsToRead (old new : SourceState) : Type 0 where
   pub cause : (new.failures ≡ old.failures + 1)
       ⊎ ((new.failures ≡ old.failures) × ((new.calls ≡ old.calls + 2 ^ 26) ⊎ GivesMore old.remaining new.remaining))
   pub each : ReadsOn old.remaining new.remaining old.calls new.calls
+  pub most : new.calls ≤ old.calls + 2 ^ 26
 
--- no read failed, and each gave some bytes, but for the last
+-- No read failed. There were at most 2^26, and at most one more than bytes that they gave.
 pub record ReadsWell (old new : SourceState) : Type 0 where
   pub failures : new.failures ≡ old.failures
   pub each : ReadsOn old.remaining new.remaining old.calls new.calls
+  pub most : new.calls ≤ old.calls + 2 ^ 26
+
+-- The same where memory ran out: all bytes were read, or not all, and each read gave some.
+pub record StopsReading (old new : SourceState) : Type 0 where
+  pub read : ReadsWell old new
+  pub where_it_stops : GivesOn old.remaining new.remaining old.calls new.calls ⊎ ((bytes : List ℕ) × GivesWhole old.remaining new.remaining bytes)
 
 -- What a fault tells of a file: all its bytes were read and are no text, or reading failed, or memory ran out where no read failed.
 abbrev pub IsNoText : SourceState → SourceState → TextFault → Type 0
 IsNoText old new NotText = ((bytes : List ℕ) × GivesWhole old.remaining new.remaining bytes × (IsUtf8 bytes → ⊥)) × ReadsWell old new
 IsNoText old new Read = FailsToRead old new
-IsNoText old new OutOfMemory = ReadsWell old new
+IsNoText old new OutOfMemory = StopsReading old new
 IsNoText old new _ = ⊥
 
 -- The same, or its bytes are a text that is refused so, where a scenario is wanted.

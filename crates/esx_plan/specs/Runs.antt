@@ -36,15 +36,17 @@ pub record AreTold (p : Plan) (ends : List End) (old new : SinkState) : Type 0 w
   pub ended : Result (Unit {0}) SinkFailed
   pub written : Writes old.contents new.contents (ends_text p.guests ends) ended
   pub failures : new.failures ≡ old.failures + sink_faults ended
+  pub flushes : new.flushes + sink_faults ended ≡ old.flushes + 1
   pub sent : OnOk ended (new.waiting ≡ [])
 
--- one write or flush failed, and a front of the session was written
+-- one write or the flush failed, and a front of the session was written
 pub record StopsTelling (console : Session) (out out' : SinkState) : Type 0 where
   pub taken : Option (List ℕ)
   pub front : WritesFront out.contents taken (told_session console)
   pub rest : List ℕ
   pub out_of_it : Appends out'.contents taken rest
   pub failures : out'.failures ≡ out.failures + 1
+  pub flushes : out'.flushes ≡ out.flushes
 
 -- a call of the opening was refused so
 abbrev pub IsRefusedOpening : Plan → Refusal → Type 0
@@ -74,6 +76,7 @@ pub record Plays (p : Plan) (errors errors' out out' : SinkState) : Type 0 where
   pub told : AreTold p ends errors errors'
   pub session_told : Appends out.contents out'.contents (told_session console)
   pub failures : out'.failures ≡ out.failures
+  pub flushes : out'.flushes ≡ out.flushes + 1
   pub sent : out'.waiting ≡ []
 
 -- The ends were told, where they could be, and a front of the session.

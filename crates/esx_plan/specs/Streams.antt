@@ -19,7 +19,7 @@ ComesOut OutOfMemory taken out = taken ≡ out
 abbrev pub Sends : Option (List ℕ) → Option (List ℕ) → List ℕ → List ℕ → Type 0
 Sends old new waited waits = (front : List ℕ) × (waited ≡ front ++ waits) × Appends old new front
 
--- A site was served from its opening on: all input was answered, or all up to a fault. The source fails and the sink fails only where that is the fault, each read gave some bytes but for the last, and what waits was flushed before each further read and at the end.
+-- A site was served from its opening on: all input was answered, or all up to a fault. The source fails and the sink fails only where that is the fault, there was at most one read more than bytes that came, and what waits was flushed before each further read and at the end.
 pub record IsServed (site : Config) (ended : Result ℕ ServeFault) (unread left : SourceState) (out out' : SinkState) : Type 0 where
   pub ok : IfOk ended (λ n. (after : Session) × Answers 0 n (at_opening site) after unread.remaining left.remaining out.contents out'.contents)
   pub fault : IfErr ended (λ e. (after : Session) × (taken : Option (List ℕ))

@@ -145,6 +145,7 @@ fn tell_session<W: Sink>(
     requires { held.old ≡ [] }
     ensures bytes { Writes (W.contents writer.old) (W.contents writer.new) (told_session console.now) result }
     ensures failures { W.failures writer.new ≡ W.failures writer.old + sink_faults result }
+    ensures flushes { W.flushes writer.new + sink_faults result ≡ W.flushes writer.old + 1 }
     ensures sent { OnOk result (W.waiting writer.new ≡ []) }
 {
     write_session(writer, held, &console.site(), console.log())?;
@@ -167,6 +168,7 @@ fn session_buffered<W: Sink + Drop, L: Ledger>(
     ensures fault { IfErr result.0 (λ e. (taken : Option (List ℕ)) × WritesFront (W.contents writer) taken (told_session console.now)
         × (rest : List ℕ) × Appends (W.contents result.1) taken rest) }
     ensures failures { W.failures result.1 ≡ W.failures writer + sink_faults result.0 }
+    ensures flushes { W.flushes result.1 + sink_faults result.0 ≡ W.flushes writer + 1 }
     ensures sent { OnOk result.0 (W.waiting result.1 ≡ []) }
 {
     let mut outgoing = Outgoing::<W, L>::new(writer, waiting, blank);
@@ -183,6 +185,7 @@ fn tell_endings<W: Sink>(
     requires { held.old ≡ [] }
     ensures bytes { Writes (W.contents sink.old) (W.contents sink.new) (flat_map ending_text endings.now) result }
     ensures failures { W.failures sink.new ≡ W.failures sink.old + sink_faults result }
+    ensures flushes { W.flushes sink.new + sink_faults result ≡ W.flushes sink.old + 1 }
     ensures sent { OnOk result (W.waiting sink.new ≡ []) }
 {
     write_endings(sink, held, endings)?;
@@ -202,9 +205,11 @@ fn tell<E: Sink + Drop, W: Sink + Drop>(made: Played, mut errors: E, writer: W) 
     requires { (made.for_ends ≡ []) × (made.for_session ≡ []) × (made.waiting ≡ []) }
     ensures told { (told : Result (Unit {0}) SinkFailed)
         × Writes (E.contents errors) (E.contents result.errors) (flat_map ending_text made.endings.items) told
-        × (E.failures result.errors ≡ E.failures errors + sink_faults told) × OnOk told (E.waiting result.errors ≡ []) }
+        × (E.failures result.errors ≡ E.failures errors + sink_faults told)
+        × (E.flushes result.errors + sink_faults told ≡ E.flushes errors + 1) × OnOk told (E.waiting result.errors ≡ []) }
     ensures ok { OnOk result.ended (Appends (W.contents writer) (W.contents result.writer) (told_session made.console)
-        × (W.failures result.writer ≡ W.failures writer) × (W.waiting result.writer ≡ [])) }
+        × (W.failures result.writer ≡ W.failures writer) × (W.flushes result.writer ≡ W.flushes writer + 1)
+        × (W.waiting result.writer ≡ [])) }
     ensures fault { IfErr result.ended (λ e. (e ≡ RunFault.Write)
         × StopsTelling made.console (sink_state W.contents W.waiting W.failures W.flushes writer)
         (sink_state W.contents W.waiting W.failures W.flushes result.writer)) }

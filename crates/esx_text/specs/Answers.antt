@@ -149,7 +149,7 @@ pub record Faults (fault : ServeFault) (caller : ℕ) (before after : Session) (
   pub read : Consumes unread left input
   pub stops : Stops fault caller before after input old new ⊎ (IsAtEnd left × StopsLast fault caller before after input old new)
 
--- Each read gave some bytes, but for the last.
+-- There was at most one read more than bytes that came.
 pub record ReadsOn (unread left : Option (List ℕ)) (before after : ℕ) : Type 0 where
   pub input : List ℕ
   pub read : Consumes unread left input

@@ -277,8 +277,8 @@ pub fn serve<R: Source, W: Sink>(
     ensures fault { IfErr result (λ e. Faults e caller console.old console.new
         (R.remaining reader.old) (R.remaining reader.new) (W.contents writer.old) (W.contents writer.new)) }
 
-    // The source fails once where reading is at fault, or gives no end, and never elsewhere. Each read gave some
-    // bytes, but for the last.
+    // The source fails once where reading is at fault, or gives no end, and never elsewhere. There is at most one
+    // read more than bytes that come.
     ensures reads { R.calls reader.new ≤ R.calls reader.old + 2 ^ 26 }
     ensures each { ReadsOn (R.remaining reader.old) (R.remaining reader.new) (R.calls reader.old) (R.calls reader.new) }
     ensures read { IsErrOf result ServeFault.Read

@@ -8,7 +8,7 @@ returns-in-Ok-clause-ok g c =
     let told = c.tell.ensures.told in
     plays c.args.scenario.now c.in-Ok.made.console m.0 m.1 c.in-Ok.made.endings.items m.2
     (sink_state g.E.Sink.contents g.E.Sink.waiting g.E.Sink.failures g.E.Sink.flushes c.args.errors)
-    (sink_state g.E.Sink.contents g.E.Sink.waiting g.E.Sink.failures g.E.Sink.flushes c.tell.result.errors) told.0 told.1 told.2 told.3
+    (sink_state g.E.Sink.contents g.E.Sink.waiting g.E.Sink.failures g.E.Sink.flushes c.tell.result.errors) told.0 told.1 told.2 told.3 told.4
     (sink_state g.W.Sink.contents g.W.Sink.waiting g.W.Sink.failures g.W.Sink.flushes c.args.writer)
     (sink_state g.W.Sink.contents g.W.Sink.waiting g.W.Sink.failures g.W.Sink.flushes c.tell.result.writer) c.tell.result.ended c.tell.ensures.ok
 
@@ -18,7 +18,7 @@ returns-in-Ok-clause-fault g c =
     let told = c.tell.ensures.told in
     stops c.args.scenario.now c.in-Ok.made.console m.0 m.1 c.in-Ok.made.endings.items m.2
     (sink_state g.E.Sink.contents g.E.Sink.waiting g.E.Sink.failures g.E.Sink.flushes c.args.errors)
-    (sink_state g.E.Sink.contents g.E.Sink.waiting g.E.Sink.failures g.E.Sink.flushes c.tell.result.errors) told.0 told.1 told.2 told.3
+    (sink_state g.E.Sink.contents g.E.Sink.waiting g.E.Sink.failures g.E.Sink.flushes c.tell.result.errors) told.0 told.1 told.2 told.3 told.4
     (sink_state g.W.Sink.contents g.W.Sink.waiting g.W.Sink.failures g.W.Sink.flushes c.args.writer)
     (sink_state g.W.Sink.contents g.W.Sink.waiting g.W.Sink.failures g.W.Sink.flushes c.tell.result.writer) c.tell.result.ended c.tell.ensures.fault
 
