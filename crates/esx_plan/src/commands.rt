@@ -274,7 +274,7 @@ fn ended_with<I: Drop, E: Drop, W: Drop>(
 pub fn run_asked<
     R: AllocGlobal + Threads + Wait + Sync,
     P: Print + Sync,
-    F: Source,
+    F: Source + Drop,
     I: Source + Drop,
     E: Sink + Drop,
     W: Sink + Drop,
