@@ -66,7 +66,7 @@ impl<'a, T: Wanted, L: Ledger> Comparing<'a, T, L> {
         requires name { blank.name ≡ L.name }
         requires parts { blank.parts ≡ L.parts }
         requires three { 3 ≤ blank.parts }
-        ensures { result ≡ record { bytes = []; tally = record { calls = 0; failures = 0; flushes = 0 } } }
+        ensures { result ≡ record { bytes = []; tally = record { calls = 0; failures = 0; noted = 0 } } }
     {
         Comparing {
             text,
@@ -95,7 +95,7 @@ impl<'a, T: Wanted, L: Ledger> Sink for Comparing<'a, T, L> {
 
     ghost failures = { λ s. s.tally.failures };
 
-    ghost flushes = { λ s. s.tally.flushes };
+    ghost flushes = { λ s. s.tally.noted };
 
     fn write(&mut self, bytes: &[u8]) -> Result<usize, SinkFailed> {
         if self.other.is_some() {
@@ -114,7 +114,7 @@ impl<'a, T: Wanted, L: Ledger> Sink for Comparing<'a, T, L> {
     }
 
     fn flush(&mut self) -> Result<(), SinkFailed> {
-        self.counts.count_flushed();
+        self.counts.count_noted();
         Ok(())
     }
 }

@@ -21,12 +21,14 @@ pub record IsRead (old new : SourceState) (bytes : List ℕ) : Type 0 where
   pub given : GivesWhole old.remaining new.remaining bytes
   pub failures : new.failures ≡ old.failures
   pub calls : new.calls ≤ old.calls + length bytes + 1
+  pub found : new.empty_reads ≡ old.empty_reads + 1
   pub most : new.calls ≤ old.calls + 2 ^ 26
 
 -- A read failed, or none of 2^26 found the end, or there were more bytes than a file may have.
 pub record FailsToRead (old new : SourceState) : Type 0 where
   pub cause : (new.failures ≡ old.failures + 1)
       ⊎ ((new.failures ≡ old.failures) × ((new.calls ≡ old.calls + 2 ^ 26) ⊎ GivesMore old.remaining new.remaining))
+  pub not_found : new.empty_reads ≡ old.empty_reads
   pub each : ReadsOn old.remaining new.remaining old.calls new.calls
   pub most : new.calls ≤ old.calls + 2 ^ 26
 

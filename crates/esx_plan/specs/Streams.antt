@@ -1,5 +1,5 @@
 -- What comes out of a buffer of answers.
-use Rattle.std.specs.Prelude.{ℕ, List, [], ◌++◌, ◌≡◌, ◌⊎◌, ◌+◌, ◌-◌, ◌^◌, ◌≤◌, Option, Result, IfOk, IfErr, IsErrOf}
+use Rattle.std.specs.Prelude.{ℕ, List, [], ◌++◌, ◌≡◌, ◌⊎◌, ◌+◌, ◌-◌, ◌^◌, ◌≤◌, Option, Result, IfOk, IfErr, OnOk, IsErrOf}
 use Rattle.std.specs.Io.KnownBytes.{Appends}
 use Rattle.esx_types.specs.declared.config.Config.{Config}
 use Rattle.esx_model.specs.Console.{Session}
@@ -25,6 +25,9 @@ pub record IsServed (site : Config) (ended : Result ℕ ServeFault) (unread left
   pub fault : IfErr ended (λ e. (after : Session) × (taken : Option (List ℕ))
       × Faults e 0 (at_opening site) after unread.remaining left.remaining out.contents taken × ComesOut e taken out'.contents)
   pub reads : left.calls ≤ unread.calls + 2 ^ 26
+  pub found : OnOk ended (left.empty_reads ≡ unread.empty_reads + 1)
+  pub not_found : IsErrOf ended Read → left.empty_reads ≡ unread.empty_reads
+  pub ends : left.empty_reads ≤ unread.empty_reads + 1
   pub each : ReadsOn unread.remaining left.remaining unread.calls left.calls
   pub read : IsErrOf ended Read
       → (left.failures ≡ unread.failures + 1) ⊎ ((left.failures ≡ unread.failures) × (left.calls ≡ unread.calls + 2 ^ 26))

@@ -10,9 +10,9 @@ pub record GivesWhole (old new : Option (List ℕ)) (bytes : List ℕ) : Type 0 
   pub end : IsAtEnd new
   pub few : length bytes ≤ 2 ^ 26
 
--- the source gave more bytes than a file may have
+-- the source gave more bytes than a file may have, and no more behind the read that gave the first of them
 abbrev pub GivesMore : Option (List ℕ) → Option (List ℕ) → Type 0
-GivesMore old new = (bytes : List ℕ) × Consumes old new bytes × (2 ^ 26 < length bytes)
+GivesMore old new = (bytes : List ℕ) × Consumes old new bytes × (2 ^ 26 < length bytes) × (length bytes ≤ 2 ^ 26 + 65536)
 
 -- The source gave no more bytes than a file may have, by reads of which each gave one at least: none found the end.
 pub record GivesOn (old new : Option (List ℕ)) (before after : ℕ) : Type 0 where

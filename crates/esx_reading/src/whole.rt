@@ -1,6 +1,6 @@
 //! Files, read whole.
 
-ghost use Rattle.std.specs.Prelude.{◌≡◌, ◌+◌, ◌≤◌, ◌^◌, ◌⊎◌, ℕ, List, Option, length, string_bytes, IfOk, IfErr, IsErrOf, IsUtf8};
+ghost use Rattle.std.specs.Prelude.{◌≡◌, ◌+◌, ◌≤◌, ◌^◌, ◌⊎◌, ℕ, List, Option, length, string_bytes, IfOk, IfErr, OnOk, OnErr, IsErrOf, IsUtf8};
 ghost use Rattle.std.specs.Io.KnownBytes.{Consumes};
 ghost use Rattle.esx_reading.specs.Whole.{GivesWhole, GivesMore, GivesOn, IsOfReading, IsOfText};
 
@@ -35,6 +35,10 @@ fn read_through<R: Source>(
         ⊎ ((R.failures source.new ≡ R.failures source.old)
         × ((R.calls source.new ≡ R.calls source.old + 2 ^ 26) ⊎ GivesMore (R.remaining source.old) (R.remaining source.new))) }
     ensures no_read_fault { (IsErrOf result TextFault.Read → ⊥) → R.failures source.new ≡ R.failures source.old }
+
+    // One read gave nothing where the end was found, and none did elsewhere.
+    ensures found { OnOk result (R.empty_reads source.new ≡ R.empty_reads source.old + 1) }
+    ensures not_found { OnErr result (R.empty_reads source.new ≡ R.empty_reads source.old) }
 
     // Each read gave a byte at least, but for the last where it failed or found the end. Where memory ran out
     // no read found it.
@@ -77,6 +81,10 @@ pub fn read_whole<R: Source>(alloc: Global, source: &mut R) -> Result<Vec<u8>, T
         × ((R.calls source.new ≡ R.calls source.old + 2 ^ 26) ⊎ GivesMore (R.remaining source.old) (R.remaining source.new))) }
     ensures no_read_fault { (IsErrOf result TextFault.Read → ⊥) → R.failures source.new ≡ R.failures source.old }
 
+    // One read gave nothing where the end was found, and none did elsewhere.
+    ensures found { OnOk result (R.empty_reads source.new ≡ R.empty_reads source.old + 1) }
+    ensures not_found { OnErr result (R.empty_reads source.new ≡ R.empty_reads source.old) }
+
     // Each read gave a byte at least, but for the last where it failed or found the end. Where memory ran out
     // no read found it.
     ensures end { IfOk result (λ v. R.calls source.new ≤ R.calls source.old + length v.items + 1) }
@@ -103,6 +111,12 @@ pub fn read_text<R: Source>(alloc: Global, source: &mut R) -> Result<String, Tex
         ⊎ ((R.failures source.new ≡ R.failures source.old)
         × ((R.calls source.new ≡ R.calls source.old + 2 ^ 26) ⊎ GivesMore (R.remaining source.old) (R.remaining source.new))) }
     ensures no_read_fault { (IsErrOf result TextFault.Read → ⊥) → R.failures source.new ≡ R.failures source.old }
+
+    // One read gave nothing where the end was found, and none did elsewhere.
+    ensures found { OnOk result (R.empty_reads source.new ≡ R.empty_reads source.old + 1) }
+    ensures found_no_text { IsErrOf result TextFault.NotText → R.empty_reads source.new ≡ R.empty_reads source.old + 1 }
+    ensures not_found { IsErrOf result TextFault.Read → R.empty_reads source.new ≡ R.empty_reads source.old }
+    ensures not_found_in_memory { IsErrOf result TextFault.OutOfMemory → R.empty_reads source.new ≡ R.empty_reads source.old }
 
     // Each read gave a byte at least, but for the last where it failed or found the end. Where memory ran out
     // no read found it.

@@ -149,6 +149,11 @@ pub record Faults (fault : ServeFault) (caller : ℕ) (before after : Session) (
   pub read : Consumes unread left input
   pub stops : Stops fault caller before after input old new ⊎ (IsAtEnd left × StopsLast fault caller before after input old new)
 
+-- how many reads gave nothing: the one that found the end
+abbrev pub ends_found : Option ℕ → ℕ
+ends_found None = 0
+ends_found (Some count) = 1
+
 -- There was at most one read more than bytes that came.
 pub record ReadsOn (unread left : Option (List ℕ)) (before after : ℕ) : Type 0 where
   pub input : List ℕ

@@ -1,11 +1,11 @@
 //! The loop that serves a console line by line.
 
-ghost use Rattle.std.specs.Prelude.{◌≡◌, ◌+◌, ◌-◌, ◌<◌, ◌≤◌, ◌^◌, ◌++◌, ◌∷◌, [], ℕ, List, Option, Ok, None, IfOk, IfErr, OnOk, IsErrOf, ◌⊎◌, length};
+ghost use Rattle.std.specs.Prelude.{◌≡◌, ◌+◌, ◌-◌, ◌<◌, ◌≤◌, ◌^◌, ◌++◌, ◌∷◌, [], ℕ, List, Option, Ok, None, Some, IfOk, IfErr, OnOk, IsErrOf, ◌⊎◌, length};
 ghost use Rattle.std.specs.Io.KnownBytes.{Keeps, Consumes, IsAtEnd};
 ghost use Rattle.esx_types.specs.Ends.{call_successes};
 ghost use Rattle.esx_model.specs.Console.{Session};
 ghost use Rattle.esx_text.specs.Lines.{Holds, HasNoFeed};
-ghost use Rattle.esx_text.specs.Answers.{Progress, Answers, Stops, StopsLast, Faults, Reaches, ReadsOn, Ends, fault_writes, read_faults, write_faults};
+ghost use Rattle.esx_text.specs.Answers.{Progress, Answers, Stops, StopsLast, Faults, Reaches, ReadsOn, Ends, ends_found, fault_writes, read_faults, write_faults};
 
 use crate::answer::{Asked, answer_line};
 use crate::fault::ServeFault;
@@ -210,6 +210,9 @@ fn serve_reads<R: Source, W: Sink>(
         (R.remaining reader.old) (R.remaining reader.new) (W.contents writer.old) (W.contents writer.new) }
     ensures reads { R.calls reader.new ≤ R.calls reader.old + 2 ^ 26 }
     ensures endless { result ≡ Ok None → R.calls reader.new ≡ R.calls reader.old + 2 ^ 26 }
+    ensures found { IfOk result (λ count. R.empty_reads reader.new ≡ R.empty_reads reader.old + ends_found count) }
+    ensures not_found { IsErrOf result ServeFault.Read → R.empty_reads reader.new ≡ R.empty_reads reader.old }
+    ensures ends { R.empty_reads reader.new ≤ R.empty_reads reader.old + 1 }
     ensures each { ReadsOn (R.remaining reader.old) (R.remaining reader.new) (R.calls reader.old) (R.calls reader.new) }
     ensures read { R.failures reader.new ≡ R.failures reader.old + read_faults result }
     ensures write { W.failures writer.new ≡ W.failures writer.old + write_faults result }
@@ -241,6 +244,7 @@ fn finish<W: Sink>(
         → Ends result caller before after unread left old (W.contents writer.new) }
     ensures read { IsErrOf result ServeFault.Read → IsErrOf served ServeFault.Read ⊎ (served ≡ Ok None) }
     ensures no_read_fault { (IsErrOf result ServeFault.Read → ⊥) → read_faults served ≡ 0 }
+    ensures counted { IfOk result (λ count. served ≡ Ok (Some count)) }
     ensures write { W.failures writer.new + write_faults served ≡ W.failures writer.old + write_faults result }
     ensures flushes { W.flushes writer.new + read_faults served + write_faults result ≡ W.flushes writer.old + 1 }
     ensures sent { (IsErrOf served ServeFault.Read → W.waiting writer.old ≡ [])
@@ -276,6 +280,11 @@ pub fn serve<R: Source, W: Sink>(
         (R.remaining reader.old) (R.remaining reader.new) (W.contents writer.old) (W.contents writer.new)) }
     ensures fault { IfErr result (λ e. Faults e caller console.old console.new
         (R.remaining reader.old) (R.remaining reader.new) (W.contents writer.old) (W.contents writer.new)) }
+
+    // One read gives nothing where the end is found, and none does where reading is at fault.
+    ensures found { OnOk result (R.empty_reads reader.new ≡ R.empty_reads reader.old + 1) }
+    ensures not_found { IsErrOf result ServeFault.Read → R.empty_reads reader.new ≡ R.empty_reads reader.old }
+    ensures ends { R.empty_reads reader.new ≤ R.empty_reads reader.old + 1 }
 
     // The source fails once where reading is at fault, or gives no end, and never elsewhere. There is at most one
     // read more than bytes that come.

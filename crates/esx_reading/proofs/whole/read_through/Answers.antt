@@ -8,9 +8,11 @@ returns-then-given-len-clause-read g c =
     let all = c.loop.bytes.items ++ front in
     let long : 2 ^ 26 < length all =
     omega (arith, length-append c.loop.bytes.items front, length-take c.in-Ok.given c.read.new.buffer, c.in-Ok.ensures.bound, c.if-given-len.true, c.len.ensures, c.loop.invariant.few) in
+    let no_longer : length all ≤ 2 ^ 26 + 65536 =
+    omega (arith, length-append c.loop.bytes.items front, length-take c.in-Ok.given c.read.new.buffer, c.in-Ok.ensures.bound, c.requires, c.loop.invariant.few) in
     λ _. inr (
       omega (arith, c.in-Ok.ensures.failures, c.loop.invariant.failures),
-      inr (all, Consumes-trans _ _ _ c.loop.bytes.items front c.loop.invariant.given c.in-Ok.ensures.bytes.0, long),
+      inr (all, Consumes-trans _ _ _ c.loop.bytes.items front c.loop.invariant.given c.in-Ok.ensures.bytes.0, long, no_longer),
     )
 
 pub returns-then-given-len-clause-each : goal.returns-then-given-len-clause-each

@@ -9,4 +9,5 @@ invariant-loop g l = record {
   calls : g.R.Source.calls l.source ≡ g.R.Source.calls l.initial.source + l.counter;
   each : l.counter ≤ length l.bytes.items;
   few : length l.bytes.items ≤ 2 ^ 26;
+  found : g.R.Source.empty_reads l.source ≡ g.R.Source.empty_reads l.initial.source;
 }

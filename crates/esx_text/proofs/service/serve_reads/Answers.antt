@@ -7,6 +7,7 @@ pub loop-init : goal.loop-init
 loop-init g c = record {
   progress = ([], consumes_nothing _, rw c.requires.none (progress_start c.args.caller _ _ _ c.requires.start), omega arith);
   failures = refl;
+  ends = refl;
   reads = refl;
   empty = c.requires.empty;
   count = omega (arith, c.requires.none);
@@ -125,6 +126,7 @@ loop-preserved g c =
         omega (arith, p.3, c.if-given-eq0.false, c.in-Ok.ensures.bound, length-append p.0 (take c.in-Ok.given c.read.new.buffer), length-take c.in-Ok.given c.read.new.buffer),
       );
       failures = omega (arith, c.loop.invariant.failures, c.in_ok-send.ensures.failures, c.in_ok-serve_bytes.ensures.failures);
+      ends = grind (arith, c.loop.invariant.ends, c.in-Ok.ensures.empty_reads, c.if-given-eq0.false);
       reads = omega (arith, c.loop.invariant.reads, c.in-Ok.ensures.failures);
       empty = c.in_ok-serve_bytes.ensures.empty;
       count = omega (arith, c.loop.invariant.count, c.in_ok-serve_bytes.ensures.count, c.split_at.ensures.front_len, c.in-Ok.ensures.bound, c.requires.room);

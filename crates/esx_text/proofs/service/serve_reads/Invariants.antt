@@ -9,6 +9,7 @@ invariant-loop g l = record {
       × Progress l.caller l.initial.console (g.W.Sink.contents l.initial.writer) input l.work.count l.work.line l.console (g.W.Sink.contents l.writer)
       × (l.counter ≤ length input);
   failures : g.W.Sink.failures l.writer ≡ g.W.Sink.failures l.initial.writer;
+  ends : g.R.Source.empty_reads l.reader ≡ g.R.Source.empty_reads l.initial.reader;
   reads : g.R.Source.failures l.reader ≡ g.R.Source.failures l.initial.reader;
   empty : l.work.answer ≡ [];
   count : l.work.count ≤ 65536 * l.counter;
