@@ -70,6 +70,7 @@ refused_more xs ys s r at = record {
 -- some of the events, after those that were accepted and before others
 module _ (xs ys zs all : List Event) (whole : xs ++ (ys ++ zs) ≡ all) (s t u : Session) (f : AreAccepted xs s t) where
   refused_amid : (r : Refusal) → EndsRefused ys t u r → EndsRefused all s u r
+  unfolding refused_on refused_more
   refused_amid r ends =
       let at : IsRefusedAt (xs ++ (ys ++ zs)) s r = refused_on xs (ys ++ zs) s t r f (refused_more ys zs t r ends.0) in
       (record { before = at.before; event = at.event; later = at.later; are = at.are ∙ whole; at = at.at; accepted = at.accepted; refused = at.refused }, ends.1)
