@@ -1,5 +1,5 @@
 -- The plan of a replacement: a page comes into the frame of another page of its machine, which goes out.
-use Rattle.std.specs.Prelude.{ℕ, Bool, false, List, [], ◌∷◌, ◌++◌, map, Option, Some, None, if◌then◌else◌, Ok, Err}
+use Rattle.std.specs.Prelude.{ℕ, List, [], ◌∷◌, ◌++◌, map, Option, Some, None, if◌then◌else◌, Ok, Err}
 use Rattle.std.specs.List.{list_any}
 use Rattle.esx_types.specs.declared.config.Config.{Config}
 use Rattle.esx_types.specs.declared.table.FrameRow.{FrameRow}
@@ -19,7 +19,7 @@ use Rattle.esx_model.specs.declared.tables.Tables.{Tables}
 use Rattle.esx_model.specs.Places.{zeros}
 use Rattle.esx_model.specs.Tables.{standing_of}
 use Rattle.esx_model.specs.event.Outcome.{unless}
-use Rattle.esx_model.specs.event.Paging.{has_more, replace_gate}
+use Rattle.esx_model.specs.event.Paging.{replace_gate}
 use Rattle.esx_tables.specs.declared.change.Change.{Change}
 use Rattle.esx_tables.specs.declared.change.Change.TheVariants.{FrameAt, MarkAt, ListingAt, FrameWithSlot, OfVm}
 use Rattle.esx_tables.specs.declared.change.VmPart.{VmPart}
@@ -27,12 +27,8 @@ use Rattle.esx_tables.specs.declared.change.VmPart.TheVariants.{PageAt}
 use Rattle.esx_tables.specs.Readings.{row_at}
 use Rattle.esx_changes.specs.Planned.{Planned, at_row}
 use Rattle.esx_changes.specs.Drawn.{drawn_page}
+use Rattle.esx_changes.specs.Spare.{has_spare}
 use Rattle.esx_access.specs.Access.{popped_parts}
-
--- the machine has more than its least
-abbrev pub has_spare : Option VmRow → Bool
-has_spare None = false
-has_spare (Some v) = has_more (standing_of v)
 
 -- the slot that the wanted page leaves, or else the least that is free
 abbrev pub slot_for : Tables → MapRow → Option ℕ

@@ -9,36 +9,19 @@ ghost use Rattle.esx_model.specs.Tables.{standing_of};
 ghost use Rattle.esx_model.specs.event.Outcome.{first};
 ghost use Rattle.esx_model.specs.event.Paging.{replace_gate};
 ghost use Rattle.esx_changes.specs.Planned.{Plans};
-ghost use Rattle.esx_access.specs.Replacing.{has_spare, slot_for, own_changes, new_changes, replace_changes, replace_plan};
+ghost use Rattle.esx_changes.specs.Spare.{has_spare};
+ghost use Rattle.esx_access.specs.Replacing.{slot_for, own_changes, new_changes, replace_changes, replace_plan};
 
 use crate::access::push_popped;
 use esx_changes::Plan;
 use esx_changes::counted::push_part;
 use esx_changes::drawn::drawn_page;
+use esx_changes::spare::any_spare;
 use esx_events::{Answer, Refusal};
 use esx_frames::Mark;
 use esx_tables::{Change, Record, SiteTables, VmPart, VmTable};
 use esx_types::{Bytes, Config, FrameRow, Listing, MapRow, VmId, VmState};
 use std::alloc::{AllocError, Global};
-
-/// Has a machine more pages in frames than its least?
-fn has_spare(row: &Option<VmTable>) -> bool
-    ensures { result ≡ has_spare row.now }
-{
-    match row {
-        None => false,
-        Some(row) => {
-            let standing = row.standing();
-            standing.spec.min < standing.resident
-        }
-    }
-}
-
-fn any_spare(rows: &[Option<VmTable>]) -> bool
-    ensures { result ≡ list_any has_spare rows.now }
-{
-    rows.iter().any(has_spare)
-}
 
 /// Why a replacement is refused, before a page is drawn.
 fn replace_gate(tables: &SiteTables, row: &VmTable, page: u32) -> Option<Refusal>

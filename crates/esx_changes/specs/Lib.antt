@@ -5,3 +5,4 @@ pub mod Activity
 pub mod Counted
 pub mod Drawn
 pub mod Leaves
+pub mod Spare

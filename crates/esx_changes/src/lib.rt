@@ -7,5 +7,7 @@ pub mod counted;
 pub mod drawn;
 pub mod leaves;
 pub mod plan;
+pub mod shared;
+pub mod spare;
 
 pub use plan::Plan;

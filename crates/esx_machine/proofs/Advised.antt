@@ -1,5 +1,5 @@
 -- Advice by the raw tables is the advice of the scene that they show.
-use Rattle.std.proofs.Common.{◌≡◌, ℕ, Bool, true, false, ◌&&◌, ◌||◌, not, nat_lt, List, [], ◌∷◌, map, refl, ap, ◌∙◌, cond, Option, Some, None, Ok, Result}
+use Rattle.std.proofs.Common.{◌≡◌, ℕ, Bool, true, false, ◌&&◌, not, nat_lt, List, refl, ap, ◌∙◌, cond, Option, Some, None, Ok, Result}
 use Rattle.std.specs.Option.{option_map, is_some}
 use Rattle.std.specs.List.{list_any}
 use Rattle.esx_types.specs.declared.config.Config.{Config}
@@ -25,14 +25,16 @@ use Rattle.esx_model.specs.Tables.{raw_place, vm_table, tables_of}
 use Rattle.esx_model.specs.Advice.{can_write, help_by, target_of, help_for, help_at, advice}
 use Rattle.esx_model.specs.event.Outcome.{unless, standing, page_gate}
 use Rattle.esx_model.specs.event.Access.{is_blocked, write_frame}
-use Rattle.esx_model.specs.event.Paging.{has_more, is_above_min}
+use Rattle.esx_model.specs.event.Paging.{is_above_min}
 use Rattle.esx_model.specs.sound.Sound.{IsSound}
 use Rattle.esx_tables.specs.Readings.{row_at}
+use Rattle.esx_changes.specs.Spare.{has_spare}
 use Rattle.esx_refinement.proofs.Refining.{row_there, page_row, standing_shown}
 use Rattle.esx_refinement.proofs.Found.{frame_found}
+use Rattle.esx_refinement.proofs.Drawn.{spare_shown}
 use Rattle.esx_refinement.proofs.Ratios.{rows_shown}
 use Rattle.esx_machine.specs.Machine.{Kept, Shows}
-use Rattle.esx_machine.specs.Questions.{written_frame, can_go, is_above, target_rows, help_from, advice_from}
+use Rattle.esx_machine.specs.Questions.{written_frame, can_go, target_rows, help_from, advice_from}
 use Rattle.esx_machine.proofs.Framed.{IsAt, private_at, shared_at}
 
 -- The frame of a write.
@@ -56,23 +58,13 @@ go_same c t n page v sound there =
     ap (λ (m : Standing). not (is_blocked t.level m) && is_some (written_frame (tables_of c s) (page_at (vm_table v).pages page))) (standing_shown v)
     ∙ ap (λ (o : Option ℕ). not (is_blocked t.level (standing v)) && is_some o) (ap (written_frame (tables_of c s)) (page_row v page) ∙ frame_same c s n page v (place_at v page) sound there refl)
 
--- Machines that have more than their least.
-
-above_same : (o : Option Vm) → is_above (option_map vm_table o) ≡ is_above_min o
-above_same None = refl
-above_same (Some v) = ap has_more (standing_shown v)
-
-any_above_same : (vms : List (Option Vm)) → list_any is_above (map (option_map vm_table) vms) ≡ list_any is_above_min vms
-any_above_same [] = refl
-any_above_same (o ∷ os) = ap (λ (b : Bool). b || list_any is_above (map (option_map vm_table) os)) (above_same o) ∙ ap (λ (b : Bool). is_above_min o || b) (any_above_same os)
-
 -- Advice.
 
 help_same : (c : Config) (t : Scene) (n page : ℕ) (v : Vm) → IsSound c t.site → vm_at t.site n ≡ Some v → help_from (tables_of c t.site) t.level (vm_table v) page ≡ help_for c t v page
 help_same c t n page v sound there =
     let tables : Tables = tables_of c t.site in
-    ap (λ (b : Bool). cond b helps.Go (help_by (list_any is_above tables.vms) (first_claim tables.tau (target_rows 0 tables.vms)))) (go_same c t n page v sound there)
-    ∙ ap (λ (b : Bool). cond (can_write c t v page) helps.Go (help_by b (first_claim tables.tau (target_rows 0 tables.vms)))) (any_above_same t.site.vms)
+    ap (λ (b : Bool). cond b helps.Go (help_by (list_any has_spare tables.vms) (first_claim tables.tau (target_rows 0 tables.vms)))) (go_same c t n page v sound there)
+    ∙ ap (λ (b : Bool). cond (can_write c t v page) helps.Go (help_by b (first_claim tables.tau (target_rows 0 tables.vms)))) (spare_shown t.site.vms)
     ∙ ap (λ (rows : List Row). cond (can_write c t v page) helps.Go (help_by (list_any is_above_min t.site.vms) (first_claim t.site.tau rows))) (rows_shown (λ (w : VmRow). w.target) target_of (λ v. refl) c t.site)
 
 advice_same : (c : Config) (t : Scene) (n page : ℕ) (o : Option Vm) → IsSound c t.site → vm_at t.site n ≡ o → advice_from (tables_of c t.site) t.level page (option_map vm_table o) ≡ help_at c t o page

@@ -1,23 +1,14 @@
 -- Rows read in turn.
-use Rattle.std.proofs.Common.{zero, suc, ◌≡◌, ℕ, ◌+◌, ◌<◌, List, [], ◌∷◌, ◌++◌, length, get_or, drop, refl, sym, ap, ◌∙◌, append_assoc, arith, Option, Some, None}
-use Rattle.std.specs.List.{fold, slice_get}
+use Rattle.std.proofs.Common.{◌≡◌, ℕ, ◌+◌, ◌<◌, List, ◌∷◌, ◌++◌, length, get_or, drop, refl, sym, ap, ◌∙◌, append_assoc, arith, Option, Some, None}
+use Rattle.std.specs.List.{fold}
 use Rattle.std.proofs.lemmas.Grind.{common_steps}
 use Rattle.std.proofs.lemmas.List.{get_or_read}
-use Rattle.esx_types.specs.declared.table.FrameRow.{FrameRow}
-use Rattle.esx_types.specs.declared.table.FrameRow.TheVariants.{Free}
-use Rattle.esx_types.specs.Frames.{frame_at}
 use Rattle.esx_events.specs.declared.call.TableRow.{TableRow}
 use Rattle.esx_formulas.specs.Ratio.{Claim}
 use Rattle.esx_formulas.specs.Targets.{first_claim}
 use Rattle.esx_model.specs.declared.book.VmRow.{VmRow}
 use Rattle.esx_model.specs.Readings.{table_from}
 use Rattle.esx_machine.specs.Questions.{target_rows, claim_step, vm_step, line_of}
-
--- past the last frame none is taken
-pub no_frame : (rows : List FrameRow) (f : ℕ) → slice_get rows f ≡ None → frame_at rows f ≡ Free
-no_frame [] f h = refl
-no_frame (r ∷ rs) zero h = cc
-no_frame (r ∷ rs) (suc f) h = no_frame rs f h
 
 -- an item that was read is there
 pub item_there : (xs : List (Option VmRow)) (i : ℕ) (x : Option VmRow) → i < length xs → x ≡ get_or xs i x → get_or xs i None ≡ x

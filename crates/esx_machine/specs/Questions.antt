@@ -27,9 +27,9 @@ use Rattle.esx_model.specs.Readings.{state_in, table_row}
 use Rattle.esx_model.specs.Advice.{help_by}
 use Rattle.esx_model.specs.event.Access.{is_blocked}
 use Rattle.esx_model.specs.event.Outcome.{unless, page_gate}
-use Rattle.esx_model.specs.event.Paging.{has_more}
 use Rattle.esx_tables.specs.Readings.{row_at}
 use Rattle.esx_changes.specs.Activity.{IsTold}
+use Rattle.esx_changes.specs.Spare.{has_spare}
 use Rattle.esx_plans.specs.plan.Ratios.{numbered, ratio_row}
 
 -- a machine's numbers are in their ranges
@@ -73,10 +73,6 @@ written_frame t (maps.Lent e) = least_frame t.frames
 abbrev pub can_go : Tables → Level → VmRow → ℕ → Bool
 can_go t level v page = not (is_blocked level (standing_of v)) && is_some (written_frame t (page_at v.pages page))
 
-abbrev pub is_above : Option VmRow → Bool
-is_above None = false
-is_above (Some v) = has_more (standing_of v)
-
 -- what a machine has, of which it keeps its target
 abbrev pub target_row : ℕ → VmRow → Row
 target_row n v = ratio_row (λ (w : VmRow). w.target) n v
@@ -97,7 +93,7 @@ vm_step tau n best None = best
 vm_step tau n best (Some v) = claim_step tau best (target_row n v)
 
 abbrev pub help_from : Tables → Level → VmRow → ℕ → Help
-help_from t level v page = if can_go t level v page then helps.Go else help_by (list_any is_above t.vms) (first_claim t.tau (target_rows 0 t.vms))
+help_from t level v page = if can_go t level v page then helps.Go else help_by (list_any has_spare t.vms) (first_claim t.tau (target_rows 0 t.vms))
 
 abbrev pub advice_from : Tables → Level → ℕ → Option VmRow → Result Help Refusal
 advice_from t level page None = Err NoVm

@@ -1,24 +1,24 @@
 //! What lets a write to a page go on. It takes no memory, and looks at each machine once.
 
 ghost use Rattle.std.specs.Prelude.{◌≡◌, ◌≤◌, ◌<◌, Some, is_some};
-ghost use Rattle.std.specs.List.{list_any};
 ghost use Rattle.std.specs.Option.{ForSome};
 ghost use Rattle.esx_types.specs.declared.config.TheConstants.{VM_NUMBERS};
-ghost use Rattle.esx_types.specs.Frames.{frame_at, ref_count};
 ghost use Rattle.esx_formulas.specs.Ratio.{IsRow};
 ghost use Rattle.esx_formulas.specs.Targets.{first_claim};
 ghost use Rattle.esx_model.specs.declared.book.VmRow.{VmRow};
 ghost use Rattle.esx_model.specs.event.Access.{is_blocked};
 ghost use Rattle.esx_tables.specs.Readings.{row_at};
-ghost use Rattle.esx_machine.specs.Questions.{IsReadable, AreReadable, written_frame, can_go, is_above, target_row, target_rows, claim_of, claim_step, vm_step, help_from, advice_from};
+ghost use Rattle.esx_machine.specs.Questions.{IsReadable, AreReadable, written_frame, can_go, target_row, target_rows, claim_of, claim_step, vm_step, help_from, advice_from};
 
 use esx_changes::activity::active;
+use esx_changes::shared::ref_count;
+use esx_changes::spare::any_spare;
 use esx_events::{Help, Refusal};
 use esx_formulas::Row;
 use esx_formulas::ratio::comes_no_later_at;
 use esx_model::Standing;
 use esx_tables::{SiteTables, VmTable};
-use esx_types::{FrameRow, Level, MapRow, VmId, VmState};
+use esx_types::{Level, MapRow, VmId, VmState};
 
 fn is_blocked(level: Level, standing: &Standing) -> bool
     ensures { result ≡ is_blocked level standing.now }
@@ -26,32 +26,14 @@ fn is_blocked(level: Level, standing: &Standing) -> bool
     matches!(level, Level::Low) && standing.target < standing.resident
 }
 
-fn ref_count(row: &FrameRow) -> u32
-    ensures { result ≡ ref_count row.now }
-{
-    match row {
-        FrameRow::Free | FrameRow::Overhead | FrameRow::Private { .. } => 0,
-        FrameRow::Shared { count, .. } => *count,
-    }
-}
-
-/// How many pages are in a shared frame; 0 for any other.
-#[tactic(auto, using(crate::proofs::Loops::no_frame))]
-fn users(tables: &SiteTables, frame: u32) -> u32
-    ensures { result ≡ ref_count (frame_at tables.now.frames frame) }
-{
-    match tables.frame(frame) {
-        Some(row) => ref_count(row),
-        None => 0,
-    }
-}
-
 /// Is there a frame that a page may be written in?
 fn has_frame(tables: &SiteTables, row: MapRow) -> bool
     ensures { result ≡ is_some (written_frame tables.now row) }
 {
     match row {
-        MapRow::Here { frame } => { users(tables, frame) <= 1 || tables.least_frame().is_some() }
+        MapRow::Here { frame } => {
+            ref_count(tables, frame) <= 1 || tables.least_frame().is_some()
+        }
         _ => tables.least_frame().is_some(),
     }
 }
@@ -60,25 +42,6 @@ fn can_go(tables: &SiteTables, level: Level, vm: &VmTable, page: u32) -> bool
     ensures { result ≡ can_go tables.now level vm.now page }
 {
     !is_blocked(level, &vm.standing()) && has_frame(tables, vm.page(page))
-}
-
-/// Does a machine have more than its least?
-fn is_above(vm: &Option<VmTable>) -> bool
-    ensures { result ≡ is_above vm.now }
-{
-    match vm {
-        None => false,
-        Some(vm) => {
-            let standing = vm.standing();
-            standing.spec.min < standing.resident
-        }
-    }
-}
-
-fn is_any_above(vms: &[Option<VmTable>]) -> bool
-    ensures { result ≡ list_any is_above vms.now }
-{
-    vms.iter().any(|vm| is_above(vm))
 }
 
 /// What a machine has, of which it keeps its target.
@@ -165,7 +128,7 @@ fn help_from(tables: &SiteTables, level: Level, vm: &VmTable, page: u32) -> Help
     match first_row(tables) {
         Some(row) => Help::SwapOut { vm: row.vm },
         None => {
-            if is_any_above(tables.vms()) {
+            if any_spare(tables.vms()) {
                 Help::Rebalance
             } else {
                 Help::Replace

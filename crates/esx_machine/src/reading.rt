@@ -75,7 +75,7 @@ fn state_in(hinted: bool, frame: u32, row: &FrameRow) -> PageState
     }
 }
 
-#[tactic(auto, using(crate::proofs::Loops::no_frame))]
+#[tactic(auto, using(esx_changes::proofs::Rows::past_frames))]
 fn state_here(tables: &SiteTables, frame: u32) -> PageState
     ensures { result ≡ state_in (is_hinted (listing_at tables.now.listings frame)) frame (frame_at tables.now.frames frame) }
 {

@@ -14,7 +14,7 @@ use Rattle.esx_events.specs.declared.event.Refusal.{Refusal}
 use Rattle.esx_model.specs.History.{History, do_event}
 use Rattle.esx_model.specs.Console.{Session, history, outcome, event_outcome, next_reply, lined}
 use Rattle.esx_scenario.specs.declared.plan.Guest.{Guest}
-use Rattle.esx_opening.specs.Openings.{IsAccepted, AreAccepted, IsRefusedAt}
+use Rattle.esx_opening.specs.Openings.{IsAccepted, AreAccepted, IsRefusedAt, EndsRefused, AreBegun}
 
 -- what is said to an event is an answer or a refusal
 said_to : (h : History) (r : Result (Answer × History) Refusal) → ((a : Answer) × ((event_outcome h r).0 ≡ said.Done a)) ⊎ ((e : Refusal) × ((event_outcome h r).0 ≡ said.Refused e))
@@ -38,8 +38,12 @@ pub accepted_one : (e : Event) (s t : Session) → IsAccepted (next_reply s (Do 
 unfolding AreAccepted
 accepted_one e s t is now = (is, now)
 
-pub refused_one : (e : Event) (s : Session) (r : Refusal) → (next_reply s (Do e)).said ≡ said.Refused r → IsRefusedAt (e ∷ []) s r
-refused_one e s r is = record { before = []; event = e; later = []; are = refl; at = s; accepted = accepted_none s; refused = is }
+pub refused_one : (e : Event) (s t : Session) (r : Refusal) → ((next_reply s (Do e)).said ≡ said.Refused r) × (t ≡ lined s 0 (Do e)) → EndsRefused (e ∷ []) s t r
+refused_one e s t r is = (record { before = []; event = e; later = []; are = refl; at = s; accepted = accepted_none s; refused = is.0 }, is.1)
+
+pub begun_none : (xs : List Event) (s t : Session) → t ≡ s → AreBegun xs s t
+unfolding AreAccepted
+begun_none xs s t same = record { before = []; later = xs; are = refl; accepted = same }
 
 pub refused_on : (xs ys : List Event) (s t : Session) (r : Refusal) → AreAccepted xs s t → IsRefusedAt ys t r → IsRefusedAt (xs ++ ys) s r
 refused_on xs ys s t r f at = record {
@@ -63,6 +67,22 @@ refused_more xs ys s r at = record {
   refused = at.refused;
 }
 
+-- some of the events, after those that were accepted and before others
+module _ (xs ys zs all : List Event) (whole : xs ++ (ys ++ zs) ≡ all) (s t u : Session) (f : AreAccepted xs s t) where
+  refused_amid : (r : Refusal) → EndsRefused ys t u r → EndsRefused all s u r
+  unfolding refused_on refused_more
+  refused_amid r ends =
+      let at : IsRefusedAt (xs ++ (ys ++ zs)) s r = refused_on xs (ys ++ zs) s t r f (refused_more ys zs t r ends.0) in
+      (record { before = at.before; event = at.event; later = at.later; are = at.are ∙ whole; at = at.at; accepted = at.accepted; refused = at.refused }, ends.1)
+
+  begun_amid : AreBegun ys t u → AreBegun all s u
+  begun_amid b = record {
+    before = xs ++ b.before;
+    later = b.later ++ zs;
+    are = append_assoc xs b.before (b.later ++ zs) ∙ (ap (λ (l : List Event). xs ++ l) (sym (append_assoc b.before b.later zs) ∙ ap (λ (l : List Event). l ++ zs) b.are) ∙ whole);
+    accepted = accepted_on xs b.before s t u f b.accepted;
+  }
+
 replicate_more : {A : Type 0} (n : ℕ) (x : A) → replicate n x ++ x ∷ [] ≡ replicate (suc n) x
 replicate_more zero x = refl
 replicate_more {A = A} (suc n) x = ap (λ (l : List A). x ∷ l) (replicate_more n x)
@@ -77,11 +97,16 @@ again_accepted e i s t u f g =
     let next : suc i ≡ i + 1 = omega arith in
     subst (λ (k : ℕ). AreAccepted (replicate k e) s u) next (subst (λ (l : List Event). AreAccepted l s u) (replicate_more i e) (accepted_on (replicate i e) (e ∷ []) s t u f g))
 
-pub again_refused : (e : Event) (i n : ℕ) (s t : Session) (r : Refusal) → i < n → AreAccepted (replicate i e) s t → IsRefusedAt (e ∷ []) t r → IsRefusedAt (replicate n e) s r
-again_refused e i n s t r lt f at =
+again_parts : (e : Event) (i n : ℕ) → i < n → replicate i e ++ ((e ∷ []) ++ replicate (n - (i + 1)) e) ≡ replicate n e
+again_parts e i n lt =
     let left : i + suc (n - (i + 1)) ≡ n = omega arith in
-    subst (λ (k : ℕ). IsRefusedAt (replicate k e) s r) left (subst (λ (l : List Event). IsRefusedAt l s r) (replicate_parts i (suc (n - (i + 1))) e)
-    (refused_on (replicate i e) (e ∷ replicate (n - (i + 1)) e) s t r f (refused_more (e ∷ []) (replicate (n - (i + 1)) e) t r at)))
+    replicate_parts i (suc (n - (i + 1))) e ∙ ap (λ (k : ℕ). replicate k e) left
+
+pub again_refused : (e : Event) (i n : ℕ) (s t u : Session) (r : Refusal) → i < n → AreAccepted (replicate i e) s t → EndsRefused (e ∷ []) t u r → EndsRefused (replicate n e) s u r
+again_refused e i n s t u r lt f ends = refused_amid (replicate i e) (e ∷ []) (replicate (n - (i + 1)) e) (replicate n e) (again_parts e i n lt) s t u f r ends
+
+pub again_begun : (e : Event) (i n : ℕ) (s t u : Session) → i < n → AreAccepted (replicate i e) s t → AreBegun (e ∷ []) t u → AreBegun (replicate n e) s u
+again_begun e i n s t u lt f b = begun_amid (replicate i e) (e ∷ []) (replicate (n - (i + 1)) e) (replicate n e) (again_parts e i n lt) s t u f b
 
 -- the events of each of some, one after another
 module _ {A : Type 0} (f : A → List Event) where
@@ -91,12 +116,17 @@ module _ {A : Type 0} (f : A → List Event) where
   pub each_accepted : (xs : List A) (i : ℕ) (x : A) (s t u : Session) → i < length xs → x ≡ get_or xs i x → AreAccepted (flat_map f (take i xs)) s t → AreAccepted (f x) t u → AreAccepted (flat_map f (take (i + 1) xs)) s u
   each_accepted xs i x s t u lt is g h = subst (λ (l : List Event). AreAccepted l s u) (one_after xs i x lt) (accepted_on (flat_map f (take i xs)) (f (get_or xs i x)) s t u g (subst (λ (y : A). AreAccepted (f y) t u) is h))
 
-  pub each_refused : (xs : List A) (i : ℕ) (x : A) (s t : Session) (r : Refusal) → i < length xs → x ≡ get_or xs i x → AreAccepted (flat_map f (take i xs)) s t → IsRefusedAt (f x) t r → IsRefusedAt (flat_map f xs) s r
-  each_refused xs i x s t r lt is g at =
+  each_parts : (xs : List A) (i : ℕ) (x : A) → i < length xs → x ≡ get_or xs i x → flat_map f (take i xs) ++ (f x ++ flat_map f (drop (i + 1) xs)) ≡ flat_map f xs
+  each_parts xs i x lt is =
       let rest : List Event = flat_map f (drop (i + 1) xs) in
-      let whole : flat_map f (take (i + 1) xs) ++ rest ≡ flat_map f xs = sym (flat_map-append f (take (i + 1) xs) (drop (i + 1) xs)) ∙ ap (flat_map f) (take-append-drop (i + 1) xs) in
-      subst (λ (l : List Event). IsRefusedAt l s r) (ap (λ (l : List Event). l ++ rest) (one_after xs i x lt) ∙ whole)
-      (refused_more (flat_map f (take i xs) ++ f (get_or xs i x)) rest s r (refused_on (flat_map f (take i xs)) (f (get_or xs i x)) s t r g (subst (λ (y : A). IsRefusedAt (f y) t r) is at)))
+      let next : flat_map f (take i xs) ++ f x ≡ flat_map f (take (i + 1) xs) = ap (λ (y : A). flat_map f (take i xs) ++ f y) is ∙ one_after xs i x lt in
+      sym (append_assoc (flat_map f (take i xs)) (f x) rest) ∙ (ap (λ (l : List Event). l ++ rest) next ∙ (sym (flat_map-append f (take (i + 1) xs) (drop (i + 1) xs)) ∙ ap (flat_map f) (take-append-drop (i + 1) xs)))
+
+  pub each_refused : (xs : List A) (i : ℕ) (x : A) (s t u : Session) (r : Refusal) → i < length xs → x ≡ get_or xs i x → AreAccepted (flat_map f (take i xs)) s t → EndsRefused (f x) t u r → EndsRefused (flat_map f xs) s u r
+  each_refused xs i x s t u r lt is g ends = refused_amid (flat_map f (take i xs)) (f x) (flat_map f (drop (i + 1) xs)) (flat_map f xs) (each_parts xs i x lt is) s t u g r ends
+
+  pub each_begun : (xs : List A) (i : ℕ) (x : A) (s t u : Session) → i < length xs → x ≡ get_or xs i x → AreAccepted (flat_map f (take i xs)) s t → AreBegun (f x) t u → AreBegun (flat_map f xs) s u
+  each_begun xs i x s t u lt is g b = begun_amid (flat_map f (take i xs)) (f x) (flat_map f (drop (i + 1) xs)) (flat_map f xs) (each_parts xs i x lt is) s t u g b
 
 -- an error that is handed on
 pub handed_on : {T E : Type 0} (r : Result T E) (x : E) (P : E → Type 0) → IsErrAnd r (λ y. y ≡ x) → P x → IfErr r P

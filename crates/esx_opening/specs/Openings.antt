@@ -40,3 +40,14 @@ pub record IsRefusedAt (events : List Event) (s : Session) (e : Refusal) : Type 
   pub at : Session
   pub accepted : AreAccepted before s at
   pub refused : (next_reply at (Do event)).said ≡ said.Refused e
+
+-- one of the events was refused so, and that call is the last
+abbrev pub EndsRefused : List Event → Session → Session → Refusal → Type 0
+EndsRefused events s t e = (r : IsRefusedAt events s e) × (t ≡ lined r.at 0 (Do r.event))
+
+-- the first of the events were accepted, and nothing else was done
+pub record AreBegun (events : List Event) (s t : Session) : Type 0 where
+  pub before : List Event
+  pub later : List Event
+  pub are : before ++ later ≡ events
+  pub accepted : AreAccepted before s t

@@ -5,7 +5,7 @@ ghost use Rattle.std.specs.List.{flat_map};
 ghost use Rattle.esx_events.specs.declared.call.Said.TheVariants as said;
 ghost use Rattle.esx_model.specs.Console.{next_reply, lined};
 ghost use Rattle.esx_console.specs.Calls.{opened_session};
-ghost use Rattle.esx_opening.specs.Openings.{admit_of, starts_of, opening_events, IsAccepted, AreAccepted, IsRefusedAt};
+ghost use Rattle.esx_opening.specs.Openings.{admit_of, starts_of, opening_events, IsAccepted, AreAccepted, IsRefusedAt, EndsRefused, AreBegun};
 
 use crate::order::in_order;
 use esx_console::Console;
@@ -35,7 +35,9 @@ impl From<AllocError> for SiteFault {
 /// Makes an event happen as caller 0.
 fn accept(console: &mut Console, event: Event) -> Result<(), SiteFault>
     ensures ok { OnOk result (IsAccepted (next_reply console.old (Call.Do event)) × (console.new ≡ lined console.old 0 (Call.Do event))) }
-    ensures refused { IfErr result (λ fault. (e : Refusal) → fault ≡ SiteFault.Refused e → (next_reply console.old (Call.Do event)).said ≡ said.Refused e) }
+    ensures refused { IfErr result (λ fault. (e : Refusal) → fault ≡ SiteFault.Refused e
+        → ((next_reply console.old (Call.Do event)).said ≡ said.Refused e) × (console.new ≡ lined console.old 0 (Call.Do event))) }
+    ensures late { IfErr result (λ fault. fault ≡ SiteFault.OutOfMemory → console.new ≡ console.old) }
 {
     match console.call(0, Call::Do { event })?.said {
         Said::Done { .. } => Ok(()),
@@ -47,7 +49,8 @@ fn accept(console: &mut Console, event: Event) -> Result<(), SiteFault>
 /// Starts a machine, frame by frame.
 fn start_one(console: &mut Console, vm: VmId, frames: u32) -> Result<(), SiteFault>
     ensures ok { OnOk result (AreAccepted (replicate frames (Event.Start vm)) console.old console.new) }
-    ensures refused { IfErr result (λ fault. (e : Refusal) → fault ≡ SiteFault.Refused e → IsRefusedAt (replicate frames (Event.Start vm)) console.old e) }
+    ensures refused { IfErr result (λ fault. (e : Refusal) → fault ≡ SiteFault.Refused e → EndsRefused (replicate frames (Event.Start vm)) console.old console.new e) }
+    ensures late { IfErr result (λ fault. fault ≡ SiteFault.OutOfMemory → AreBegun (replicate frames (Event.Start vm)) console.old console.new) }
 {
     for _ in 0..frames {
         accept(console, Event::Start { vm })?;
@@ -57,7 +60,8 @@ fn start_one(console: &mut Console, vm: VmId, frames: u32) -> Result<(), SiteFau
 
 fn admit_all(console: &mut Console, guests: &[&Guest]) -> Result<(), SiteFault>
     ensures ok { OnOk result (AreAccepted (flat_map (λ g. admit_of g.now) guests.now) console.old console.new) }
-    ensures refused { IfErr result (λ fault. (e : Refusal) → fault ≡ SiteFault.Refused e → IsRefusedAt (flat_map (λ g. admit_of g.now) guests.now) console.old e) }
+    ensures refused { IfErr result (λ fault. (e : Refusal) → fault ≡ SiteFault.Refused e → EndsRefused (flat_map (λ g. admit_of g.now) guests.now) console.old console.new e) }
+    ensures late { IfErr result (λ fault. fault ≡ SiteFault.OutOfMemory → AreBegun (flat_map (λ g. admit_of g.now) guests.now) console.old console.new) }
 {
     for guest in guests {
         accept(
@@ -73,7 +77,8 @@ fn admit_all(console: &mut Console, guests: &[&Guest]) -> Result<(), SiteFault>
 
 fn start_all(console: &mut Console, guests: &[&Guest]) -> Result<(), SiteFault>
     ensures ok { OnOk result (AreAccepted (flat_map (λ g. starts_of g.now) guests.now) console.old console.new) }
-    ensures refused { IfErr result (λ fault. (e : Refusal) → fault ≡ SiteFault.Refused e → IsRefusedAt (flat_map (λ g. starts_of g.now) guests.now) console.old e) }
+    ensures refused { IfErr result (λ fault. (e : Refusal) → fault ≡ SiteFault.Refused e → EndsRefused (flat_map (λ g. starts_of g.now) guests.now) console.old console.new e) }
+    ensures late { IfErr result (λ fault. fault ≡ SiteFault.OutOfMemory → AreBegun (flat_map (λ g. starts_of g.now) guests.now) console.old console.new) }
 {
     for guest in guests {
         start_one(console, guest.vm, guest.spec.overhead)?;

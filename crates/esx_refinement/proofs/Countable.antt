@@ -5,6 +5,7 @@ use Rattle.std.proofs.lemmas.List.{get_or_past}
 use Rattle.std.proofs.lemmas.List.FromFn.{length-map-range_with_len}
 use Rattle.std.proofs.lemmas.List.Sums.{sum_by-cons, count_by-le-length}
 use Rattle.esx_types.specs.declared.config.Config.{Config}
+use Rattle.esx_types.specs.declared.config.TheConstants.{VM_NUMBERS}
 use Rattle.esx_types.specs.declared.table.FrameRow.{FrameRow}
 use Rattle.esx_types.specs.declared.table.FrameRow.TheVariants as frames
 use Rattle.esx_types.specs.Frames.{ref_count}
@@ -35,14 +36,14 @@ pages_most c f (Some v ∷ os) each =
     let rest = pages_most c f os (λ n v h. each (suc n) v h) in
     omega (arith, split, here, rest)
 
-pages_few : (c : Config) (s : Site) (f : ℕ) → IsSound c s → pages_at f s ≤ 2097152
+pages_few : (c : Config) (s : Site) (f : ℕ) → IsSound c s → pages_at f s ≤ VM_NUMBERS * 65536
 unfolding pages_at
 pages_few c s f sound =
     let most = pages_most c f s.vms sound.each in
     let count = sound.vms in
     omega (arith, most, count)
 
-row_counts : (c : Config) (s : Site) (f : ℕ) (r : FrameRow) → IsSound c s → frame_row s f ≡ r → ref_count r ≤ 2097152
+row_counts : (c : Config) (s : Site) (f : ℕ) (r : FrameRow) → IsSound c s → frame_row s f ≡ r → ref_count r ≤ VM_NUMBERS * 65536
 row_counts c s f frames.Free sound e = omega arith
 row_counts c s f frames.Overhead sound e = omega arith
 row_counts c s f (frames.Private bytes) sound e = omega arith

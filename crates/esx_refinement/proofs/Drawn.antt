@@ -19,7 +19,7 @@ use Rattle.esx_model.specs.Tables.{raw_place, vm_table, tables_of}
 use Rattle.esx_model.specs.event.Paging.{has_more, is_above_min, victim}
 use Rattle.esx_model.proofs.Callers.{counts_same, free_rows}
 use Rattle.esx_changes.specs.Drawn.{drawn_page}
-use Rattle.esx_access.specs.Replacing.{has_spare}
+use Rattle.esx_changes.specs.Spare.{has_spare}
 use Rattle.esx_refinement.proofs.Found.{found_from}
 use Rattle.esx_refinement.proofs.Refining.{standing_shown}
 

@@ -16,7 +16,8 @@ use Rattle.esx_model.specs.event.Paging.{replace_gate}
 use Rattle.esx_tables.specs.declared.change.Change.TheVariants.{MarkAt, ListingAt, FrameWithSlot, OfVm}
 use Rattle.esx_tables.specs.Readings.{row_at}
 use Rattle.esx_changes.specs.Drawn.{drawn_page}
-use Rattle.esx_access.specs.Replacing.{has_spare, slot_for, new_changes, replace_parts, replace_changes, trade_with, replace_from, replace_plan}
+use Rattle.esx_changes.specs.Spare.{has_spare}
+use Rattle.esx_access.specs.Replacing.{slot_for, new_changes, replace_parts, replace_changes, trade_with, replace_from, replace_plan}
 use Rattle.esx_records.proofs.Pages.{zeros_small}
 use Rattle.esx_records.proofs.Modest.{IsModest, PlansModest, at_row_modest, any_gate}
 

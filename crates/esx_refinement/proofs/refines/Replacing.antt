@@ -51,7 +51,8 @@ use Rattle.esx_tables.specs.Changes.{slots_traded, traded, exchanged}
 use Rattle.esx_tables.specs.Machines.{part_traded}
 use Rattle.esx_refinement.specs.Refinement.{Refines}
 use Rattle.esx_changes.specs.Drawn.{drawn_page}
-use Rattle.esx_access.specs.Replacing.{has_spare, slot_for, own_changes, new_changes, replace_parts, replace_changes, trade_with, replace_from, replace_plan}
+use Rattle.esx_changes.specs.Spare.{has_spare}
+use Rattle.esx_access.specs.Replacing.{slot_for, own_changes, new_changes, replace_parts, replace_changes, trade_with, replace_from, replace_plan}
 use Rattle.esx_refinement.proofs.Refining.{row_is, page_row, needs_vm, passes_same, found_same, standing_shown, makes_shown}
 use Rattle.esx_refinement.proofs.Made.{exchanged_then, parts_made}
 use Rattle.esx_refinement.proofs.Held.{Finds, page_place, private_there, shared_there, held_there, free_slot_there, frame_count, slot_count}

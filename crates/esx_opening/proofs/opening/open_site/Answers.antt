@@ -19,7 +19,7 @@ returns-in_err-admit_all-clause-refused c =
     let order : map (λ (g : Bor Guest). g.now) refs ≡ gs = ap (λ (l : List (Bor Guest)). map (λ (g : Bor Guest). g.now) l) c.deref.ensures.value ∙ (c.in_ok-guests.ensures.items ∙ ap in_order c.guests.ensures.same) in
     handed_on c.from_residual-in_err-admit_all.result c.in_err-admit_all.field-0.0 _ c.from_residual-in_err-admit_all.ensures.1
     (λ e is. refused_more (flat_map admit_of gs) (flat_map starts_of gs) (opened_session c.args.scenario.now.site) e
-    (subst (λ (s : Session). IsRefusedAt (flat_map admit_of gs) s e) opened (subst (λ (l : List Event). IsRefusedAt l c.in-Ok.console e) (behind admit_of refs gs order) (c.in_err-admit_all.ensures.refused e is))))
+    (subst (λ (s : Session). IsRefusedAt (flat_map admit_of gs) s e) opened (subst (λ (l : List Event). IsRefusedAt l c.in-Ok.console e) (behind admit_of refs gs order) (c.in_err-admit_all.ensures.refused e is).0)))
 
 pub returns-in_err-start_all-clause-refused : goal.returns-in_err-start_all-clause-refused
 returns-in_err-start_all-clause-refused c =
@@ -33,7 +33,7 @@ returns-in_err-start_all-clause-refused c =
     subst (λ (s : Session). AreAccepted (flat_map admit_of gs) s c.admit_all.new.console) opened (subst (λ (l : List Event). AreAccepted l c.in-Ok.console c.admit_all.new.console) (behind admit_of refs gs order) c.in_ok-admit_all.ensures.ok) in
     handed_on c.from_residual-in_err-start_all.result c.in_err-start_all.field-0.0 _ c.from_residual-in_err-start_all.ensures.1
     (λ e is. refused_on (flat_map admit_of gs) (flat_map starts_of gs) (opened_session c.args.scenario.now.site) c.admit_all.new.console e admitted
-    (subst (λ (l : List Event). IsRefusedAt l c.admit_all.new.console e) (behind starts_of later gs again) (c.in_err-start_all.ensures.refused e is)))
+    (subst (λ (l : List Event). IsRefusedAt l c.admit_all.new.console e) (behind starts_of later gs again) (c.in_err-start_all.ensures.refused e is).0))
 
 pub returns-clause-ok : goal.returns-clause-ok
 returns-clause-ok c =
