@@ -5,7 +5,7 @@ ghost use Rattle.esx_writing.specs.Writing.{Puts, sink_faults};
 ghost use Rattle.esx_replies.specs.Texts.{bytes_text};
 
 use esx_types::{Bytes, Sink, SinkFailed};
-use esx_writing::{AnswerBuffer, Piece, put_pieces};
+use esx_writing::{AnswerBuffer, Hex, line, put_line};
 
 /// The bytes that were read.
 pub fn put_bytes<W: Sink>(
@@ -18,13 +18,15 @@ pub fn put_bytes<W: Sink>(
     ensures failures { W.failures sink.new ≡ W.failures sink.old + sink_faults result }
     ensures flushes { W.flushes sink.new ≡ W.flushes sink.old }
 {
-    put_pieces(
+    put_line(
         sink,
         held,
-        &[
-            Piece::Text("ok "),
-            Piece::Hex(bytes.as_slice()),
-            Piece::Text("\n"),
+        &line![
+            "ok ",
+            Hex {
+                bytes: bytes.as_slice()
+            },
+            "\n"
         ],
     )
 }

@@ -7,7 +7,7 @@ ghost use Rattle.esx_replies.specs.Texts.{admitted_text, started_text};
 use crate::names::running_name;
 use esx_events::Reserves;
 use esx_types::{Sink, SinkFailed};
-use esx_writing::{AnswerBuffer, Piece, put_pieces};
+use esx_writing::{AnswerBuffer, line, put_line};
 
 /// Frames and slots that are reserved, of all.
 pub fn put_admitted<W: Sink>(
@@ -20,19 +20,19 @@ pub fn put_admitted<W: Sink>(
     ensures failures { W.failures sink.new ≡ W.failures sink.old + sink_faults result }
     ensures flushes { W.flushes sink.new ≡ W.flushes sink.old }
 {
-    put_pieces(
+    put_line(
         sink,
         held,
-        &[
-            Piece::Text("ok memory "),
-            Piece::Number(u64::from(reserves.memory)),
-            Piece::Text("/"),
-            Piece::Number(u64::from(reserves.frames)),
-            Piece::Text(" swap "),
-            Piece::Number(u64::from(reserves.swap)),
-            Piece::Text("/"),
-            Piece::Number(u64::from(reserves.slots)),
-            Piece::Text("\n"),
+        &line![
+            "ok memory ",
+            u64::from(reserves.memory),
+            "/",
+            u64::from(reserves.frames),
+            " swap ",
+            u64::from(reserves.swap),
+            "/",
+            u64::from(reserves.slots),
+            "\n",
         ],
     )
 }
@@ -51,19 +51,19 @@ pub fn put_started<W: Sink>(
     ensures failures { W.failures sink.new ≡ W.failures sink.old + sink_faults result }
     ensures flushes { W.flushes sink.new ≡ W.flushes sink.old }
 {
-    put_pieces(
+    put_line(
         sink,
         held,
-        &[
-            Piece::Text("ok frame "),
-            Piece::Number(u64::from(frame)),
-            Piece::Text(" overhead "),
-            Piece::Number(u64::from(taken)),
-            Piece::Text("/"),
-            Piece::Number(u64::from(overhead)),
-            Piece::Text(" "),
-            Piece::Text(running_name(running)),
-            Piece::Text("\n"),
+        &line![
+            "ok frame ",
+            u64::from(frame),
+            " overhead ",
+            u64::from(taken),
+            "/",
+            u64::from(overhead),
+            " ",
+            running_name(running),
+            "\n",
         ],
     )
 }

@@ -5,7 +5,7 @@ ghost use Rattle.esx_writing.specs.Writing.{Puts, sink_faults};
 ghost use Rattle.esx_replies.specs.Texts.{goal_text, reset_text, lent_text, taken_back_text};
 
 use esx_types::{Sink, SinkFailed};
-use esx_writing::{AnswerBuffer, Piece, put_pieces};
+use esx_writing::{AnswerBuffer, line, put_line};
 
 /// How many pages are to be lent, how many are, and in which epoch.
 pub fn put_goal<W: Sink>(
@@ -20,17 +20,17 @@ pub fn put_goal<W: Sink>(
     ensures failures { W.failures sink.new ≡ W.failures sink.old + sink_faults result }
     ensures flushes { W.flushes sink.new ≡ W.flushes sink.old }
 {
-    put_pieces(
+    put_line(
         sink,
         held,
-        &[
-            Piece::Text("ok goal "),
-            Piece::Number(u64::from(goal)),
-            Piece::Text(" lent "),
-            Piece::Number(u64::from(lent)),
-            Piece::Text(" epoch "),
-            Piece::Number(u64::from(epoch)),
-            Piece::Text("\n"),
+        &line![
+            "ok goal ",
+            u64::from(goal),
+            " lent ",
+            u64::from(lent),
+            " epoch ",
+            u64::from(epoch),
+            "\n",
         ],
     )
 }
@@ -46,15 +46,7 @@ pub fn put_reset<W: Sink>(
     ensures failures { W.failures sink.new ≡ W.failures sink.old + sink_faults result }
     ensures flushes { W.flushes sink.new ≡ W.flushes sink.old }
 {
-    put_pieces(
-        sink,
-        held,
-        &[
-            Piece::Text("reset epoch "),
-            Piece::Number(u64::from(epoch)),
-            Piece::Text("\n"),
-        ],
-    )
+    put_line(sink, held, &line!["reset epoch ", u64::from(epoch), "\n"])
 }
 
 /// How many pages are lent now, of how many.
@@ -69,15 +61,15 @@ pub fn put_lent<W: Sink>(
     ensures failures { W.failures sink.new ≡ W.failures sink.old + sink_faults result }
     ensures flushes { W.flushes sink.new ≡ W.flushes sink.old }
 {
-    put_pieces(
+    put_line(
         sink,
         held,
-        &[
-            Piece::Text("ok lent "),
-            Piece::Number(u64::from(lent)),
-            Piece::Text(" goal "),
-            Piece::Number(u64::from(goal)),
-            Piece::Text("\n"),
+        &line![
+            "ok lent ",
+            u64::from(lent),
+            " goal ",
+            u64::from(goal),
+            "\n",
         ],
     )
 }
@@ -93,13 +85,5 @@ pub fn put_taken_back<W: Sink>(
     ensures failures { W.failures sink.new ≡ W.failures sink.old + sink_faults result }
     ensures flushes { W.flushes sink.new ≡ W.flushes sink.old }
 {
-    put_pieces(
-        sink,
-        held,
-        &[
-            Piece::Text("ok lent "),
-            Piece::Number(u64::from(lent)),
-            Piece::Text("\n"),
-        ],
-    )
+    put_line(sink, held, &line!["ok lent ", u64::from(lent), "\n"])
 }

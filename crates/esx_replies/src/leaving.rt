@@ -5,7 +5,7 @@ ghost use Rattle.esx_writing.specs.Writing.{Puts, sink_faults};
 ghost use Rattle.esx_replies.specs.Texts.{given_back_text};
 
 use esx_types::{Sink, SinkFailed};
-use esx_writing::{AnswerBuffer, Piece, put_pieces};
+use esx_writing::{AnswerBuffer, line, put_line};
 
 /// How many overhead frames are still held.
 pub fn put_given_back<W: Sink>(
@@ -18,13 +18,5 @@ pub fn put_given_back<W: Sink>(
     ensures failures { W.failures sink.new ≡ W.failures sink.old + sink_faults result }
     ensures flushes { W.flushes sink.new ≡ W.flushes sink.old }
 {
-    put_pieces(
-        sink,
-        held,
-        &[
-            Piece::Text("ok overhead "),
-            Piece::Number(u64::from(kept)),
-            Piece::Text("\n"),
-        ],
-    )
+    put_line(sink, held, &line!["ok overhead ", u64::from(kept), "\n"])
 }

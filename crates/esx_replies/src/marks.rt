@@ -7,7 +7,7 @@ ghost use Rattle.esx_replies.specs.Replies.{marks_head, mark_text, marks_text};
 
 use esx_events::NameRow;
 use esx_types::{Sink, SinkFailed};
-use esx_writing::{AnswerBuffer, Piece, put_pieces};
+use esx_writing::{AnswerBuffer, line, put_line};
 
 /// A name and its node.
 pub fn put_mark<W: Sink>(
@@ -21,15 +21,10 @@ pub fn put_mark<W: Sink>(
     ensures failures { W.failures sink.new ≡ W.failures sink.old + sink_faults result }
     ensures flushes { W.flushes sink.new ≡ W.flushes sink.old }
 {
-    put_pieces(
+    put_line(
         sink,
         held,
-        &[
-            Piece::Text(row.name.as_str()),
-            Piece::Text(" "),
-            Piece::Number(u64::from(row.node)),
-            Piece::Text("\n"),
-        ],
+        &line![row.name.as_str(), " ", u64::from(row.node), "\n"],
     )
 }
 
@@ -61,15 +56,7 @@ pub fn put_marks_head<W: Sink>(
     ensures failures { W.failures sink.new ≡ W.failures sink.old + sink_faults result }
     ensures flushes { W.flushes sink.new ≡ W.flushes sink.old }
 {
-    put_pieces(
-        sink,
-        held,
-        &[
-            Piece::Text("marks "),
-            Piece::Number(count as u64),
-            Piece::Text("\n"),
-        ],
-    )
+    put_line(sink, held, &line!["marks ", count as u64, "\n"])
 }
 
 /// The marks in the order in which they were made.

@@ -7,7 +7,7 @@ ghost use Rattle.esx_replies.specs.Texts.{stand_text, marked_text, pruned_text};
 
 use esx_events::{Name, Stand};
 use esx_types::{Sink, SinkFailed};
-use esx_writing::{AnswerBuffer, Piece, put_pieces};
+use esx_writing::{AnswerBuffer, line, put_line};
 
 /// Where the cursor is, and how many jumps it has made.
 pub fn put_stand<W: Sink>(
@@ -21,17 +21,17 @@ pub fn put_stand<W: Sink>(
     ensures failures { W.failures sink.new ≡ W.failures sink.old + sink_faults result }
     ensures flushes { W.flushes sink.new ≡ W.flushes sink.old }
 {
-    put_pieces(
+    put_line(
         sink,
         held,
-        &[
-            Piece::Text("at "),
-            Piece::Number(u64::from(stand.node)),
-            Piece::Text(" depth "),
-            Piece::Number(u64::from(stand.depth)),
-            Piece::Text(" jumps "),
-            Piece::Number(jumps),
-            Piece::Text("\n"),
+        &line![
+            "at ",
+            u64::from(stand.node),
+            " depth ",
+            u64::from(stand.depth),
+            " jumps ",
+            jumps,
+            "\n",
         ],
     )
 }
@@ -49,16 +49,10 @@ pub fn put_marked<W: Sink>(
     ensures failures { W.failures sink.new ≡ W.failures sink.old + sink_faults result }
     ensures flushes { W.flushes sink.new ≡ W.flushes sink.old }
 {
-    put_pieces(
+    put_line(
         sink,
         held,
-        &[
-            Piece::Text("ok mark "),
-            Piece::Text(name.as_str()),
-            Piece::Text(" at "),
-            Piece::Number(u64::from(node)),
-            Piece::Text("\n"),
-        ],
+        &line!["ok mark ", name.as_str(), " at ", u64::from(node), "\n"],
     )
 }
 
@@ -73,13 +67,5 @@ pub fn put_pruned<W: Sink>(
     ensures failures { W.failures sink.new ≡ W.failures sink.old + sink_faults result }
     ensures flushes { W.flushes sink.new ≡ W.flushes sink.old }
 {
-    put_pieces(
-        sink,
-        held,
-        &[
-            Piece::Text("ok pruned "),
-            Piece::Number(u64::from(count)),
-            Piece::Text("\n"),
-        ],
-    )
+    put_line(sink, held, &line!["ok pruned ", u64::from(count), "\n"])
 }

@@ -5,7 +5,7 @@ ghost use Rattle.esx_writing.specs.Writing.{Puts, sink_faults};
 ghost use Rattle.esx_replies.specs.Texts.{paged_out_text, shared_out_text, replaced_text};
 
 use esx_types::{Sink, SinkFailed};
-use esx_writing::{AnswerBuffer, Piece, put_pieces};
+use esx_writing::{AnswerBuffer, line, put_line};
 
 /// The page that went out, and its slot.
 pub fn put_paged_out<W: Sink>(
@@ -19,16 +19,10 @@ pub fn put_paged_out<W: Sink>(
     ensures failures { W.failures sink.new ≡ W.failures sink.old + sink_faults result }
     ensures flushes { W.flushes sink.new ≡ W.flushes sink.old }
 {
-    put_pieces(
+    put_line(
         sink,
         held,
-        &[
-            Piece::Text("ok out "),
-            Piece::Number(u64::from(page)),
-            Piece::Text(" slot "),
-            Piece::Number(u64::from(slot)),
-            Piece::Text("\n"),
-        ],
+        &line!["ok out ", u64::from(page), " slot ", u64::from(slot), "\n"],
     )
 }
 
@@ -44,15 +38,15 @@ pub fn put_shared_out<W: Sink>(
     ensures failures { W.failures sink.new ≡ W.failures sink.old + sink_faults result }
     ensures flushes { W.flushes sink.new ≡ W.flushes sink.old }
 {
-    put_pieces(
+    put_line(
         sink,
         held,
-        &[
-            Piece::Text("ok shared "),
-            Piece::Number(u64::from(page)),
-            Piece::Text(" frame "),
-            Piece::Number(u64::from(frame)),
-            Piece::Text("\n"),
+        &line![
+            "ok shared ",
+            u64::from(page),
+            " frame ",
+            u64::from(frame),
+            "\n",
         ],
     )
 }
@@ -70,17 +64,17 @@ pub fn put_replaced<W: Sink>(
     ensures failures { W.failures sink.new ≡ W.failures sink.old + sink_faults result }
     ensures flushes { W.flushes sink.new ≡ W.flushes sink.old }
 {
-    put_pieces(
+    put_line(
         sink,
         held,
-        &[
-            Piece::Text("ok out "),
-            Piece::Number(u64::from(page)),
-            Piece::Text(" slot "),
-            Piece::Number(u64::from(slot)),
-            Piece::Text(" frame "),
-            Piece::Number(u64::from(frame)),
-            Piece::Text("\n"),
+        &line![
+            "ok out ",
+            u64::from(page),
+            " slot ",
+            u64::from(slot),
+            " frame ",
+            u64::from(frame),
+            "\n",
         ],
     )
 }

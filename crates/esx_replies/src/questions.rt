@@ -7,7 +7,7 @@ ghost use Rattle.esx_replies.specs.Texts.{sum_text, activity_text, private_text,
 use crate::names::level_name;
 use esx_events::{Activity, Help, PageState, Sum};
 use esx_types::{Sink, SinkFailed, VmId};
-use esx_writing::{AnswerBuffer, Piece, put_pieces};
+use esx_writing::{AnswerBuffer, line, put_line};
 
 /// How many frames are of each kind, and the level.
 pub fn put_sum<W: Sink>(sink: &mut W, held: &mut AnswerBuffer, sum: Sum) -> Result<(), SinkFailed>
@@ -16,21 +16,21 @@ pub fn put_sum<W: Sink>(sink: &mut W, held: &mut AnswerBuffer, sum: Sum) -> Resu
     ensures failures { W.failures sink.new ≡ W.failures sink.old + sink_faults result }
     ensures flushes { W.flushes sink.new ≡ W.flushes sink.old }
 {
-    put_pieces(
+    put_line(
         sink,
         held,
-        &[
-            Piece::Text("overhead "),
-            Piece::Number(u64::from(sum.overhead)),
-            Piece::Text(" private "),
-            Piece::Number(u64::from(sum.private)),
-            Piece::Text(" shared "),
-            Piece::Number(u64::from(sum.shared)),
-            Piece::Text(" free "),
-            Piece::Number(u64::from(sum.free)),
-            Piece::Text(" "),
-            Piece::Text(level_name(sum.level)),
-            Piece::Text("\n"),
+        &line![
+            "overhead ",
+            u64::from(sum.overhead),
+            " private ",
+            u64::from(sum.private),
+            " shared ",
+            u64::from(sum.shared),
+            " free ",
+            u64::from(sum.free),
+            " ",
+            level_name(sum.level),
+            "\n",
         ],
     )
 }
@@ -46,25 +46,25 @@ pub fn put_activity<W: Sink>(
     ensures failures { W.failures sink.new ≡ W.failures sink.old + sink_faults result }
     ensures flushes { W.flushes sink.new ≡ W.flushes sink.old }
 {
-    put_pieces(
+    put_line(
         sink,
         held,
-        &[
-            Piece::Text("slow "),
-            Piece::Number(u64::from(a.slow)),
-            Piece::Text(" fast "),
-            Piece::Number(u64::from(a.fast)),
-            Piece::Text(" active "),
-            Piece::Number(u64::from(a.active)),
-            Piece::Text(" period "),
-            Piece::Number(u64::from(a.done)),
-            Piece::Text("/"),
-            Piece::Number(u64::from(a.length)),
-            Piece::Text(" touched "),
-            Piece::Number(u64::from(a.touched)),
-            Piece::Text("/"),
-            Piece::Number(u64::from(a.pages)),
-            Piece::Text("\n"),
+        &line![
+            "slow ",
+            u64::from(a.slow),
+            " fast ",
+            u64::from(a.fast),
+            " active ",
+            u64::from(a.active),
+            " period ",
+            u64::from(a.done),
+            "/",
+            u64::from(a.length),
+            " touched ",
+            u64::from(a.touched),
+            "/",
+            u64::from(a.pages),
+            "\n",
         ],
     )
 }
@@ -80,14 +80,10 @@ pub fn put_private<W: Sink>(
     ensures failures { W.failures sink.new ≡ W.failures sink.old + sink_faults result }
     ensures flushes { W.flushes sink.new ≡ W.flushes sink.old }
 {
-    put_pieces(
+    put_line(
         sink,
         held,
-        &[
-            Piece::Text("here frame "),
-            Piece::Number(u64::from(frame)),
-            Piece::Text(" private\n"),
-        ],
+        &line!["here frame ", u64::from(frame), " private\n"],
     )
 }
 
@@ -102,14 +98,10 @@ pub fn put_hinted<W: Sink>(
     ensures failures { W.failures sink.new ≡ W.failures sink.old + sink_faults result }
     ensures flushes { W.flushes sink.new ≡ W.flushes sink.old }
 {
-    put_pieces(
+    put_line(
         sink,
         held,
-        &[
-            Piece::Text("here frame "),
-            Piece::Number(u64::from(frame)),
-            Piece::Text(" private hint\n"),
-        ],
+        &line!["here frame ", u64::from(frame), " private hint\n"],
     )
 }
 
@@ -125,15 +117,15 @@ pub fn put_shared<W: Sink>(
     ensures failures { W.failures sink.new ≡ W.failures sink.old + sink_faults result }
     ensures flushes { W.flushes sink.new ≡ W.flushes sink.old }
 {
-    put_pieces(
+    put_line(
         sink,
         held,
-        &[
-            Piece::Text("here frame "),
-            Piece::Number(u64::from(frame)),
-            Piece::Text(" shared "),
-            Piece::Number(u64::from(count)),
-            Piece::Text("\n"),
+        &line![
+            "here frame ",
+            u64::from(frame),
+            " shared ",
+            u64::from(count),
+            "\n",
         ],
     )
 }
@@ -145,15 +137,7 @@ pub fn put_out<W: Sink>(sink: &mut W, held: &mut AnswerBuffer, slot: u32) -> Res
     ensures failures { W.failures sink.new ≡ W.failures sink.old + sink_faults result }
     ensures flushes { W.flushes sink.new ≡ W.flushes sink.old }
 {
-    put_pieces(
-        sink,
-        held,
-        &[
-            Piece::Text("out slot "),
-            Piece::Number(u64::from(slot)),
-            Piece::Text("\n"),
-        ],
-    )
+    put_line(sink, held, &line!["out slot ", u64::from(slot), "\n"])
 }
 
 /// What is to be paged out.
@@ -167,15 +151,7 @@ pub fn put_page_out<W: Sink>(
     ensures failures { W.failures sink.new ≡ W.failures sink.old + sink_faults result }
     ensures flushes { W.flushes sink.new ≡ W.flushes sink.old }
 {
-    put_pieces(
-        sink,
-        held,
-        &[
-            Piece::Text("swapout "),
-            Piece::Number(u64::from(vm.number())),
-            Piece::Text("\n"),
-        ],
-    )
+    put_line(sink, held, &line!["swapout ", u64::from(vm.number()), "\n"])
 }
 
 /// Where a page is.
@@ -190,12 +166,12 @@ pub fn put_page<W: Sink>(
     ensures flushes { W.flushes sink.new ≡ W.flushes sink.old }
 {
     match state {
-        PageState::Untouched => put_pieces(sink, held, &[Piece::Text("untouched\n")]),
+        PageState::Untouched => put_line(sink, held, &"untouched\n"),
         PageState::Private { frame } => put_private(sink, held, frame),
         PageState::Hinted { frame } => put_hinted(sink, held, frame),
         PageState::Shared { frame, count } => put_shared(sink, held, frame, count),
         PageState::Out { slot } => put_out(sink, held, slot),
-        PageState::Lent => put_pieces(sink, held, &[Piece::Text("lent\n")]),
+        PageState::Lent => put_line(sink, held, &"lent\n"),
     }
 }
 
@@ -211,9 +187,9 @@ pub fn put_help<W: Sink>(
     ensures flushes { W.flushes sink.new ≡ W.flushes sink.old }
 {
     match help {
-        Help::Go => put_pieces(sink, held, &[Piece::Text("go\n")]),
+        Help::Go => put_line(sink, held, &"go\n"),
         Help::SwapOut { vm } => put_page_out(sink, held, vm),
-        Help::Rebalance => put_pieces(sink, held, &[Piece::Text("rebalance\n")]),
-        Help::Replace => put_pieces(sink, held, &[Piece::Text("replace\n")]),
+        Help::Rebalance => put_line(sink, held, &"rebalance\n"),
+        Help::Replace => put_line(sink, held, &"replace\n"),
     }
 }

@@ -6,7 +6,7 @@ ghost use Rattle.esx_replies.specs.Texts.{refusal_text, refusal_ending};
 
 use esx_events::Refusal;
 use esx_types::{Level, Sink, SinkFailed};
-use esx_writing::{AnswerBuffer, Piece, put_pieces};
+use esx_writing::{AnswerBuffer, line, put_line};
 
 /// The end of a refusal's line.
 fn ending(refusal: Refusal) -> &'static str
@@ -59,15 +59,15 @@ pub fn put_refusal<W: Sink>(
     ensures failures { W.failures sink.new ≡ W.failures sink.old + sink_faults result }
     ensures flushes { W.flushes sink.new ≡ W.flushes sink.old }
 {
-    put_pieces(
+    put_line(
         sink,
         held,
-        &[
-            Piece::Text("no "),
-            Piece::Number(u64::from(refusal.number())),
-            Piece::Text(" "),
-            Piece::Text(refusal.name()),
-            Piece::Text(ending(refusal)),
+        &line![
+            "no ",
+            u64::from(refusal.number()),
+            " ",
+            refusal.name(),
+            ending(refusal),
         ],
     )
 }

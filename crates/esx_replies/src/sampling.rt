@@ -5,7 +5,7 @@ ghost use Rattle.esx_writing.specs.Writing.{Puts, sink_faults};
 ghost use Rattle.esx_replies.specs.Texts.{opened_text, rebalanced_text};
 
 use esx_types::{Sink, SinkFailed};
-use esx_writing::{AnswerBuffer, Piece, put_pieces};
+use esx_writing::{AnswerBuffer, line, put_line};
 
 /// A period is open.
 pub fn put_opened<W: Sink>(
@@ -19,15 +19,15 @@ pub fn put_opened<W: Sink>(
     ensures failures { W.failures sink.new ≡ W.failures sink.old + sink_faults result }
     ensures flushes { W.flushes sink.new ≡ W.flushes sink.old }
 {
-    put_pieces(
+    put_line(
         sink,
         held,
-        &[
-            Piece::Text("ok period "),
-            Piece::Number(u64::from(length)),
-            Piece::Text(" pages "),
-            Piece::Number(u64::from(pages)),
-            Piece::Text("\n"),
+        &line![
+            "ok period ",
+            u64::from(length),
+            " pages ",
+            u64::from(pages),
+            "\n",
         ],
     )
 }
@@ -44,15 +44,15 @@ pub fn put_rebalanced<W: Sink>(
     ensures failures { W.failures sink.new ≡ W.failures sink.old + sink_faults result }
     ensures flushes { W.flushes sink.new ≡ W.flushes sink.old }
 {
-    put_pieces(
+    put_line(
         sink,
         held,
-        &[
-            Piece::Text("ok need "),
-            Piece::Number(u64::from(need)),
-            Piece::Text(" revoked "),
-            Piece::Number(u64::from(revoked)),
-            Piece::Text("\n"),
+        &line![
+            "ok need ",
+            u64::from(need),
+            " revoked ",
+            u64::from(revoked),
+            "\n",
         ],
     )
 }

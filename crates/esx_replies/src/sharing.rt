@@ -6,7 +6,7 @@ ghost use Rattle.esx_replies.specs.Texts.{found_shared_text, looked_text};
 
 use esx_events::Scanned;
 use esx_types::{Sink, SinkFailed};
-use esx_writing::{AnswerBuffer, Piece, put_pieces};
+use esx_writing::{AnswerBuffer, line, put_line};
 
 /// The frame that is shared now, and how many pages it has.
 pub fn put_found_shared<W: Sink>(
@@ -20,15 +20,15 @@ pub fn put_found_shared<W: Sink>(
     ensures failures { W.failures sink.new ≡ W.failures sink.old + sink_faults result }
     ensures flushes { W.flushes sink.new ≡ W.flushes sink.old }
 {
-    put_pieces(
+    put_line(
         sink,
         held,
-        &[
-            Piece::Text("ok shared frame "),
-            Piece::Number(u64::from(frame)),
-            Piece::Text(" count "),
-            Piece::Number(u64::from(count)),
-            Piece::Text("\n"),
+        &line![
+            "ok shared frame ",
+            u64::from(frame),
+            " count ",
+            u64::from(count),
+            "\n",
         ],
     )
 }
@@ -45,10 +45,10 @@ pub fn put_looked<W: Sink>(
     ensures flushes { W.flushes sink.new ≡ W.flushes sink.old }
 {
     match scanned {
-        Scanned::Hinted => put_pieces(sink, held, &[Piece::Text("ok hinted\n")]),
+        Scanned::Hinted => put_line(sink, held, &"ok hinted\n"),
         Scanned::Shared { frame, count } => put_found_shared(sink, held, frame, count),
-        Scanned::Stale => put_pieces(sink, held, &[Piece::Text("ok stale\n")]),
-        Scanned::Clash => put_pieces(sink, held, &[Piece::Text("ok clash\n")]),
-        Scanned::Already => put_pieces(sink, held, &[Piece::Text("ok already\n")]),
+        Scanned::Stale => put_line(sink, held, &"ok stale\n"),
+        Scanned::Clash => put_line(sink, held, &"ok clash\n"),
+        Scanned::Already => put_line(sink, held, &"ok already\n"),
     }
 }

@@ -9,7 +9,7 @@ use crate::answer::put_tried;
 use crate::questions::put_sum;
 use esx_events::{Answer, Refusal, Sides, Sum};
 use esx_types::{Sink, SinkFailed};
-use esx_writing::{AnswerBuffer, Piece, put_pieces};
+use esx_writing::{AnswerBuffer, line, put_line};
 
 /// The number of a tried event.
 fn put_number<W: Sink>(sink: &mut W, held: &mut AnswerBuffer, number: u64) -> Result<(), SinkFailed>
@@ -18,7 +18,7 @@ fn put_number<W: Sink>(sink: &mut W, held: &mut AnswerBuffer, number: u64) -> Re
     ensures failures { W.failures sink.new ≡ W.failures sink.old + sink_faults result }
     ensures flushes { W.flushes sink.new ≡ W.flushes sink.old }
 {
-    put_pieces(sink, held, &[Piece::Number(number), Piece::Text(" ")])
+    put_line(sink, held, &line![number, " "])
 }
 
 /// A tried event's number and what it answers.
@@ -90,16 +90,10 @@ pub fn put_sides_head<W: Sink>(
     ensures failures { W.failures sink.new ≡ W.failures sink.old + sink_faults result }
     ensures flushes { W.flushes sink.new ≡ W.flushes sink.old }
 {
-    put_pieces(
+    put_line(
         sink,
         held,
-        &[
-            Piece::Text("whatif "),
-            Piece::Number(count),
-            Piece::Text("/"),
-            Piece::Number(u64::from(given)),
-            Piece::Text("\n"),
-        ],
+        &line!["whatif ", count, "/", u64::from(given), "\n"],
     )
 }
 
@@ -110,7 +104,7 @@ fn put_before_word<W: Sink>(sink: &mut W, held: &mut AnswerBuffer) -> Result<(),
     ensures failures { W.failures sink.new ≡ W.failures sink.old + sink_faults result }
     ensures flushes { W.flushes sink.new ≡ W.flushes sink.old }
 {
-    put_pieces(sink, held, &[Piece::Text("before ")])
+    put_line(sink, held, &"before ")
 }
 
 /// The sum before them.
@@ -135,7 +129,7 @@ fn put_after_word<W: Sink>(sink: &mut W, held: &mut AnswerBuffer) -> Result<(), 
     ensures failures { W.failures sink.new ≡ W.failures sink.old + sink_faults result }
     ensures flushes { W.flushes sink.new ≡ W.flushes sink.old }
 {
-    put_pieces(sink, held, &[Piece::Text("after ")])
+    put_line(sink, held, &"after ")
 }
 
 /// The sum after them.

@@ -9,7 +9,7 @@ use crate::names::state_name;
 use crate::questions::put_sum;
 use esx_events::{Sum, TableRow};
 use esx_types::{Sink, SinkFailed};
-use esx_writing::{AnswerBuffer, Piece, put_pieces};
+use esx_writing::{AnswerBuffer, Piece, put_line, put_pieces};
 
 /// The line of a virtual machine.
 pub fn put_row<W: Sink>(
@@ -66,12 +66,10 @@ pub fn put_head<W: Sink>(sink: &mut W, held: &mut AnswerBuffer) -> Result<(), Si
     ensures failures { W.failures sink.new ≡ W.failures sink.old + sink_faults result }
     ensures flushes { W.flushes sink.new ≡ W.flushes sink.old }
 {
-    put_pieces(
+    put_line(
         sink,
         held,
-        &[Piece::Text(
-            " vm state        min     max  target    here    lent     out  shares  active\n",
-        )],
+        &" vm state        min     max  target    here    lent     out  shares  active\n",
     )
 }
 

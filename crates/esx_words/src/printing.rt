@@ -11,7 +11,7 @@ ghost use Rattle.esx_events.specs.declared.call.Call.TheVariants as calls;
 
 use esx_events::{Call, Event, Name};
 use esx_types::{MemorySink, Sink, SinkFailed, VmId, VmSpec};
-use esx_writing::{AnswerBuffer, Piece, put_texts, write_held};
+use esx_writing::{AnswerBuffer, Hex, line, put_line, write_held};
 use std::alloc::{AllocError, Global};
 use std::marker::Brand;
 use std::sync::ledger::{Blank, Ledger};
@@ -28,15 +28,7 @@ fn put_machine<W: Sink>(
     ensures failures { W.failures sink.new ≡ W.failures sink.old + sink_faults result }
     ensures flushes { W.flushes sink.new ≡ W.flushes sink.old }
 {
-    put_texts(
-        sink,
-        held,
-        &[
-            Piece::Text(verb),
-            Piece::Text(" "),
-            Piece::Number(u64::from(vm.number())),
-        ],
-    )
+    put_line(sink, held, &line![verb, " ", u64::from(vm.number())])
 }
 
 /// A first word and a number.
@@ -51,15 +43,7 @@ fn put_number<W: Sink>(
     ensures failures { W.failures sink.new ≡ W.failures sink.old + sink_faults result }
     ensures flushes { W.flushes sink.new ≡ W.flushes sink.old }
 {
-    put_texts(
-        sink,
-        held,
-        &[
-            Piece::Text(verb),
-            Piece::Text(" "),
-            Piece::Number(u64::from(number)),
-        ],
-    )
+    put_line(sink, held, &line![verb, " ", u64::from(number)])
 }
 
 /// A first word, a virtual machine and a number.
@@ -75,16 +59,10 @@ fn put_place<W: Sink>(
     ensures failures { W.failures sink.new ≡ W.failures sink.old + sink_faults result }
     ensures flushes { W.flushes sink.new ≡ W.flushes sink.old }
 {
-    put_texts(
+    put_line(
         sink,
         held,
-        &[
-            Piece::Text(verb),
-            Piece::Text(" "),
-            Piece::Number(u64::from(vm.number())),
-            Piece::Text(" "),
-            Piece::Number(u64::from(page)),
-        ],
+        &line![verb, " ", u64::from(vm.number()), " ", u64::from(page)],
     )
 }
 
@@ -101,16 +79,10 @@ fn put_drawn<W: Sink>(
     ensures failures { W.failures sink.new ≡ W.failures sink.old + sink_faults result }
     ensures flushes { W.flushes sink.new ≡ W.flushes sink.old }
 {
-    put_texts(
+    put_line(
         sink,
         held,
-        &[
-            Piece::Text(verb),
-            Piece::Text(" "),
-            Piece::Number(u64::from(vm.number())),
-            Piece::Text(" "),
-            Piece::Number(word),
-        ],
+        &line![verb, " ", u64::from(vm.number()), " ", word],
     )
 }
 
@@ -128,17 +100,17 @@ fn put_drawn_place<W: Sink>(
     ensures failures { W.failures sink.new ≡ W.failures sink.old + sink_faults result }
     ensures flushes { W.flushes sink.new ≡ W.flushes sink.old }
 {
-    put_texts(
+    put_line(
         sink,
         held,
-        &[
-            Piece::Text(verb),
-            Piece::Text(" "),
-            Piece::Number(u64::from(vm.number())),
-            Piece::Text(" "),
-            Piece::Number(u64::from(page)),
-            Piece::Text(" "),
-            Piece::Number(word),
+        &line![
+            verb,
+            " ",
+            u64::from(vm.number()),
+            " ",
+            u64::from(page),
+            " ",
+            word,
         ],
     )
 }
@@ -158,19 +130,19 @@ fn put_range<W: Sink>(
     ensures failures { W.failures sink.new ≡ W.failures sink.old + sink_faults result }
     ensures flushes { W.flushes sink.new ≡ W.flushes sink.old }
 {
-    put_texts(
+    put_line(
         sink,
         held,
-        &[
-            Piece::Text(verb),
-            Piece::Text(" "),
-            Piece::Number(u64::from(vm.number())),
-            Piece::Text(" "),
-            Piece::Number(u64::from(page)),
-            Piece::Text(" "),
-            Piece::Number(u64::from(at)),
-            Piece::Text(" "),
-            Piece::Number(u64::from(len)),
+        &line![
+            verb,
+            " ",
+            u64::from(vm.number()),
+            " ",
+            u64::from(page),
+            " ",
+            u64::from(at),
+            " ",
+            u64::from(len),
         ],
     )
 }
@@ -190,19 +162,19 @@ fn put_written<'x, W: Sink>(
     ensures failures { W.failures sink.new ≡ W.failures sink.old + sink_faults result }
     ensures flushes { W.flushes sink.new ≡ W.flushes sink.old }
 {
-    put_texts(
+    put_line(
         sink,
         held,
-        &[
-            Piece::Text(verb),
-            Piece::Text(" "),
-            Piece::Number(u64::from(vm.number())),
-            Piece::Text(" "),
-            Piece::Number(u64::from(page)),
-            Piece::Text(" "),
-            Piece::Number(u64::from(at)),
-            Piece::Text(" "),
-            Piece::Hex(bytes),
+        &line![
+            verb,
+            " ",
+            u64::from(vm.number()),
+            " ",
+            u64::from(page),
+            " ",
+            u64::from(at),
+            " ",
+            Hex { bytes },
         ],
     )
 }
@@ -220,23 +192,23 @@ fn put_spec<W: Sink>(
     ensures failures { W.failures sink.new ≡ W.failures sink.old + sink_faults result }
     ensures flushes { W.flushes sink.new ≡ W.flushes sink.old }
 {
-    put_texts(
+    put_line(
         sink,
         held,
-        &[
-            Piece::Text(verb),
-            Piece::Text(" "),
-            Piece::Number(u64::from(vm.number())),
-            Piece::Text(" "),
-            Piece::Number(u64::from(spec.min)),
-            Piece::Text(" "),
-            Piece::Number(u64::from(spec.max)),
-            Piece::Text(" "),
-            Piece::Number(u64::from(spec.overhead)),
-            Piece::Text(" "),
-            Piece::Number(u64::from(spec.shares)),
-            Piece::Text(" "),
-            Piece::Number(u64::from(spec.balloon_max)),
+        &line![
+            verb,
+            " ",
+            u64::from(vm.number()),
+            " ",
+            u64::from(spec.min),
+            " ",
+            u64::from(spec.max),
+            " ",
+            u64::from(spec.overhead),
+            " ",
+            u64::from(spec.shares),
+            " ",
+            u64::from(spec.balloon_max),
         ],
     )
 }
@@ -253,15 +225,7 @@ fn put_name<'x, W: Sink>(
     ensures failures { W.failures sink.new ≡ W.failures sink.old + sink_faults result }
     ensures flushes { W.flushes sink.new ≡ W.flushes sink.old }
 {
-    put_texts(
-        sink,
-        held,
-        &[
-            Piece::Text(verb),
-            Piece::Text(" "),
-            Piece::Text(name.as_str()),
-        ],
-    )
+    put_line(sink, held, &line![verb, " ", name.as_str()])
 }
 
 /// A first word alone.
@@ -271,7 +235,7 @@ fn put_alone<W: Sink>(sink: &mut W, held: &mut AnswerBuffer, verb: &str) -> Resu
     ensures failures { W.failures sink.new ≡ W.failures sink.old + sink_faults result }
     ensures flushes { W.flushes sink.new ≡ W.flushes sink.old }
 {
-    put_texts(sink, held, &[Piece::Text(verb)])
+    put_line(sink, held, &verb)
 }
 
 /// A further word.
@@ -285,7 +249,7 @@ fn put_sample_word<W: Sink>(
     ensures failures { W.failures sink.new ≡ W.failures sink.old + sink_faults result }
     ensures flushes { W.flushes sink.new ≡ W.flushes sink.old }
 {
-    put_texts(sink, held, &[Piece::Text(" "), Piece::Number(word)])
+    put_line(sink, held, &line![" ", word])
 }
 
 /// Further words.
@@ -374,7 +338,7 @@ fn put_next_word<W: Sink>(sink: &mut W, held: &mut AnswerBuffer) -> Result<(), S
     ensures failures { W.failures sink.new ≡ W.failures sink.old + sink_faults result }
     ensures flushes { W.flushes sink.new ≡ W.flushes sink.old }
 {
-    put_texts(sink, held, &[Piece::Text("; ")])
+    put_line(sink, held, &"; ")
 }
 
 /// A further event that is tried.
@@ -428,7 +392,7 @@ fn put_tried_word<W: Sink>(sink: &mut W, held: &mut AnswerBuffer) -> Result<(), 
     ensures failures { W.failures sink.new ≡ W.failures sink.old + sink_faults result }
     ensures flushes { W.flushes sink.new ≡ W.flushes sink.old }
 {
-    put_texts(sink, held, &[Piece::Text("whatif ")])
+    put_line(sink, held, &"whatif ")
 }
 
 /// A call that tries events.

@@ -83,8 +83,73 @@ pub enum Verb {
     WhatIf,
 }
 
+/// The command that begins with a word, if it is one of those that come most: looked for by the word's length.
+#[inline(always)]
+fn frequent_verb_of(word: &str) -> Option<Verb>
+    ensures { IfSome result (λ verb. word.now ≡ verb_word verb) }
+{
+    match word.len() {
+        2 => match word {
+            "vm" => Some(Verb::OfVm),
+            _ => None,
+        },
+        3 => match word {
+            "sum" => Some(Verb::Alone {
+                verb: AloneVerb::Sum,
+            }),
+            _ => None,
+        },
+        4 => match word {
+            "page" => Some(Verb::Place {
+                verb: PlaceVerb::OfPage,
+            }),
+            "read" => Some(Verb::Event {
+                verb: EventVerb::Read,
+            }),
+            _ => None,
+        },
+        5 => match word {
+            "write" => Some(Verb::Event {
+                verb: EventVerb::Write,
+            }),
+            "where" => Some(Verb::Alone {
+                verb: AloneVerb::Stand,
+            }),
+            _ => None,
+        },
+        6 => match word {
+            "advise" => Some(Verb::Place {
+                verb: PlaceVerb::Advise,
+            }),
+            _ => None,
+        },
+        7 => match word {
+            "swapout" => Some(Verb::Event {
+                verb: EventVerb::SwapOut,
+            }),
+            "replace" => Some(Verb::Event {
+                verb: EventVerb::Replace,
+            }),
+            _ => None,
+        },
+        _ => None,
+    }
+}
+
 /// The command that begins with a word.
 pub fn verb_of(word: &str) -> Option<Verb>
+    ensures found { IfSome result (λ verb. word.now ≡ verb_word verb) }
+    ensures only { IfNone result ((verb : Verb) → word.now ≡ verb_word verb → ⊥) }
+{
+    match frequent_verb_of(word) {
+        Some(verb) => Some(verb),
+        None => any_verb_of(word),
+    }
+}
+
+/// The same, by every word.
+#[inline(never)]
+fn any_verb_of(word: &str) -> Option<Verb>
     ensures found { IfSome result (λ verb. word.now ≡ verb_word verb) }
     ensures only { IfNone result ((verb : Verb) → word.now ≡ verb_word verb → ⊥) }
 {

@@ -154,6 +154,10 @@ pub utf8_after : {T E : Type 0} (x y : List ℕ) (r : Result T E) → IsUtf8 x �
 utf8_after x y (Ok v) p q = IsUtf8-append x y p q
 utf8_after x y (Err e) p q = tt
 
+pub utf8_at_success : {T E : Type 0} (x : List ℕ) (r : Result T E) → IsUtf8 x → OnOk r (IsUtf8 x)
+utf8_at_success x (Ok v) p = p
+utf8_at_success x (Err e) p = tt
+
 -- an item of a list that is gone over
 pub flat_item_at : {A B : Type 0} (f : A → List B) (xs : List A) (i : ℕ) (x : A) → i < length xs → x ≡ get_or xs i x
     → flat_map f xs ≡ flat_map f (take i xs) ++ (f x ++ flat_map f (drop (i + 1) xs))

@@ -1,6 +1,7 @@
 //! What is written, held back in a buffer of fixed size. No memory is taken on the way.
 
-ghost use Rattle.std.specs.Prelude.{◌≡◌, ◌+◌, ◌≤◌, ◌++◌, [], length, decimal, IfOk, OnOk, IsUtf8};
+ghost use Rattle.std.specs.Prelude.{◌≡◌, ◌+◌, ◌≤◌, ◌*◌, ◌++◌, [], length, decimal, IfOk, OnOk, IsUtf8};
+ghost use Rattle.hex.specs.Hex.{encode_lower};
 ghost use Rattle.esx_writing.specs.Writing.{Writes, Puts, sink_faults};
 
 use esx_types::{Sink, SinkFailed};
@@ -70,6 +71,16 @@ impl AnswerBuffer {
         let start = write_digits(number, &mut room, DIGITS);
         self.bytes[self.count..self.count + DIGITS].copy_from_slice(&room[start..start + DIGITS]);
         self.count += DIGITS - start;
+    }
+
+    /// Adds bytes in hex, where there is room.
+    pub fn push_hex(&mut self, bytes: &[u8])
+        requires { length self.old + 2 * length bytes.now ≤ 16384 }
+        ensures { self.new ≡ self.old ++ encode_lower bytes.now }
+    {
+        let end = self.count + 2 * bytes.len();
+        let _ = hex::encode_to_slice(bytes, &mut self.bytes[self.count..end]);
+        self.count = end;
     }
 
     fn as_slice(&self) -> &[u8]

@@ -2,7 +2,16 @@
 #![tactic(auto)]
 
 mod buffer;
+mod line;
 mod pieces;
 
 pub use buffer::{AnswerBuffer, put, write_held};
+pub use line::{Hex, Line, put_line};
 pub use pieces::{Piece, put_pieces, put_texts, write_pieces};
+
+/// The parts of a text, one behind the other.
+#[macro_export]
+macro_rules! line {
+    ($part:expr) => { $part };
+    ($part:expr, $($rest:expr),+ $(,)?) => { ($part, $crate::line!($($rest),+)) };
+}

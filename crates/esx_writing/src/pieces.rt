@@ -37,7 +37,11 @@ fn hex_digits<'a>(bytes: &[u8], room: &'a mut [u8; 128]) -> &'a [u8]
 
 /// Puts bytes in hex.
 #[inline(never)]
-fn put_hex<W: Sink>(sink: &mut W, held: &mut AnswerBuffer, bytes: &[u8]) -> Result<(), SinkFailed>
+pub fn put_hex<W: Sink>(
+    sink: &mut W,
+    held: &mut AnswerBuffer,
+    bytes: &[u8],
+) -> Result<(), SinkFailed>
     ensures bytes { Puts (W.contents sink.old) held.old (W.contents sink.new) held.new (encode_lower bytes.now) result }
     ensures failures { W.failures sink.new ≡ W.failures sink.old + sink_faults result }
     ensures flushes { W.flushes sink.new ≡ W.flushes sink.old }

@@ -1,4 +1,4 @@
 use Rattle.esx_replies.proofs.questions.put_hinted.Goals as goal
 
 pub returns-clause-bytes : goal.returns-clause-bytes
-returns-clause-bytes g c = rw c.from.ensures at c.put_pieces.ensures.bytes
+returns-clause-bytes g c = rw c.from.ensures at c.put_line.ensures.bytes
