@@ -1,6 +1,6 @@
 //! One site, served from its opening on.
 
-ghost use Rattle.std.specs.Prelude.{◌≡◌, ◌+◌, ◌-◌, ◌^◌, ◌<◌, ◌≤◌, ◌⊎◌, [], IfOk, IfErr, IsErrOf};
+ghost use Rattle.std.specs.Prelude.{◌≡◌, ◌+◌, ◌-◌, ◌^◌, ◌<◌, ◌≤◌, ◌⊎◌, [], IfOk, IfErr, OnOk, IsErrOf};
 ghost use Rattle.esx_types.specs.Ranges.{IsConfig};
 ghost use Rattle.esx_model.specs.Console.{Session};
 ghost use Rattle.esx_text.specs.Answers.{Answers, Faults, ReadsOn, write_faults};
@@ -29,6 +29,9 @@ pub fn serve_site<R: Source, W: Sink>(
         (R.remaining reader.old) (R.remaining reader.new) (W.contents writer.old) (W.contents writer.new)) }
 
     // As of `serve`.
+    ensures found { OnOk result (R.empty_reads reader.new ≡ R.empty_reads reader.old + 1) }
+    ensures not_found { IsErrOf result ServeFault.Read → R.empty_reads reader.new ≡ R.empty_reads reader.old }
+    ensures ends { R.empty_reads reader.new ≤ R.empty_reads reader.old + 1 }
     ensures reads { R.calls reader.new ≤ R.calls reader.old + 2 ^ 26 }
     ensures each { ReadsOn (R.remaining reader.old) (R.remaining reader.new) (R.calls reader.old) (R.calls reader.new) }
     ensures read { IsErrOf result ServeFault.Read
