@@ -2,13 +2,13 @@
 use Rattle.std.proofs.Common.{◌≡◌, ℕ, List, [], ◌+◌, ◌⊎◌, inl, inr, refl, arith, sym, ◌∙◌, append-nil, Option, None, Some, Result, Ok, Err, map}
 use Rattle.std.specs.Io.KnownBytes.{Keeps, Appends, Consumes}
 use Rattle.std.specs.Option.{ok_or}
-use Rattle.std.specs.Result.{IfOk, IfErr, IsErrAnd, IsErrOf}
+use Rattle.std.specs.Result.{IfOk, IfErr, OnOk, IsErrAnd, IsErrOf}
 use Rattle.std.proofs.lemmas.List.Elements.{All-nil}
 use Rattle.esx_model.specs.Console.{Session}
 use Rattle.esx_text.specs.declared.fault.ServeFault.{ServeFault}
 use Rattle.esx_text.specs.declared.fault.ServeFault.TheVariants.{Read, Write, OutOfMemory}
 use Rattle.esx_text.specs.Lines.{HasNoFeed, line_of, lines, Held}
-use Rattle.esx_text.specs.Answers.{AreAnswered, Progress, Answers, First, Stops, Faults, Ends, Reaches, read_faults}
+use Rattle.esx_text.specs.Answers.{AreAnswered, Progress, Answers, First, Stops, Faults, Ends, Reaches, ends_found, read_faults}
 use Rattle.esx_writing.proofs.WritingLemmas.{appends_nothing}
 use Rattle.esx_text.proofs.ProgressLemmas.{consumes_nothing}
 
@@ -240,3 +240,21 @@ unread_once (Err Write) failures failures' calls calls' (inl why) f e = absurd (
 unread_once (Err Write) failures failures' calls calls' (inr why) f e = absurd (cc)
 unread_once (Err OutOfMemory) failures failures' calls calls' (inl why) f e = absurd (cc)
 unread_once (Err OutOfMemory) failures failures' calls calls' (inr why) f e = absurd (cc)
+
+-- a number of lines comes of one
+pub counted : (served : Result (Option ℕ) ServeFault) (found : Option ℕ) (result : Result ℕ ServeFault)
+    → served ≡ Ok found → result ≡ ok_or found Read → IfOk result (λ count. served ≡ Ok (Some count))
+counted served None result is was = rw was tt
+counted served (Some n) result is was = rw was is
+
+-- one read gave nothing where the end was found
+pub found_end : (r : Result ℕ ServeFault) (served : Result (Option ℕ) ServeFault) (empty empty' : ℕ)
+    → IfOk r (λ count. served ≡ Ok (Some count)) → IfOk served (λ found. empty' ≡ empty + ends_found found) → OnOk r (empty' ≡ empty + 1)
+found_end (Ok n) served empty empty' is found = rw is at found
+found_end (Err e) served empty empty' is found = tt
+
+-- and none where reading was at fault
+pub found_no_end : (served : Result (Option ℕ) ServeFault) (empty empty' : ℕ)
+    → IsErrOf served Read ⊎ (served ≡ Ok None) → (IsErrOf served Read → empty' ≡ empty) → IfOk served (λ found. empty' ≡ empty + ends_found found) → empty' ≡ empty
+found_no_end served empty empty' (inl why) none found = none why
+found_no_end served empty empty' (inr why) none found = let f = rw why at found in omega (arith, f)

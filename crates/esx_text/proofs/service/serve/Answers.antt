@@ -1,5 +1,5 @@
 use Rattle.std.proofs.Common.{[], arith}
-use Rattle.esx_text.proofs.SendingLemmas.{ends_ok, ends_fault, unread_once}
+use Rattle.esx_text.proofs.SendingLemmas.{ends_ok, ends_fault, found_end, found_no_end, unread_once}
 use Rattle.esx_text.proofs.ProgressLemmas.{consumes_nothing}
 use Rattle.esx_text.proofs.service.serve.Goals as goal
 
@@ -21,3 +21,10 @@ returns-clause-read g c = λ at_fault.
 
 pub returns-clause-sent : goal.returns-clause-sent
 returns-clause-sent g c = c.finish.ensures.sent c.serve_reads-served.ensures.sent
+
+pub returns-clause-found : goal.returns-clause-found
+returns-clause-found g c = found_end c.finish.result c.serve_reads-served.result _ _ c.finish.ensures.counted c.serve_reads-served.ensures.found
+
+pub returns-clause-not_found : goal.returns-clause-not_found
+returns-clause-not_found g c = λ at_fault.
+    found_no_end c.serve_reads-served.result _ _ (c.finish.ensures.read at_fault) c.serve_reads-served.ensures.not_found c.serve_reads-served.ensures.found
