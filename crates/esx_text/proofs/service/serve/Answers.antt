@@ -9,11 +9,17 @@ returns-in_default-clause-each g c = record { input = []; read = consumes_nothin
 pub returns-in_default-vec-clause-each : goal.returns-in_default-vec-clause-each
 returns-in_default-vec-clause-each g c = record { input = []; read = consumes_nothing _; each = omega arith }
 
+pub returns-in_default-clause-fault : goal.returns-in_default-clause-fault
+returns-in_default-clause-fault g c = c.give_up.ensures.at_once _ _ _ _
+
+pub returns-in_default-vec-clause-fault : goal.returns-in_default-vec-clause-fault
+returns-in_default-vec-clause-fault g c = c.give_up-in_default-vec.ensures.at_once _ _ _ _
+
 pub returns-clause-ok : goal.returns-clause-ok
 returns-clause-ok g c = ends_ok c.finish.result _ _ _ _ _ _ _ (c.finish.ensures.served _ _ _ _ _ _ c.serve_reads-served.ensures.served)
 
 pub returns-clause-fault : goal.returns-clause-fault
-returns-clause-fault g c = ends_fault c.finish.result _ _ _ _ _ _ _ (c.finish.ensures.served _ _ _ _ _ _ c.serve_reads-served.ensures.served)
+returns-clause-fault g c = ends_fault c.finish.result _ _ _ _ _ _ _ _ _ (c.finish.ensures.served _ _ _ _ _ _ c.serve_reads-served.ensures.served)
 
 pub returns-clause-read : goal.returns-clause-read
 returns-clause-read g c = λ at_fault.
