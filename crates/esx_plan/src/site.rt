@@ -3,7 +3,7 @@
 ghost use Rattle.std.specs.Prelude.{◌≡◌, ◌+◌, ◌-◌, ◌^◌, ◌<◌, ◌≤◌, ◌⊎◌, [], IfOk, IfErr, OnOk, IsErrOf};
 ghost use Rattle.esx_types.specs.Ranges.{IsConfig};
 ghost use Rattle.esx_model.specs.Console.{Session};
-ghost use Rattle.esx_text.specs.Answers.{Answers, Faults, ReadsOn, write_faults};
+ghost use Rattle.esx_text.specs.Answers.{Answers, EndsEarly, ReadsOn, write_faults};
 ghost use Rattle.esx_plan.specs.Site.{at_opening};
 
 use esx_console::Console;
@@ -25,8 +25,8 @@ pub fn serve_site<R: Source, W: Sink>(
     requires { IsConfig config }
     ensures ok { IfOk result (λ n. (after : Session) × Answers 0 n (at_opening config) after
         (R.remaining reader.old) (R.remaining reader.new) (W.contents writer.old) (W.contents writer.new)) }
-    ensures fault { IfErr result (λ e. (after : Session) × Faults e 0 (at_opening config) after
-        (R.remaining reader.old) (R.remaining reader.new) (W.contents writer.old) (W.contents writer.new)) }
+    ensures fault { IfErr result (λ e. (after : Session) × EndsEarly e 0 (at_opening config) after
+        (R.remaining reader.old) (R.remaining reader.new) (R.calls reader.old) (R.calls reader.new) (W.contents writer.old) (W.contents writer.new)) }
 
     // As of `serve`.
     ensures found { OnOk result (R.empty_reads reader.new ≡ R.empty_reads reader.old + 1) }

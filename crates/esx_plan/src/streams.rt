@@ -3,7 +3,7 @@
 ghost use Rattle.std.specs.Prelude.{◌≡◌, ◌+◌, ◌-◌, ◌^◌, ◌<◌, ◌≤◌, ◌⊎◌, [], ℕ, List, Option, IfOk, IfErr, OnOk, IsErrOf};
 ghost use Rattle.esx_types.specs.Ranges.{IsConfig};
 ghost use Rattle.esx_model.specs.Console.{Session};
-ghost use Rattle.esx_text.specs.Answers.{Answers, Faults, ReadsOn, write_faults};
+ghost use Rattle.esx_text.specs.Answers.{Answers, EndsEarly, ReadsOn, write_faults};
 ghost use Rattle.esx_plan.specs.Site.{at_opening};
 ghost use Rattle.esx_plan.specs.Streams.{ComesOut};
 
@@ -31,8 +31,8 @@ pub fn serve_buffered<R: Source, W: Sink + Drop, L: Ledger>(
     requires three { 3 ≤ blank.parts }
     ensures ok { IfOk result.0 (λ n. (after : Session) × Answers 0 n (at_opening config) after
         (R.remaining reader.old) (R.remaining reader.new) (W.contents writer) (W.contents result.1)) }
-    ensures fault { IfErr result.0 (λ e. (after : Session) × (taken : Option (List ℕ)) × Faults e 0 (at_opening config) after
-        (R.remaining reader.old) (R.remaining reader.new) (W.contents writer) taken
+    ensures fault { IfErr result.0 (λ e. (after : Session) × (taken : Option (List ℕ)) × EndsEarly e 0 (at_opening config) after
+        (R.remaining reader.old) (R.remaining reader.new) (R.calls reader.old) (R.calls reader.new) (W.contents writer) taken
         × ComesOut e taken (W.contents result.1)) }
 
     // As of `serve`.
