@@ -10,7 +10,7 @@ use Rattle.esx_reading.specs.declared.fault.TextFault.TheVariants.{NotToml, BadK
 use Rattle.esx_reading.specs.Whole.{GivesMore, GivesOn, GivesWhole, IsOfText}
 use Rattle.esx_scenario.specs.Scenarios.{IsRefused as IsNoPlan}
 use Rattle.esx_session.specs.Sessions.{IsRefused}
-use Rattle.esx_plan.specs.Files.{FailsToRead, HasText, IsNoScenario, IsNoSession, IsNoText, IsRead, ReadsWell, StopsAtEnd, StopsReading, StopsWithin, LacksSession, LacksText, Opened}
+use Rattle.esx_plan.specs.Files.{FailsToRead, HasText, IsNoScenario, IsNoSession, IsNoText, IsRead, ReadsWell, StopsReading, StopsWithin, LacksSession, LacksText, Opened}
 use Rattle.esx_plan.specs.States.{SourceState}
 
 module _ (old new : SourceState) (most : new.calls ≤ old.calls + 2 ^ 26) where
@@ -54,7 +54,7 @@ module _ (old new : SourceState) (most : new.calls ≤ old.calls + 2 ^ 26) where
   no_text (Err e) is none end cause each memory same found not_found not_found_in_memory =
       no_text_of e is (λ h. none (cc)) (λ h. end (cc)) (λ h. found (cc))
       (λ h. let on = each (cc) in
-        record { cause = cause (cc); not_found = not_found (cc); each = record { input = on.0; read = on.1; each = on.2 }; most = most })
+      record { cause = cause (cc); not_found = not_found (cc); each = record { input = on.0; read = on.1; each = on.2 }; most = most })
       (λ h. record { given = memory (cc); not_found = not_found_in_memory (cc) }) (λ other. same (λ h. other (cc)))
 
   -- a text that was read
