@@ -2,7 +2,7 @@
 use Rattle.std.proofs.Common.{◌≡◌, ◌⊎◌, inl, inr, ℕ, List, Option, Result, Ok, Err, refl, arith}
 use Rattle.std.specs.Prelude.{◌+◌, ◌^◌, ◌≤◌, length, IsUtf8}
 use Rattle.std.specs.Io.KnownBytes.{Consumes}
-use Rattle.std.specs.Result.{IfErr, IfOk, IsErrOf}
+use Rattle.std.specs.Result.{IfErr, IfOk, IsErrOf, OnOk}
 use Rattle.std.specs.IoError.{error_kind}
 use Rattle.std.specs.declared.io.Error.{Error}
 use Rattle.esx_reading.specs.declared.fault.TextFault.{TextFault}
@@ -10,29 +10,32 @@ use Rattle.esx_reading.specs.declared.fault.TextFault.TheVariants.{NotToml, BadK
 use Rattle.esx_reading.specs.Whole.{GivesMore, GivesOn, GivesWhole, IsOfText}
 use Rattle.esx_scenario.specs.Scenarios.{IsRefused as IsNoPlan}
 use Rattle.esx_session.specs.Sessions.{IsRefused}
-use Rattle.esx_plan.specs.Files.{FailsToRead, HasText, IsNoScenario, IsNoSession, IsNoText, IsRead, ReadsWell, StopsReading, LacksSession, LacksText, Opened}
+use Rattle.esx_plan.specs.Files.{FailsToRead, HasText, IsNoScenario, IsNoSession, IsNoText, IsRead, ReadsWell, StopsReading, StopsWithin, LacksSession, LacksText, Opened}
 use Rattle.esx_plan.specs.States.{SourceState}
 
 module _ (old new : SourceState) (most : new.calls ≤ old.calls + 2 ^ 26) where
   no_text_of : (e : TextFault) → IsOfText e
       → (e ≡ NotText → (bytes : List ℕ) × GivesWhole old.remaining new.remaining bytes × (IsUtf8 bytes → ⊥))
       → (e ≡ NotText → (bytes : List ℕ) × GivesWhole old.remaining new.remaining bytes × (new.calls ≤ old.calls + length bytes + 1))
-      → (e ≡ Read → FailsToRead old new) → (e ≡ OutOfMemory → GivesOn old.remaining new.remaining old.calls new.calls)
+      → (e ≡ NotText → new.empty_reads ≡ old.empty_reads + 1)
+      → (e ≡ Read → FailsToRead old new) → (e ≡ OutOfMemory → StopsWithin old new)
       → ((e ≡ Read → ⊥) → new.failures ≡ old.failures) → IsNoText old new e
-  no_text_of NotToml is none end fails memory same = is
-  no_text_of (BadKey path) is none end fails memory same = is
-  no_text_of (BadLine n) is none end fails memory same = is
-  no_text_of NotText is none end fails memory same =
+  no_text_of NotToml is none end found fails memory same = is
+  no_text_of (BadKey path) is none end found fails memory same = is
+  no_text_of (BadLine n) is none end found fails memory same = is
+  no_text_of NotText is none end found fails memory same =
       let at_end = end refl in
-      (none refl, record { failures = same (λ h. cc); each = record { input = at_end.0; read = at_end.1.given; each = at_end.2 }; most = most })
-  no_text_of (Differs k) is none end fails memory same = is
-  no_text_of Read is none end fails memory same = fails refl
-  no_text_of Write is none end fails memory same = is
-  no_text_of OutOfMemory is none end fails memory same =
-      let on = memory refl in
+      let whole = none refl in
+      ((whole.0, record { given = whole.1; found = found refl }, whole.2), record { failures = same (λ h. cc); each = record { input = at_end.0; read = at_end.1.given; each = at_end.2 }; most = most })
+  no_text_of (Differs k) is none end found fails memory same = is
+  no_text_of Read is none end found fails memory same = fails refl
+  no_text_of Write is none end found fails memory same = is
+  no_text_of OutOfMemory is none end found fails memory same =
+      let stops = memory refl in
+      let on = stops.given in
       record {
         read = record { failures = same (λ h. cc); each = record { input = on.bytes; read = on.given; each = omega (arith, on.each) }; most = most };
-        where_it_stops = inl on;
+        where_it_stops = inl stops;
       }
 
   -- a text that could not be read
@@ -43,19 +46,23 @@ module _ (old new : SourceState) (most : new.calls ≤ old.calls + 2 ^ 26) where
       ⊎ ((new.failures ≡ old.failures) × ((new.calls ≡ old.calls + 2 ^ 26) ⊎ GivesMore old.remaining new.remaining)))
       → (IsErrOf r Read → (bytes : List ℕ) × Consumes old.remaining new.remaining bytes × (new.calls ≤ old.calls + length bytes + 1))
       → (IsErrOf r OutOfMemory → GivesOn old.remaining new.remaining old.calls new.calls)
-      → ((IsErrOf r Read → ⊥) → new.failures ≡ old.failures) → IfErr r (IsNoText old new)
-  no_text (Ok v) is none end cause each memory same = tt
-  no_text (Err e) is none end cause each memory same =
-      no_text_of e is (λ h. none (cc)) (λ h. end (cc))
-      (λ h. let on = each (cc) in record { cause = cause (cc); each = record { input = on.0; read = on.1; each = on.2 }; most = most })
-      (λ h. memory (cc)) (λ other. same (λ h. other (cc)))
+      → ((IsErrOf r Read → ⊥) → new.failures ≡ old.failures)
+      → (IsErrOf r NotText → new.empty_reads ≡ old.empty_reads + 1)
+      → (IsErrOf r Read → new.empty_reads ≡ old.empty_reads)
+      → (IsErrOf r OutOfMemory → new.empty_reads ≡ old.empty_reads) → IfErr r (IsNoText old new)
+  no_text (Ok v) is none end cause each memory same found not_found not_found_in_memory = tt
+  no_text (Err e) is none end cause each memory same found not_found not_found_in_memory =
+      no_text_of e is (λ h. none (cc)) (λ h. end (cc)) (λ h. found (cc))
+      (λ h. let on = each (cc) in
+      record { cause = cause (cc); not_found = not_found (cc); each = record { input = on.0; read = on.1; each = on.2 }; most = most })
+      (λ h. record { given = memory (cc); not_found = not_found_in_memory (cc) }) (λ other. same (λ h. other (cc)))
 
   -- a text that was read
   pub is_text : {T : Type 0} (r : Result T TextFault) (bytes : T → List ℕ) → IfOk r (λ v. GivesWhole old.remaining new.remaining (bytes v))
       → IfOk r (λ v. new.calls ≤ old.calls + length (bytes v) + 1) → ((IsErrOf r Read → ⊥) → new.failures ≡ old.failures)
-      → IfOk r (λ v. IsRead old new (bytes v))
-  is_text (Ok v) bytes given calls same = record { given = given; failures = same (λ h. cc); calls = calls; most = most }
-  is_text (Err e) bytes given calls same = tt
+      → OnOk r (new.empty_reads ≡ old.empty_reads + 1) → IfOk r (λ v. IsRead old new (bytes v))
+  is_text (Ok v) bytes given calls same found = record { given = given; failures = same (λ h. cc); calls = calls; found = found; most = most }
+  is_text (Err e) bytes given calls same found = tt
 
 module _ (old new : SourceState) where
   -- it has no scenario either
@@ -85,7 +92,7 @@ module _ (old new : SourceState) where
     read_well : StopsReading old new
     read_well = record {
       read = record { failures = given.failures; each = record { input = text; read = given.given.given; each = given.calls }; most = given.most };
-      where_it_stops = inr (text, given.given);
+      where_it_stops = inr (text, record { given = given.given; found = given.found });
     }
 
     no_plan_of : (e : TextFault) → IsNoPlan text e → IsNoScenario old new e

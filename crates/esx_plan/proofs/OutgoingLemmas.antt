@@ -10,7 +10,7 @@ use Rattle.std.proofs.lemmas.Grind.{common_steps}
 use Rattle.esx_model.specs.Console.{Session}
 use Rattle.esx_text.specs.declared.fault.ServeFault.{ServeFault}
 use Rattle.esx_text.specs.declared.fault.ServeFault.TheVariants.{Read, Write, OutOfMemory}
-use Rattle.esx_text.specs.Answers.{Answers, Faults}
+use Rattle.esx_text.specs.Answers.{Answers, EndsEarly}
 use Rattle.esx_plan.specs.Streams.{ComesOut, Sends}
 
 pub appends_nothing : (a : Option (List ℕ)) → Appends a a []
@@ -90,23 +90,23 @@ comes_out_whole Write a = ([], appends_nothing a)
 comes_out_whole OutOfMemory a = refl
 
 -- with nothing waiting at both ends of a run
-pub comes_out : (fault : ServeFault) (caller : ℕ) (session : Session) (unread left : Option (List ℕ)) (a b : Option (List ℕ)) (first last : List ℕ)
+pub comes_out : (fault : ServeFault) (caller : ℕ) (session : Session) (unread left : Option (List ℕ)) (calls calls' : ℕ) (a b : Option (List ℕ)) (first last : List ℕ)
     → first ≡ [] → ((fault ≡ Write → ⊥) → last ≡ [])
-    → (after : Session) × Faults fault caller session after unread left (append_known a first) (append_known b last)
-    → (after : Session) × (taken : Option (List ℕ)) × Faults fault caller session after unread left a taken × ComesOut fault taken b
-comes_out Read caller session unread left a b first last e f (after, s) =
+    → (after : Session) × EndsEarly fault caller session after unread left calls calls' (append_known a first) (append_known b last)
+    → (after : Session) × (taken : Option (List ℕ)) × EndsEarly fault caller session after unread left calls calls' a taken × ComesOut fault taken b
+comes_out Read caller session unread left calls calls' a b first last e f (after, s) =
     (after, b, rw (none_wait a first e) at (rw (none_wait b last (f (λ h. cc))) at s), refl)
-comes_out Write caller session unread left a b first last e f (after, s) =
+comes_out Write caller session unread left calls calls' a b first last e f (after, s) =
     (after, append_known b last, rw (none_wait a first e) at s, (last, appends_known b last))
-comes_out OutOfMemory caller session unread left a b first last e f (after, s) =
+comes_out OutOfMemory caller session unread left calls calls' a b first last e f (after, s) =
     (after, b, rw (none_wait a first e) at (rw (none_wait b last (f (λ h. cc))) at s), refl)
 
-pub fault_comes_out : (r : Result ℕ ServeFault) (caller : ℕ) (session : Session) (unread left : Option (List ℕ)) (a b : Option (List ℕ)) (first last : List ℕ)
+pub fault_comes_out : (r : Result ℕ ServeFault) (caller : ℕ) (session : Session) (unread left : Option (List ℕ)) (calls calls' : ℕ) (a b : Option (List ℕ)) (first last : List ℕ)
     → first ≡ [] → ((IsErrOf r Write → ⊥) → last ≡ [])
-    → IfErr r (λ e. (after : Session) × Faults e caller session after unread left (append_known a first) (append_known b last))
-    → IfErr r (λ e. (after : Session) × (taken : Option (List ℕ)) × Faults e caller session after unread left a taken × ComesOut e taken b)
-fault_comes_out (Ok n) caller session unread left a b first last e f s = tt
-fault_comes_out (Err d) caller session unread left a b first last e f s = comes_out d caller session unread left a b first last e (λ other. f (λ h. other (cc))) s
+    → IfErr r (λ e. (after : Session) × EndsEarly e caller session after unread left calls calls' (append_known a first) (append_known b last))
+    → IfErr r (λ e. (after : Session) × (taken : Option (List ℕ)) × EndsEarly e caller session after unread left calls calls' a taken × ComesOut e taken b)
+fault_comes_out (Ok n) caller session unread left calls calls' a b first last e f s = tt
+fault_comes_out (Err d) caller session unread left calls calls' a b first last e f s = comes_out d caller session unread left calls calls' a b first last e (λ other. f (λ h. other (cc))) s
 
 pub answers_come_out : (r : Result ℕ ServeFault) (caller : ℕ) (session : Session) (unread left : Option (List ℕ)) (a b : Option (List ℕ)) (first last : List ℕ)
     → first ≡ [] → ((IsErrOf r Write → ⊥) → last ≡ [])

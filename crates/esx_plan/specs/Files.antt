@@ -16,7 +16,7 @@ use Rattle.esx_plan.specs.States.{SourceState}
 use Rattle.esx_plan.specs.Words.{asked_of}
 use Rattle.esx_plan.specs.declared.words.Asked.{Asked}
 
--- All bytes of a file were read, and no read failed. There were at most 2^26 reads, and at most one more than bytes.
+-- All bytes of a file were read, and no read failed. There were at most 2^26 reads, and at most one more than bytes. One alone found the end.
 pub record IsRead (old new : SourceState) (bytes : List ℕ) : Type 0 where
   pub given : GivesWhole old.remaining new.remaining bytes
   pub failures : new.failures ≡ old.failures
@@ -24,7 +24,7 @@ pub record IsRead (old new : SourceState) (bytes : List ℕ) : Type 0 where
   pub found : new.empty_reads ≡ old.empty_reads + 1
   pub most : new.calls ≤ old.calls + 2 ^ 26
 
--- A read failed, or none of 2^26 found the end, or there were more bytes than a file may have.
+-- A read failed, or none of 2^26 found the end, or there were more bytes than a file may have. No read found the end.
 pub record FailsToRead (old new : SourceState) : Type 0 where
   pub cause : (new.failures ≡ old.failures + 1)
       ⊎ ((new.failures ≡ old.failures) × ((new.calls ≡ old.calls + 2 ^ 26) ⊎ GivesMore old.remaining new.remaining))
@@ -38,14 +38,24 @@ pub record ReadsWell (old new : SourceState) : Type 0 where
   pub each : ReadsOn old.remaining new.remaining old.calls new.calls
   pub most : new.calls ≤ old.calls + 2 ^ 26
 
--- The same where memory ran out: all bytes were read, or not all, and each read gave some.
+-- some bytes were read, and not all: each read gave some
+pub record StopsWithin (old new : SourceState) : Type 0 where
+  pub given : GivesOn old.remaining new.remaining old.calls new.calls
+  pub not_found : new.empty_reads ≡ old.empty_reads
+
+-- all these bytes were read, and one read alone found the end
+pub record StopsAtEnd (old new : SourceState) (bytes : List ℕ) : Type 0 where
+  pub given : GivesWhole old.remaining new.remaining bytes
+  pub found : new.empty_reads ≡ old.empty_reads + 1
+
+-- The same where memory ran out: all bytes were read, or not all.
 pub record StopsReading (old new : SourceState) : Type 0 where
   pub read : ReadsWell old new
-  pub where_it_stops : GivesOn old.remaining new.remaining old.calls new.calls ⊎ ((bytes : List ℕ) × GivesWhole old.remaining new.remaining bytes)
+  pub where_it_stops : StopsWithin old new ⊎ ((bytes : List ℕ) × StopsAtEnd old new bytes)
 
 -- What a fault tells of a file: all its bytes were read and are no text, or reading failed, or memory ran out where no read failed.
 abbrev pub IsNoText : SourceState → SourceState → TextFault → Type 0
-IsNoText old new NotText = ((bytes : List ℕ) × GivesWhole old.remaining new.remaining bytes × (IsUtf8 bytes → ⊥)) × ReadsWell old new
+IsNoText old new NotText = ((bytes : List ℕ) × StopsAtEnd old new bytes × (IsUtf8 bytes → ⊥)) × ReadsWell old new
 IsNoText old new Read = FailsToRead old new
 IsNoText old new OutOfMemory = StopsReading old new
 IsNoText old new _ = ⊥

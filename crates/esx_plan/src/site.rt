@@ -1,9 +1,9 @@
 //! One site, served from its opening on.
 
-ghost use Rattle.std.specs.Prelude.{◌≡◌, ◌+◌, ◌-◌, ◌^◌, ◌<◌, ◌≤◌, ◌⊎◌, [], IfOk, IfErr, IsErrOf};
+ghost use Rattle.std.specs.Prelude.{◌≡◌, ◌+◌, ◌-◌, ◌^◌, ◌<◌, ◌≤◌, ◌⊎◌, [], IfOk, IfErr, OnOk, IsErrOf};
 ghost use Rattle.esx_types.specs.Ranges.{IsConfig};
 ghost use Rattle.esx_model.specs.Console.{Session};
-ghost use Rattle.esx_text.specs.Answers.{Answers, Faults, ReadsOn, write_faults};
+ghost use Rattle.esx_text.specs.Answers.{Answers, EndsEarly, ReadsOn, write_faults};
 ghost use Rattle.esx_plan.specs.Site.{at_opening};
 
 use esx_console::Console;
@@ -25,10 +25,13 @@ pub fn serve_site<R: Source, W: Sink>(
     requires { IsConfig config }
     ensures ok { IfOk result (λ n. (after : Session) × Answers 0 n (at_opening config) after
         (R.remaining reader.old) (R.remaining reader.new) (W.contents writer.old) (W.contents writer.new)) }
-    ensures fault { IfErr result (λ e. (after : Session) × Faults e 0 (at_opening config) after
-        (R.remaining reader.old) (R.remaining reader.new) (W.contents writer.old) (W.contents writer.new)) }
+    ensures fault { IfErr result (λ e. (after : Session) × EndsEarly e 0 (at_opening config) after
+        (R.remaining reader.old) (R.remaining reader.new) (R.calls reader.old) (R.calls reader.new) (W.contents writer.old) (W.contents writer.new)) }
 
     // As of `serve`.
+    ensures found { OnOk result (R.empty_reads reader.new ≡ R.empty_reads reader.old + 1) }
+    ensures not_found { IsErrOf result ServeFault.Read → R.empty_reads reader.new ≡ R.empty_reads reader.old }
+    ensures ends { R.empty_reads reader.new ≤ R.empty_reads reader.old + 1 }
     ensures reads { R.calls reader.new ≤ R.calls reader.old + 2 ^ 26 }
     ensures each { ReadsOn (R.remaining reader.old) (R.remaining reader.new) (R.calls reader.old) (R.calls reader.new) }
     ensures read { IsErrOf result ServeFault.Read

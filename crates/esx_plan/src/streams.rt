@@ -1,9 +1,9 @@
 //! A site, served between two streams.
 
-ghost use Rattle.std.specs.Prelude.{◌≡◌, ◌+◌, ◌-◌, ◌^◌, ◌<◌, ◌≤◌, ◌⊎◌, [], ℕ, List, Option, IfOk, IfErr, IsErrOf};
+ghost use Rattle.std.specs.Prelude.{◌≡◌, ◌+◌, ◌-◌, ◌^◌, ◌<◌, ◌≤◌, ◌⊎◌, [], ℕ, List, Option, IfOk, IfErr, OnOk, IsErrOf};
 ghost use Rattle.esx_types.specs.Ranges.{IsConfig};
 ghost use Rattle.esx_model.specs.Console.{Session};
-ghost use Rattle.esx_text.specs.Answers.{Answers, Faults, ReadsOn, write_faults};
+ghost use Rattle.esx_text.specs.Answers.{Answers, EndsEarly, ReadsOn, write_faults};
 ghost use Rattle.esx_plan.specs.Site.{at_opening};
 ghost use Rattle.esx_plan.specs.Streams.{ComesOut};
 
@@ -31,11 +31,14 @@ pub fn serve_buffered<R: Source, W: Sink + Drop, L: Ledger>(
     requires three { 3 ≤ blank.parts }
     ensures ok { IfOk result.0 (λ n. (after : Session) × Answers 0 n (at_opening config) after
         (R.remaining reader.old) (R.remaining reader.new) (W.contents writer) (W.contents result.1)) }
-    ensures fault { IfErr result.0 (λ e. (after : Session) × (taken : Option (List ℕ)) × Faults e 0 (at_opening config) after
-        (R.remaining reader.old) (R.remaining reader.new) (W.contents writer) taken
+    ensures fault { IfErr result.0 (λ e. (after : Session) × (taken : Option (List ℕ)) × EndsEarly e 0 (at_opening config) after
+        (R.remaining reader.old) (R.remaining reader.new) (R.calls reader.old) (R.calls reader.new) (W.contents writer) taken
         × ComesOut e taken (W.contents result.1)) }
 
     // As of `serve`.
+    ensures found { OnOk result.0 (R.empty_reads reader.new ≡ R.empty_reads reader.old + 1) }
+    ensures not_found { IsErrOf result.0 ServeFault.Read → R.empty_reads reader.new ≡ R.empty_reads reader.old }
+    ensures ends { R.empty_reads reader.new ≤ R.empty_reads reader.old + 1 }
     ensures reads { R.calls reader.new ≤ R.calls reader.old + 2 ^ 26 }
     ensures each { ReadsOn (R.remaining reader.old) (R.remaining reader.new) (R.calls reader.old) (R.calls reader.new) }
     ensures read { IsErrOf result.0 ServeFault.Read

@@ -1,5 +1,5 @@
 -- How one line is answered.
-use Rattle.std.proofs.Common.{◌≡◌, ℕ, Bool, true, false, List, arith, ◌↔◌, ◌<◌, length, Option}
+use Rattle.std.proofs.Common.{◌≡◌, ℕ, Bool, true, false, List, arith, ◌↔◌, ◌<◌, length, Option, inl}
 use Rattle.std.specs.Io.KnownBytes.{Appends}
 use Rattle.std.specs.Str.{IsUtf8}
 use Rattle.std.proofs.lemmas.Str.{IsUtf8-from_ascii}
@@ -9,12 +9,16 @@ use Rattle.esx_model.specs.Console.{Session, next_reply, lined}
 use Rattle.esx_writing.specs.Writing.{WritesFront}
 use Rattle.esx_replies.specs.Replies.{reply_text}
 use Rattle.esx_text.specs.Lines.{IsSilent, Keeps}
-use Rattle.esx_text.specs.Answers.{IsAsked, IsAnswered}
+use Rattle.esx_text.specs.Answers.{IsAsked, IsAnswered, MayWantMemory}
 use Rattle.esx_text.specs.Answers.IsAnswered.{asked}
 use Rattle.esx_words.proofs.CommandLemmas.{ascii_command}
 
 pub asked_is_utf8 : (line : List ℕ) (call : Call) → IsAsked line call → IsUtf8 line
 asked_is_utf8 line call is = IsUtf8-from_ascii line (ascii_command line call is.command)
+
+-- any call may want memory
+pub asked_may_want : (line : List ℕ) (call : Call) → IsAsked line call → MayWantMemory line
+asked_may_want line call is = record { short = is.short; wants = inl (call, is) }
 
 pub asked_whole : (n caller : ℕ) (before after : Session) (line : List ℕ) (call : Call) (reply : Reply) (old new : Option (List ℕ))
     → IsAsked line call → reply ≡ next_reply before call → after ≡ lined before caller call → Appends old new (reply_text reply)

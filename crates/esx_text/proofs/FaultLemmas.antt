@@ -9,7 +9,7 @@ use Rattle.std.proofs.lemmas.List.Elements.{All-nil, All-cons, All-append, All-h
 use Rattle.esx_model.specs.Console.{Session}
 use Rattle.esx_text.specs.declared.fault.ServeFault.{ServeFault}
 use Rattle.esx_text.specs.declared.fault.ServeFault.TheVariants.{Read, Write, OutOfMemory}
-use Rattle.esx_text.specs.Lines.{HasNoFeed, EndsIn, line_of, last_line, Keeps, Held}
+use Rattle.esx_text.specs.Lines.{HasNoFeed, EndsIn, line_of, Keeps, Held}
 use Rattle.esx_text.specs.Answers.{IsAnswered, IsServed, Progress, Stops, StopsLast}
 use Rattle.esx_writing.proofs.WritingLemmas.{appends_more}
 use Rattle.esx_text.proofs.LineLemmas.{ended_keeps, last_keeps}
@@ -114,11 +114,13 @@ stops_line OutOfMemory caller before known input count line now after new new' l
       split = ends_then input p.ended p.rest later more.ended more.rest p.split more.ends;
       stop = record {
         done = map line_of p.ended;
-        others = line_of p.rest ∷ map line_of more.ended;
+        line = line_of p.rest;
+        others = map line_of more.ended;
         text = p.text;
         lines_are = lines_then p.ended p.rest more.ended;
+        may_want = s.1;
         answered = rw s.0 p.answered;
-        written = rw append-nil at (appends_more known new new' p.text [] p.written s.1);
+        written = rw append-nil at (appends_more known new new' p.text [] p.written s.2);
       };
     }
 
@@ -160,11 +162,13 @@ stops_last OutOfMemory caller before known input count line now after new new' s
       was_read = λ is. absurd (cc);
       stop = record {
         done = map line_of p.ended;
-        others = last_line p.rest;
+        line = p.rest;
+        others = [];
         text = p.text;
-        lines_are = refl;
+        lines_are = ap (λ v. map line_of p.ended ++ v) (some_held line.front line.long p.rest some p.holds);
+        may_want = s.1;
         answered = rw s.0 p.answered;
-        written = rw append-nil at (appends_more known new new' p.text [] p.written s.1);
+        written = rw append-nil at (appends_more known new new' p.text [] p.written s.2);
       };
     }
 

@@ -1,14 +1,14 @@
 -- What stands after the answers that wait were handed on, and after that failed.
-use Rattle.std.proofs.Common.{◌≡◌, ℕ, List, [], ◌+◌, ◌⊎◌, inl, inr, refl, arith, sym, ◌∙◌, append-nil, Option, None, Some, Result, Ok, Err, map}
+use Rattle.std.proofs.Common.{◌≡◌, ℕ, List, [], ◌+◌, ◌⊎◌, inl, inr, refl, arith, ◌∙◌, Option, None, Some, Result, Ok, Err, map}
 use Rattle.std.specs.Io.KnownBytes.{Keeps, Appends, Consumes}
 use Rattle.std.specs.Option.{ok_or}
-use Rattle.std.specs.Result.{IfOk, IfErr, IsErrAnd, IsErrOf}
+use Rattle.std.specs.Result.{IfOk, IfErr, OnOk, IsErrAnd, IsErrOf}
 use Rattle.std.proofs.lemmas.List.Elements.{All-nil}
 use Rattle.esx_model.specs.Console.{Session}
 use Rattle.esx_text.specs.declared.fault.ServeFault.{ServeFault}
 use Rattle.esx_text.specs.declared.fault.ServeFault.TheVariants.{Read, Write, OutOfMemory}
 use Rattle.esx_text.specs.Lines.{HasNoFeed, line_of, lines, Held}
-use Rattle.esx_text.specs.Answers.{AreAnswered, Progress, Answers, First, Stops, Faults, Ends, Reaches, read_faults}
+use Rattle.esx_text.specs.Answers.{Progress, Answers, WantsMemory, Stops, Faults, EndsEarly, Ends, Reaches, ends_found, read_faults}
 use Rattle.esx_writing.proofs.WritingLemmas.{appends_nothing}
 use Rattle.esx_text.proofs.ProgressLemmas.{consumes_nothing}
 
@@ -42,27 +42,17 @@ answers_kept caller count before after unread left old new new' k a = record {
   written = appends_kept old new new' a.text a.written k;
 }
 
-first_kept : (caller : ℕ) (before after : Session) (all : List (List ℕ)) (old new new' : Option (List ℕ))
-    → Keeps new new' → First caller before after all old new → First caller before after all old new'
-first_kept caller before after all old new new' k f = record {
-  done = f.done;
-  others = f.others;
-  text = f.text;
-  lines_are = f.lines_are;
-  answered = f.answered;
-  written = appends_kept old new new' f.text f.written k;
-}
-
--- all of the lines were answered
-all_done : (caller : ℕ) (before after : Session) (all : List (List ℕ)) (text : List ℕ) (old new : Option (List ℕ))
-    → AreAnswered 1 caller before all text after → Appends old new text → First caller before after all old new
-all_done caller before after all text old new answered written = record {
-  done = all;
-  others = [];
-  text = text;
-  lines_are = sym (append-nil all);
-  answered = answered;
-  written = written;
+wants_kept : (caller : ℕ) (before after : Session) (all : List (List ℕ)) (old new new' : Option (List ℕ))
+    → Keeps new new' → WantsMemory caller before after all old new → WantsMemory caller before after all old new'
+wants_kept caller before after all old new new' k w = record {
+  done = w.done;
+  line = w.line;
+  others = w.others;
+  text = w.text;
+  lines_are = w.lines_are;
+  may_want = w.may_want;
+  answered = w.answered;
+  written = appends_kept old new new' w.text w.written k;
 }
 
 pub read_kept : (caller : ℕ) (before after : Session) (unread left old new new' : Option (List ℕ))
@@ -82,7 +72,7 @@ memory_kept caller before after unread left old new new' k f = record {
   input = f.input;
   read = f.read;
   stops = elim f.stops [
-    | inl s ↦ inl (record { ended = s.ended; rest = s.rest; split = s.split; stop = first_kept caller before after (map line_of s.ended) old new new' k s.stop })
+    | inl s ↦ inl (record { ended = s.ended; rest = s.rest; split = s.split; stop = wants_kept caller before after (map line_of s.ended) old new new' k s.stop })
     | inr (end, s) ↦ inr (
       end,
       record {
@@ -90,7 +80,7 @@ memory_kept caller before after unread left old new new' k f = record {
         rest = s.rest;
         split = s.split;
         was_read = s.was_read;
-        stop = first_kept caller before after (lines s.ended s.rest) old new new' k s.stop;
+        stop = wants_kept caller before after (lines s.ended s.rest) old new new' k s.stop;
       },
     )
   ];
@@ -119,7 +109,7 @@ progress_unsent caller before known input count line now new new' k p = record {
   ended = p.ended;
   rest = p.rest;
   split = p.split;
-  stop = inr (all_done caller before now (map line_of p.ended) p.text known new' p.answered (appends_kept known new new' p.text p.written k));
+  stop = inr (inl (p.text, p.answered, appends_kept known new new' p.text p.written k));
 }
 
 pub answers_unsent : (caller count : ℕ) (before after : Session) (unread left old new new' : Option (List ℕ))
@@ -136,7 +126,7 @@ answers_unsent caller count before after unread left old new new' k a =
           rest = s.rest;
           split = s.split;
           was_read = λ is. absurd (cc);
-          stop = inr (all_done caller before after (lines s.ended s.rest) a.text old new' s.answered (appends_kept old new new' a.text a.written k));
+          stop = inr (inl (a.text, s.answered, appends_kept old new new' a.text a.written k));
         },
       );
     }
@@ -151,7 +141,7 @@ read_unsent caller before after unread left old new new' k f = record {
       ended = s.ended;
       rest = s.rest;
       split = s.split;
-      stop = inr (all_done caller before after (map line_of s.ended) s.stop.0 old new' s.stop.1 (appends_kept old new new' s.stop.0 s.stop.2 k));
+      stop = inr (inl (s.stop.0, s.stop.1, appends_kept old new new' s.stop.0 s.stop.2 k));
     })
     | inr (end, s) ↦ absurd (s.was_read refl)
   ];
@@ -167,7 +157,7 @@ memory_unsent caller before after unread left old new new' k f = record {
       ended = s.ended;
       rest = s.rest;
       split = s.split;
-      stop = inr (first_kept caller before after (map line_of s.ended) old new new' k s.stop);
+      stop = inr (inr (wants_kept caller before after (map line_of s.ended) old new new' k s.stop));
     })
     | inr (end, s) ↦ inr (
       end,
@@ -176,24 +166,36 @@ memory_unsent caller before after unread left old new new' k f = record {
         rest = s.rest;
         split = s.split;
         was_read = λ is. absurd (cc);
-        stop = inr (first_kept caller before after (lines s.ended s.rest) old new new' k s.stop);
+        stop = inr (inr (wants_kept caller before after (lines s.ended s.rest) old new new' k s.stop));
       },
     )
   ];
 }
 
--- no line was served
-pub at_once : (caller : ℕ) (before : Session) (unread known : Option (List ℕ)) → Faults OutOfMemory caller before before unread unread known known
-at_once caller before unread known = record {
+-- nothing was read
+pub at_once : (caller : ℕ) (before : Session) (unread : Option (List ℕ)) (calls : ℕ) (known new : Option (List ℕ))
+    → Keeps known new → EndsEarly OutOfMemory caller before before unread unread calls calls known new
+at_once caller before unread calls known new k = inl (record {
+  memory = refl;
+  session = refl;
+  no_read = refl;
+  nothing_read = refl;
+  nothing_written = appends_kept known known new [] (appends_nothing known) k;
+})
+
+-- nor handed on
+pub unsent_at_once : (caller : ℕ) (before : Session) (unread : Option (List ℕ)) (calls : ℕ) (known new : Option (List ℕ))
+    → Keeps known new → EndsEarly Write caller before before unread unread calls calls known new
+unsent_at_once caller before unread calls known new k = inr (record {
   input = [];
   read = consumes_nothing unread;
   stops = inl (record {
     ended = [];
     rest = [];
     split = record { whole = refl; each = All-nil HasNoFeed; last = All-nil (λ b. b ≡ 10 → ⊥) };
-    stop = record { done = []; others = []; text = []; lines_are = refl; answered = (refl, refl); written = appends_nothing known };
+    stop = inr (inl ([], (refl, refl), appends_kept known known new [] (appends_nothing known) k));
   });
-}
+})
 
 -- the exit of a `?` that hands on the fault as it is
 pub reaches_err : (r : Result (Option ℕ) ServeFault) (e : ServeFault) (caller : ℕ) (before after : Session) (unread left old new : Option (List ℕ))
@@ -223,10 +225,10 @@ pub ends_ok : (r : Result ℕ ServeFault) (caller : ℕ) (before after : Session
 ends_ok (Ok n) caller before after unread left old new f = f
 ends_ok (Err e) caller before after unread left old new f = tt
 
-pub ends_fault : (r : Result ℕ ServeFault) (caller : ℕ) (before after : Session) (unread left old new : Option (List ℕ))
-    → Ends r caller before after unread left old new → IfErr r (λ e. Faults e caller before after unread left old new)
-ends_fault (Ok n) caller before after unread left old new f = tt
-ends_fault (Err e) caller before after unread left old new f = f
+pub ends_fault : (r : Result ℕ ServeFault) (caller : ℕ) (before after : Session) (unread left : Option (List ℕ)) (calls calls' : ℕ) (old new : Option (List ℕ))
+    → Ends r caller before after unread left old new → IfErr r (λ e. EndsEarly e caller before after unread left calls calls' old new)
+ends_fault (Ok n) caller before after unread left calls calls' old new f = tt
+ends_fault (Err e) caller before after unread left calls calls' old new f = inr f
 
 -- reading is at fault once, or the input had no end
 pub unread_once : (r : Result (Option ℕ) ServeFault) (failures failures' calls calls' : ℕ)
@@ -240,3 +242,21 @@ unread_once (Err Write) failures failures' calls calls' (inl why) f e = absurd (
 unread_once (Err Write) failures failures' calls calls' (inr why) f e = absurd (cc)
 unread_once (Err OutOfMemory) failures failures' calls calls' (inl why) f e = absurd (cc)
 unread_once (Err OutOfMemory) failures failures' calls calls' (inr why) f e = absurd (cc)
+
+-- a number of lines comes of one
+pub counted : (served : Result (Option ℕ) ServeFault) (found : Option ℕ) (result : Result ℕ ServeFault)
+    → served ≡ Ok found → result ≡ ok_or found Read → IfOk result (λ count. served ≡ Ok (Some count))
+counted served None result is was = rw was tt
+counted served (Some n) result is was = rw was is
+
+-- one read gave nothing where the end was found
+pub found_end : (r : Result ℕ ServeFault) (served : Result (Option ℕ) ServeFault) (empty empty' : ℕ)
+    → IfOk r (λ count. served ≡ Ok (Some count)) → IfOk served (λ found. empty' ≡ empty + ends_found found) → OnOk r (empty' ≡ empty + 1)
+found_end (Ok n) served empty empty' is found = rw is at found
+found_end (Err e) served empty empty' is found = tt
+
+-- and none where reading was at fault
+pub found_no_end : (served : Result (Option ℕ) ServeFault) (empty empty' : ℕ)
+    → IsErrOf served Read ⊎ (served ≡ Ok None) → (IsErrOf served Read → empty' ≡ empty) → IfOk served (λ found. empty' ≡ empty + ends_found found) → empty' ≡ empty
+found_no_end served empty empty' (inl why) none found = none why
+found_no_end served empty empty' (inr why) none found = let f = rw why at found in omega (arith, f)

@@ -5,7 +5,7 @@ use Rattle.esx_events.specs.declared.call.Call.{Call}
 use Rattle.esx_model.specs.Console.{Session, next_reply, lined}
 use Rattle.esx_text.specs.declared.fault.ServeFault.{ServeFault}
 use Rattle.esx_text.specs.declared.fault.ServeFault.TheVariants.{Read, Write, OutOfMemory}
-use Rattle.esx_words.specs.Commands.{Spells}
+use Rattle.esx_words.specs.Commands.{Spells, MayTakeMemory}
 use Rattle.esx_replies.specs.Replies.{reply_text}
 use Rattle.esx_session.specs.Sessions.{session_text, logged}
 use Rattle.esx_text.specs.Lines.{EndsIn, lines, line_of, IsSilent, Held, Holds}
@@ -15,6 +15,11 @@ use Rattle.esx_writing.specs.Writing.{WritesFront}
 pub record IsAsked (line : List ℕ) (call : Call) : Type 0 where
   pub short : length line ≤ 16384
   pub command : Spells line call
+
+-- Memory may be taken for the line, which is not too long: it is a command's, or begins as one for whose words it is taken.
+pub record MayWantMemory (line : List ℕ) : Type 0 where
+  pub short : length line ≤ 16384
+  pub wants : ((call : Call) × IsAsked line call) ⊎ MayTakeMemory line
 
 -- the line that asks for the session so far
 abbrev pub session_line : List ℕ
@@ -42,12 +47,12 @@ AreAnswered n caller session (line ∷ others) text after =
     (first rest : List ℕ) × (middle : Session) × IsAnswered n caller session line first middle
     × AreAnswered (n + 1) caller middle others rest after × (text ≡ first ++ rest)
 
--- A line was served: its answer was written, or a front of it, or nothing happened.
+-- A line was served: its answer was written, or a front of it, or memory was wanting for it and nothing happened.
 abbrev pub IsServed : ℕ → ℕ → Session → List ℕ → Session → Option (List ℕ) → Option (List ℕ) → Result Unit ServeFault → Type 0
 IsServed n caller before line after old new (Ok done) = (text : List ℕ) × IsAnswered n caller before line text after × Appends old new text
 IsServed n caller before line after old new (Err Read) = ⊥
 IsServed n caller before line after old new (Err Write) = (text : List ℕ) × IsAnswered n caller before line text after × WritesFront old new text
-IsServed n caller before line after old new (Err OutOfMemory) = (after ≡ before) × Appends old new []
+IsServed n caller before line after old new (Err OutOfMemory) = (after ≡ before) × MayWantMemory line × Appends old new []
 
 -- How far it has come: the input so far has ended pieces, which were answered, and a rest, which is held.
 pub record Progress (caller : ℕ) (before : Session) (old : Option (List ℕ)) (input : List ℕ) (count : ℕ) (line : Held) (now : Session) (new : Option (List ℕ)) : Type 0 where
@@ -96,16 +101,22 @@ write_faults (Err Read) = 0
 write_faults (Err Write) = 1
 write_faults (Err OutOfMemory) = 0
 
--- The first of the lines were answered, and nothing of the others was done.
-pub record First (caller : ℕ) (before after : Session) (all : List (List ℕ)) (old new : Option (List ℕ)) : Type 0 where
+-- All of the lines were answered.
+abbrev pub AllAnswered : ℕ → Session → Session → List (List ℕ) → Option (List ℕ) → Option (List ℕ) → Type 0
+AllAnswered caller before after all old new = (text : List ℕ) × AreAnswered 1 caller before all text after × Appends old new text
+
+-- Memory was wanting for a line: those before it were answered, and nothing was done of it and of the others.
+pub record WantsMemory (caller : ℕ) (before after : Session) (all : List (List ℕ)) (old new : Option (List ℕ)) : Type 0 where
   pub done : List (List ℕ)
+  pub line : List ℕ
   pub others : List (List ℕ)
   pub text : List ℕ
-  pub lines_are : all ≡ done ++ others
+  pub lines_are : all ≡ done ++ line ∷ others
+  pub may_want : MayWantMemory line
   pub answered : AreAnswered 1 caller before done text after
   pub written : Appends old new text
 
--- The same, but of the answer to the last of them only a front was written.
+-- Lines were answered, and of the answer to the last of them only a front was written.
 pub record Cut (caller : ℕ) (before after : Session) (all : List (List ℕ)) (old new : Option (List ℕ)) : Type 0 where
   pub done : List (List ℕ)
   pub line : List ℕ
@@ -121,12 +132,13 @@ pub record Cut (caller : ℕ) (before after : Session) (all : List (List ℕ)) (
   pub last_is : last ≡ front ++ rest
   pub written : Appends old new (text ++ front)
 
--- What was done at a fault, of the lines that were read. After a fault of reading it is all of them.
--- A fault of writing comes in the middle of an answer, or between two, where those before it are handed on.
+-- What was done at a fault, of the lines that were read. At a fault of reading it is all of them.
+-- A fault of writing comes in the middle of an answer, or where answers are handed on: those to all of the lines,
+-- or those before a line for which memory was wanting.
 abbrev pub StopsAt : ServeFault → ℕ → Session → Session → List (List ℕ) → Option (List ℕ) → Option (List ℕ) → Type 0
-StopsAt Read caller before after all old new = (text : List ℕ) × AreAnswered 1 caller before all text after × Appends old new text
-StopsAt Write caller before after all old new = Cut caller before after all old new ⊎ First caller before after all old new
-StopsAt OutOfMemory caller before after all old new = First caller before after all old new
+StopsAt Read caller before after all old new = AllAnswered caller before after all old new
+StopsAt Write caller before after all old new = Cut caller before after all old new ⊎ (AllAnswered caller before after all old new ⊎ WantsMemory caller before after all old new)
+StopsAt OutOfMemory caller before after all old new = WantsMemory caller before after all old new
 
 -- Where more may follow, the lines that were read are those that ended: the rest is no line yet.
 pub record Stops (fault : ServeFault) (caller : ℕ) (before after : Session) (input : List ℕ) (old new : Option (List ℕ)) : Type 0 where
@@ -148,6 +160,19 @@ pub record Faults (fault : ServeFault) (caller : ℕ) (before after : Session) (
   pub input : List ℕ
   pub read : Consumes unread left input
   pub stops : Stops fault caller before after input old new ⊎ (IsAtEnd left × StopsLast fault caller before after input old new)
+
+-- Memory was wanting before the first read: nothing was read, and nothing done.
+pub record WantsMemoryAtOnce (fault : ServeFault) (before after : Session) (unread left : Option (List ℕ)) (calls calls' : ℕ) (old new : Option (List ℕ)) : Type 0 where
+  pub memory : fault ≡ OutOfMemory
+  pub session : after ≡ before
+  pub no_read : calls' ≡ calls
+  pub nothing_read : left ≡ unread
+  pub nothing_written : Appends old new []
+
+-- What was done where a run ended early: nothing for want of memory, or what was read tells.
+abbrev pub EndsEarly : ServeFault → ℕ → Session → Session → Option (List ℕ) → Option (List ℕ) → ℕ → ℕ → Option (List ℕ) → Option (List ℕ) → Type 0
+EndsEarly fault caller before after unread left calls calls' old new =
+    WantsMemoryAtOnce fault before after unread left calls calls' old new ⊎ Faults fault caller before after unread left old new
 
 -- how many reads gave nothing: the one that found the end
 abbrev pub ends_found : Option ℕ → ℕ

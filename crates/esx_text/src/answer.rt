@@ -1,10 +1,10 @@
 //! The answer to a line.
 
-ghost use Rattle.std.specs.Prelude.{◌≡◌, ◌+◌, [], ℕ, List, IfOk, OnOk, MatchOption, IsTrue, ◌↔◌, IsErrOf};
+ghost use Rattle.std.specs.Prelude.{◌≡◌, ◌+◌, [], ℕ, List, IfOk, OnOk, OnErr, MatchOption, IsTrue, ◌↔◌, IsErrOf};
 ghost use Rattle.esx_events.specs.declared.call.Call.{Call};
 ghost use Rattle.esx_model.specs.Console.{Session};
 ghost use Rattle.esx_text.specs.Lines.{Keeps, IsSilent};
-ghost use Rattle.esx_text.specs.Answers.{IsAsked, IsServed, session_line, write_faults};
+ghost use Rattle.esx_text.specs.Answers.{IsAsked, IsServed, MayWantMemory, session_line, write_faults};
 
 use crate::fault::ServeFault;
 use esx_console::Console;
@@ -22,7 +22,8 @@ const LONGEST: usize = 16384;
 
 /// The call that a line asks for, if it does.
 fn call_of_line(alloc: Global, line: &[u8]) -> Result<Option<Call>, AllocError>
-    ensures { IfOk result (λ found. MatchOption found ((call : Call) → IsAsked line.now call → ⊥) (IsAsked line.now)) }
+    ensures found { IfOk result (λ found. MatchOption found ((call : Call) → IsAsked line.now call → ⊥) (IsAsked line.now)) }
+    ensures memory { OnErr result (MayWantMemory line.now) }
 {
     if line.len() > LONGEST {
         return Ok(None);

@@ -5,7 +5,7 @@ ghost use Rattle.std.specs.Io.KnownBytes.{Keeps, Consumes, IsAtEnd};
 ghost use Rattle.esx_types.specs.Ends.{call_successes};
 ghost use Rattle.esx_model.specs.Console.{Session};
 ghost use Rattle.esx_text.specs.Lines.{Holds, HasNoFeed};
-ghost use Rattle.esx_text.specs.Answers.{Progress, Answers, Stops, StopsLast, Faults, Reaches, ReadsOn, Ends, ends_found, fault_writes, read_faults, write_faults};
+ghost use Rattle.esx_text.specs.Answers.{Progress, Answers, Stops, StopsLast, Faults, EndsEarly, Reaches, ReadsOn, Ends, ends_found, fault_writes, read_faults, write_faults};
 
 use crate::answer::{Asked, answer_line};
 use crate::fault::ServeFault;
@@ -173,13 +173,13 @@ fn send<W: Sink>(writer: &mut W) -> Result<(), ServeFault>
 }
 
 /// Hands on the answers that wait, where memory ran out. This is also what serving comes to where it ran
-/// out before the first line.
+/// out before the first read.
 pub fn give_up<W: Sink>(writer: &mut W) -> ServeFault
     ensures fault { (caller : ℕ) (before after : Session) (unread left old : Option (List ℕ))
         → Faults ServeFault.OutOfMemory caller before after unread left old (W.contents writer.old)
         → Faults result caller before after unread left old (W.contents writer.new) }
-    ensures at_once { (caller : ℕ) (session : Session) (unread : Option (List ℕ))
-        → Faults result caller session session unread unread (W.contents writer.old) (W.contents writer.new) }
+    ensures at_once { (caller : ℕ) (session : Session) (unread : Option (List ℕ)) (calls : ℕ)
+        → EndsEarly result caller session session unread unread calls calls (W.contents writer.old) (W.contents writer.new) }
     ensures read { result ≡ ServeFault.Read → ⊥ }
     ensures write { W.failures writer.new ≡ W.failures writer.old + fault_writes result }
     ensures flushes { W.flushes writer.new + fault_writes result ≡ W.flushes writer.old + 1 }
@@ -278,8 +278,11 @@ pub fn serve<R: Source, W: Sink>(
 ) -> Result<u64, ServeFault>
     ensures ok { IfOk result (λ n. Answers caller n console.old console.new
         (R.remaining reader.old) (R.remaining reader.new) (W.contents writer.old) (W.contents writer.new)) }
-    ensures fault { IfErr result (λ e. Faults e caller console.old console.new
-        (R.remaining reader.old) (R.remaining reader.new) (W.contents writer.old) (W.contents writer.new)) }
+
+    // Where memory was wanting nothing was read, or it was wanting for a line for which memory may be taken, and
+    // those before it are answered.
+    ensures fault { IfErr result (λ e. EndsEarly e caller console.old console.new
+        (R.remaining reader.old) (R.remaining reader.new) (R.calls reader.old) (R.calls reader.new) (W.contents writer.old) (W.contents writer.new)) }
 
     // One read gives nothing where the end is found, and none does where reading is at fault.
     ensures found { OnOk result (R.empty_reads reader.new ≡ R.empty_reads reader.old + 1) }

@@ -4,7 +4,7 @@ use Rattle.esx_plan.specs.Site.{at_opening}
 use Rattle.esx_plan.proofs.site.serve_site.Goals as goal
 
 pub returns-in-Err-clause-fault : goal.returns-in-Err-clause-fault
-returns-in-Err-clause-fault g c = (at_opening c.args.config, c.give_up.ensures.at_once 0 (at_opening c.args.config) _)
+returns-in-Err-clause-fault g c = (at_opening c.args.config, c.give_up.ensures.at_once 0 (at_opening c.args.config) _ _)
 
 pub returns-in-Err-clause-each : goal.returns-in-Err-clause-each
 returns-in-Err-clause-each g c = record { input = []; read = Consumes-nil _; each = omega arith }

@@ -7,7 +7,7 @@ use Rattle.esx_plan.proofs.streams.serve_buffered.Goals as goal
 pub returns-in_default-clause-fault : goal.returns-in_default-clause-fault
 returns-in_default-clause-fault g c =
     let site = at_opening c.args.config in
-    (site, g.W.Sink.contents c.give_up-fault.new.writer, c.give_up-fault.ensures.at_once 0 site _, comes_out_whole c.give_up-fault.result _)
+    (site, g.W.Sink.contents c.give_up-fault.new.writer, c.give_up-fault.ensures.at_once 0 site _ _, comes_out_whole c.give_up-fault.result _)
 
 pub returns-in_default-clause-each : goal.returns-in_default-clause-each
 returns-in_default-clause-each g c = record { input = []; read = Consumes-nil _; each = omega arith }
@@ -25,7 +25,7 @@ pub returns-clause-fault : goal.returns-clause-fault
 returns-clause-fault g c =
     let out = c.serve_site-served.new.writer in
     rw c.into_sink.ensures
-    (fault_comes_out c.serve_site-served.result 0 (at_opening c.args.config) _ _ (g.W.Sink.contents c.args.writer) (g.W.Sink.contents out.sink)
+    (fault_comes_out c.serve_site-served.result 0 (at_opening c.args.config) _ _ _ _ (g.W.Sink.contents c.args.writer) (g.W.Sink.contents out.sink)
     c.new-outgoing.result.waiting out.waiting (c.new-outgoing.ensures.waiting ∙ c.in-Ok.ensures)
     (λ h. second_none (g.W.Sink.waiting out.sink) out.waiting (c.serve_site-served.ensures.sent h))
     (rw c.new-outgoing.ensures.sink at c.serve_site-served.ensures.fault))

@@ -1,4 +1,4 @@
-use Rattle.std.proofs.Common.{[], sym, ◌∙◌}
+use Rattle.std.proofs.Common.{[], refl, sym, ◌∙◌}
 use Rattle.esx_text.specs.Answers.IsAnswered.{silent}
 use Rattle.esx_writing.proofs.WritingLemmas.{appends_nothing}
 use Rattle.esx_text.proofs.AnswerLemmas.{silent_as_kept, long_line, long_unasked, kept_whole}
@@ -21,10 +21,15 @@ returns-then-asks_for_session-clause-served g c = λ line keeps.
     let e = kept_whole c.args.asked.now.kept.now c.args.asked.now.long line c.if-asked.false keeps in
     c.answer_session.ensures.served c.args.asked.now.number c.args.caller line (e ∙ c.asks_for_session.ensures.0 c.if-asks_for_session.true)
 
+pub returns-in_default-clause-served : goal.returns-in_default-clause-served
+returns-in_default-clause-served g c = λ line keeps.
+    let e = kept_whole c.args.asked.now.kept.now c.args.asked.now.long line c.if-asked.false keeps in
+    (refl, rw e c.in_default.ensures.memory, appends_nothing _)
+
 pub returns-in-Some-clause-served : goal.returns-in-Some-clause-served
 returns-in-Some-clause-served g c = λ line keeps.
     let e = kept_whole c.args.asked.now.kept.now c.args.asked.now.long line c.if-asked.false keeps in
-    c.answer_call.ensures.served c.args.asked.now.number line (rw e (rw c.in-Some.is at c.in-Ok.ensures))
+    c.answer_call.ensures.served c.args.asked.now.number line (rw e (rw c.in-Some.is at c.in-Ok.ensures.found))
 
 pub returns-in-None-clause-served : goal.returns-in-None-clause-served
 returns-in-None-clause-served g c = λ line keeps.
@@ -32,4 +37,4 @@ returns-in-None-clause-served g c = λ line keeps.
     c.answer_unknown-in-None.ensures.served c.args.caller c.args.console.now line
     (λ s. let t = c.is_silent.ensures.1 ((silent_as_kept c.args.asked.now.kept.now c.args.asked.now.long line keeps).0 s) in cc)
     (λ s. let t = c.asks_for_session.ensures.1 (sym e ∙ s) in cc)
-    (λ call is. (rw c.in-None.is at c.in-Ok.ensures) call (rw e at is))
+    (λ call is. (rw c.in-None.is at c.in-Ok.ensures.found) call (rw e at is))

@@ -1,4 +1,4 @@
-use Rattle.esx_text.proofs.SendingLemmas.{ends_err, reaches_unsent, reaches_sent}
+use Rattle.esx_text.proofs.SendingLemmas.{counted, ends_err, reaches_unsent, reaches_sent}
 use Rattle.esx_text.proofs.service.finish.Goals as goal
 
 pub returns-in_err-send-in-Ok-clause-served : goal.returns-in_err-send-in-Ok-clause-served
@@ -9,3 +9,6 @@ returns-in_err-send-in-Ok-clause-served g c = λ caller before after unread left
 pub returns-in_ok-send-in-Ok-clause-served : goal.returns-in_ok-send-in-Ok-clause-served
 returns-in_ok-send-in-Ok-clause-served g c = λ caller before after unread left old r.
     reaches_sent c.args.served c.in-Ok.found c.ok_or.result caller before after unread left old _ _ c.in-Ok.is c.ok_or.ensures.value c.in_ok-send-in-Ok.ensures.bytes r
+
+pub returns-in_ok-send-in-Ok-clause-counted : goal.returns-in_ok-send-in-Ok-clause-counted
+returns-in_ok-send-in-Ok-clause-counted g c = counted c.args.served c.in-Ok.found c.ok_or.result c.in-Ok.is c.ok_or.ensures.value
