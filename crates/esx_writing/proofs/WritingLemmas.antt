@@ -20,8 +20,7 @@ use Rattle.std.proofs.lemmas.List.Sums.{AllPass-from_list_all}
 use Rattle.std.proofs.lemmas.Str.Ascii.{IsAscii-from_all}
 use borrow.Author.Tests.{ltb-true}
 use Rattle.hex.specs.Hex.{encode_lower, encode_with, lower_digits}
-use Rattle.esx_writing.specs.Writing.{Writes, WritesFront, Passes, Puts, piece_text, texts}
-use Rattle.esx_writing.specs.declared.pieces.Piece.{Piece}
+use Rattle.esx_writing.specs.Writing.{Writes, WritesFront, Passes, Puts}
 
 pub appends_nothing : (a : Option (List ℕ)) → Appends a a []
 appends_nothing None = tt
@@ -166,11 +165,6 @@ flat_item_at f xs i x lt is = flat_parts_at f xs i x lt ∙ ap (λ y. flat_map f
 pub flat_item_more : {A B : Type 0} (f : A → List B) (xs : List A) (i : ℕ) (x : A) → i < length xs → x ≡ get_or xs i x
     → flat_map f (take (i + 1) xs) ≡ flat_map f (take i xs) ++ f x
 flat_item_more f xs i x lt is = flat_parts_more f xs i x lt ∙ ap (λ y. flat_map f (take i xs) ++ f y) (sym is)
-
-pub texts_are : (pieces : List Piece) → flat_map piece_text pieces ≡ texts pieces
-texts_are [] = refl
-texts_are (piece ∷ []) = append-nil (piece_text piece)
-texts_are (piece ∷ next ∷ pieces) = ap (λ v. piece_text piece ++ v) (texts_are (next ∷ pieces))
 
 pub writes_error : {T E : Type 0} (a c : Option (List ℕ)) (before text : List ℕ) (r : Result T E) → IsErr r → before ≡ []
     → WritesFront a c (before ++ text) → Writes a c text r

@@ -1,5 +1,5 @@
 -- What a writer does to a sink, and to the bytes that it holds back.
-use Rattle.std.specs.Prelude.{ℕ, List, [], ◌∷◌, ◌++◌, ◌≡◌, ◌-◌, length, replicate, Option, Result, Ok, Err, decimal}
+use Rattle.std.specs.Prelude.{ℕ, List, ◌++◌, ◌≡◌, ◌-◌, length, replicate, Option, Result, Ok, Err, decimal}
 use Rattle.std.specs.Io.KnownBytes.{Appends}
 use Rattle.hex.specs.Hex.{encode_lower}
 use Rattle.esx_writing.specs.declared.pieces.Piece.{Piece}
@@ -43,9 +43,3 @@ piece_text (Hex bytes) = encode_lower bytes.now
 piece_text (Narrow n) = right_in 3 (decimal n)
 piece_text (Column n) = right_in 8 (decimal n)
 piece_text (State text) = left_in 8 text.now
-
--- the texts of pieces, one behind the other
-abbrev pub texts : List Piece → List ℕ
-texts [] = []
-texts (piece ∷ []) = piece_text piece
-texts (piece ∷ next ∷ pieces) = piece_text piece ++ texts (next ∷ pieces)

@@ -7,7 +7,7 @@ mod pieces;
 
 pub use buffer::{AnswerBuffer, put, write_held};
 pub use line::{Hex, Line, put_line};
-pub use pieces::{Piece, put_pieces, put_texts, write_pieces};
+pub use pieces::{Piece, put_pieces, write_pieces};
 
 /// The parts of a text, one behind the other.
 #[macro_export]

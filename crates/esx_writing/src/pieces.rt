@@ -2,7 +2,7 @@
 
 ghost use Rattle.std.specs.Prelude.{◌≡◌, ◌+◌, ◌≤◌, [], length, replicate, flat_map, OnOk, IsUtf8};
 ghost use Rattle.hex.specs.Hex.{encode_lower};
-ghost use Rattle.esx_writing.specs.Writing.{Writes, Puts, sink_faults, piece_text, texts, right_in, left_in};
+ghost use Rattle.esx_writing.specs.Writing.{Writes, Puts, sink_faults, piece_text, right_in, left_in};
 
 use crate::buffer::{AnswerBuffer, put, put_number, write_held};
 use esx_types::{Sink, SinkFailed};
@@ -161,18 +161,4 @@ pub fn write_pieces<W: Sink>(
 {
     put_pieces(sink, held, pieces)?;
     write_held(sink, held)
-}
-
-/// Puts pieces in order, of which there are some.
-pub fn put_texts<W: Sink>(
-    sink: &mut W,
-    held: &mut AnswerBuffer,
-    pieces: &[Piece],
-) -> Result<(), SinkFailed>
-    ensures bytes { Puts (W.contents sink.old) held.old (W.contents sink.new) held.new (texts pieces.now) result }
-    ensures utf8 { OnOk result (IsUtf8 (texts pieces.now)) }
-    ensures failures { W.failures sink.new ≡ W.failures sink.old + sink_faults result }
-    ensures flushes { W.flushes sink.new ≡ W.flushes sink.old }
-{
-    put_pieces(sink, held, pieces)
 }
