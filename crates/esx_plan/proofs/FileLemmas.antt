@@ -9,8 +9,8 @@ use Rattle.esx_reading.specs.declared.fault.TextFault.{TextFault}
 use Rattle.esx_reading.specs.declared.fault.TextFault.TheVariants.{NotToml, BadKey, BadLine, NotText, Differs, Read, Write, OutOfMemory}
 use Rattle.esx_reading.specs.Whole.{GivesMore, GivesOn, GivesWhole, IsOfText}
 use Rattle.esx_scenario.specs.Scenarios.{IsRefused as IsNoPlan}
-use Rattle.esx_session.specs.Sessions.{IsRefused}
-use Rattle.esx_plan.specs.Files.{FailsToRead, HasText, IsNoScenario, IsNoSession, IsNoText, IsRead, ReadsWell, StopsReading, StopsWithin, LacksSession, LacksText, Opened}
+use Rattle.esx_session.specs.Sessions.{HasOpening, IsRefused}
+use Rattle.esx_plan.specs.Files.{FailsToRead, HasText, IsNoScenario, IsNoSession, IsNoText, IsRead, StopsWithin, LacksSession, LacksText, Opened}
 use Rattle.esx_plan.specs.States.{SourceState}
 
 module _ (old new : SourceState) (most : new.calls ≤ old.calls + 2 ^ 26) where
@@ -18,24 +18,24 @@ module _ (old new : SourceState) (most : new.calls ≤ old.calls + 2 ^ 26) where
       → (e ≡ NotText → (bytes : List ℕ) × GivesWhole old.remaining new.remaining bytes × (IsUtf8 bytes → ⊥))
       → (e ≡ NotText → (bytes : List ℕ) × GivesWhole old.remaining new.remaining bytes × (new.calls ≤ old.calls + length bytes + 1))
       → (e ≡ NotText → new.empty_reads ≡ old.empty_reads + 1)
-      → (e ≡ Read → FailsToRead old new) → (e ≡ OutOfMemory → StopsWithin old new)
-      → ((e ≡ Read → ⊥) → new.failures ≡ old.failures) → IsNoText old new e
-  no_text_of NotToml is none end found fails memory same = is
-  no_text_of (BadKey path) is none end found fails memory same = is
-  no_text_of (BadLine n) is none end found fails memory same = is
-  no_text_of NotText is none end found fails memory same =
+      → (e ≡ Read → FailsToRead old new) → (e ≡ OutOfMemory → GivesOn old.remaining new.remaining old.calls new.calls)
+      → (e ≡ OutOfMemory → new.empty_reads ≡ old.empty_reads) → ((e ≡ Read → ⊥) → new.failures ≡ old.failures) → IsNoText old new e
+  no_text_of NotToml is none end found fails memory unended same = is
+  no_text_of (BadKey path) is none end found fails memory unended same = is
+  no_text_of (BadLine n) is none end found fails memory unended same = is
+  no_text_of NotText is none end found fails memory unended same =
       let at_end = end refl in
       let whole = none refl in
       ((whole.0, record { given = whole.1; found = found refl }, whole.2), record { failures = same (λ h. cc); each = record { input = at_end.0; read = at_end.1.given; each = at_end.2 }; most = most })
-  no_text_of (Differs k) is none end found fails memory same = is
-  no_text_of Read is none end found fails memory same = fails refl
-  no_text_of Write is none end found fails memory same = is
-  no_text_of OutOfMemory is none end found fails memory same =
-      let stops = memory refl in
-      let on = stops.given in
+  no_text_of (Differs k) is none end found fails memory unended same = is
+  no_text_of Read is none end found fails memory unended same = fails refl
+  no_text_of Write is none end found fails memory unended same = is
+  no_text_of OutOfMemory is none end found fails memory unended same =
+      let on = memory refl in
       record {
         read = record { failures = same (λ h. cc); each = record { input = on.bytes; read = on.given; each = omega (arith, on.each) }; most = most };
-        where_it_stops = inl stops;
+        given = on;
+        not_found = unended refl;
       }
 
   -- a text that could not be read
@@ -55,7 +55,7 @@ module _ (old new : SourceState) (most : new.calls ≤ old.calls + 2 ^ 26) where
       no_text_of e is (λ h. none (cc)) (λ h. end (cc)) (λ h. found (cc))
       (λ h. let on = each (cc) in
       record { cause = cause (cc); not_found = not_found (cc); each = record { input = on.0; read = on.1; each = on.2 }; most = most })
-      (λ h. record { given = memory (cc); not_found = not_found_in_memory (cc) }) (λ other. same (λ h. other (cc)))
+      (λ h. memory (cc)) (λ h. not_found_in_memory (cc)) (λ other. same (λ h. other (cc)))
 
   -- a text that was read
   pub is_text : {T : Type 0} (r : Result T TextFault) (bytes : T → List ℕ) → IfOk r (λ v. GivesWhole old.remaining new.remaining (bytes v))
@@ -74,7 +74,7 @@ module _ (old new : SourceState) where
   no_scenario_unread (Differs k) n = n
   no_scenario_unread Read n = n
   no_scenario_unread Write n = n
-  no_scenario_unread OutOfMemory n = n
+  no_scenario_unread OutOfMemory n = inl n
 
   -- nor a session
   pub no_session_unread : (e : TextFault) → IsNoText old new e → IsNoSession old new e
@@ -85,16 +85,10 @@ module _ (old new : SourceState) where
   no_session_unread (Differs k) n = n
   no_session_unread Read n = n
   no_session_unread Write n = n
-  no_session_unread OutOfMemory n = n
+  no_session_unread OutOfMemory n = inl n
 
   -- a text that was refused
-  module _ (text : List ℕ) (given : IsRead old new text) where
-    read_well : StopsReading old new
-    read_well = record {
-      read = record { failures = given.failures; each = record { input = text; read = given.given.given; each = given.calls }; most = given.most };
-      where_it_stops = inr (text, record { given = given.given; found = given.found });
-    }
-
+  module _ (text : List ℕ) (given : IsRead old new text) (utf8 : IsUtf8 text) where
     no_plan_of : (e : TextFault) → IsNoPlan text e → IsNoScenario old new e
     no_plan_of NotToml n = (text, given, n)
     no_plan_of (BadKey path) n = (text, given, n)
@@ -103,25 +97,26 @@ module _ (old new : SourceState) where
     no_plan_of (Differs k) n = n
     no_plan_of Read n = absurd n
     no_plan_of Write n = n
-    no_plan_of OutOfMemory n = read_well
+    no_plan_of OutOfMemory n = inr (text, given, utf8)
 
     pub no_scenario : {T : Type 0} (r : Result T TextFault) → IfErr r (IsNoPlan text) → IfErr r (IsNoScenario old new)
     no_scenario (Ok v) n = tt
     no_scenario (Err e) n = no_plan_of e n
 
-    no_session_of : (e : TextFault) → IsRefused e text → IsNoSession old new e
-    no_session_of NotToml n = n
-    no_session_of (BadKey path) n = n
-    no_session_of (BadLine k) n = (text, given, n)
-    no_session_of NotText n = absurd n
-    no_session_of (Differs k) n = n
-    no_session_of Read n = absurd n
-    no_session_of Write n = n
-    no_session_of OutOfMemory n = read_well
+    no_session_of : (e : TextFault) → IsRefused e text → (e ≡ OutOfMemory → HasOpening text) → IsNoSession old new e
+    no_session_of NotToml n opening = n
+    no_session_of (BadKey path) n opening = n
+    no_session_of (BadLine k) n opening = (text, given, n)
+    no_session_of NotText n opening = absurd n
+    no_session_of (Differs k) n opening = n
+    no_session_of Read n opening = absurd n
+    no_session_of Write n opening = n
+    no_session_of OutOfMemory n opening = inr (text, given, utf8, opening refl)
 
-    pub no_session : {T : Type 0} (r : Result T TextFault) → IfErr r (λ e. IsRefused e text) → IfErr r (IsNoSession old new)
-    no_session (Ok v) n = tt
-    no_session (Err e) n = no_session_of e n
+    pub no_session : {T : Type 0} (r : Result T TextFault) → IfErr r (λ e. IsRefused e text) → (IsErrOf r OutOfMemory → HasOpening text)
+        → IfErr r (IsNoSession old new)
+    no_session (Ok v) n opening = tt
+    no_session (Err e) n opening = no_session_of e n (λ h. opening (cc))
 
 -- a file that has no text has no session
 pub no_text_no_session : (read : Opened) (e : TextFault) → LacksText read e → LacksSession read e
@@ -129,6 +124,7 @@ no_text_no_session (Ok states) e n = no_session_unread states.0 states.1 e n
 no_text_no_session (Err error) e n = n
 
 -- a file whose text was refused
-pub text_refused : (read : Opened) (text : List ℕ) (e : TextFault) → HasText read text → IsRefused e text → LacksSession read e
-text_refused (Ok states) text e here n = no_session_of states.0 states.1 text here e n
-text_refused (Err error) text e here n = absurd here
+pub text_refused : (read : Opened) (text : List ℕ) (e : TextFault) → HasText read text → IsUtf8 text → IsRefused e text → (e ≡ OutOfMemory → HasOpening text)
+    → LacksSession read e
+text_refused (Ok states) text e here utf8 n opening = no_session_of states.0 states.1 text here utf8 e n opening
+text_refused (Err error) text e here utf8 n opening = absurd here

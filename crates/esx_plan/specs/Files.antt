@@ -9,7 +9,7 @@ use Rattle.esx_reading.specs.Whole.{GivesMore, GivesOn, GivesWhole}
 use Rattle.esx_scenario.specs.Plans.{Plan}
 use Rattle.esx_scenario.specs.Scenarios.{IsScenario, IsRefused as IsNoPlan}
 use Rattle.esx_session.specs.declared.session.Entry.{Entry}
-use Rattle.esx_session.specs.Sessions.{IsRefused, Reads}
+use Rattle.esx_session.specs.Sessions.{HasOpening, IsRefused, Reads}
 use Rattle.esx_text.specs.Answers.{ReadsOn}
 use Rattle.esx_plan.specs.Given.{open_fault}
 use Rattle.esx_plan.specs.States.{SourceState}
@@ -38,8 +38,9 @@ pub record ReadsWell (old new : SourceState) : Type 0 where
   pub each : ReadsOn old.remaining new.remaining old.calls new.calls
   pub most : new.calls ≤ old.calls + 2 ^ 26
 
--- some bytes were read, and not all: each read gave some
+-- Some bytes were read, and not all: each read gave some, and none failed.
 pub record StopsWithin (old new : SourceState) : Type 0 where
+  pub read : ReadsWell old new
   pub given : GivesOn old.remaining new.remaining old.calls new.calls
   pub not_found : new.empty_reads ≡ old.empty_reads
 
@@ -48,27 +49,24 @@ pub record StopsAtEnd (old new : SourceState) (bytes : List ℕ) : Type 0 where
   pub given : GivesWhole old.remaining new.remaining bytes
   pub found : new.empty_reads ≡ old.empty_reads + 1
 
--- The same where memory ran out: all bytes were read, or not all.
-pub record StopsReading (old new : SourceState) : Type 0 where
-  pub read : ReadsWell old new
-  pub where_it_stops : StopsWithin old new ⊎ ((bytes : List ℕ) × StopsAtEnd old new bytes)
-
--- What a fault tells of a file: all its bytes were read and are no text, or reading failed, or memory ran out where no read failed.
+-- What a fault tells of a file: all its bytes were read and are no text, or reading failed, or memory ran out on the way.
 abbrev pub IsNoText : SourceState → SourceState → TextFault → Type 0
 IsNoText old new NotText = ((bytes : List ℕ) × StopsAtEnd old new bytes × (IsUtf8 bytes → ⊥)) × ReadsWell old new
 IsNoText old new Read = FailsToRead old new
-IsNoText old new OutOfMemory = StopsReading old new
+IsNoText old new OutOfMemory = StopsWithin old new
 IsNoText old new _ = ⊥
 
--- The same, or its bytes are a text that is refused so, where a scenario is wanted.
+-- The same, or its bytes are a text that is refused so, where a scenario is wanted. Memory may also run out over a text.
 abbrev pub IsNoScenario : SourceState → SourceState → TextFault → Type 0
 IsNoScenario old new NotToml = (text : List ℕ) × IsRead old new text × IsNoPlan text NotToml
 IsNoScenario old new (BadKey path) = (text : List ℕ) × IsRead old new text × IsNoPlan text (BadKey path)
+IsNoScenario old new OutOfMemory = StopsWithin old new ⊎ ((text : List ℕ) × IsRead old new text × IsUtf8 text)
 IsNoScenario old new e = IsNoText old new e
 
--- The same, where a session is wanted.
+-- The same, where a session is wanted. Memory may also run out over a text whose first two lines are those of a session.
 abbrev pub IsNoSession : SourceState → SourceState → TextFault → Type 0
 IsNoSession old new (BadLine n) = (text : List ℕ) × IsRead old new text × IsRefused (BadLine n) text
+IsNoSession old new OutOfMemory = StopsWithin old new ⊎ ((text : List ℕ) × IsRead old new text × IsUtf8 text × HasOpening text)
 IsNoSession old new e = IsNoText old new e
 
 -- a file as it was opened and as it was left, or why it was not opened

@@ -1,52 +1,15 @@
 -- What a field in hex can be.
-use Rattle.std.proofs.Common.{◌≡◌, ◌<◌, ◌≤◌, ◌+◌, ◌*◌, ◌-◌, ◌/◌, ◌%◌, ℕ, zero, suc, List, [], ◌∷◌, ◌++◌, Some, length, take, get_or, slice_index, refl, ap, sym, ◌∙◌, append_assoc, arith, true, inl, inr, lit<, Ok}
-use Rattle.std.proofs.lemmas.Bool.{cases_lt}
+use Rattle.std.proofs.Common.{◌≡◌, ◌<◌, ◌+◌, ◌*◌, ◌/◌, ◌%◌, ℕ, zero, suc, List, [], ◌∷◌, ◌++◌, length, take, get_or, slice_index, refl, ap, sym, ◌∙◌, append_assoc, arith, lit<, Ok}
 use Rattle.std.proofs.lemmas.Grind.{take_at_read}
-use Rattle.std.proofs.lemmas.List.Sums.{AllPass-from_list_all}
-use Rattle.std.proofs.lemmas.List.Elements.{All-get_or}
-use Rattle.std.proofs.lemmas.List.{get_or_past}
-use Rattle.hex.specs.Hex.{encode_lower, encode_with, decode_of, hex_digit_value, lower_digits, IsBytes}
-use Rattle.hex.proofs.HexLemmas.{decode_of-encode_lower, length-encode_with, IsDigits-lower_digits}
-use Rattle.esx_reading.specs.Written.{IsWritten, is_no_capital}
+use Rattle.hex.specs.Hex.{encode_lower, encode_with, decode_of, lower_digits, IsBytes}
+use Rattle.hex.proofs.HexLemmas.{decode_of-encode_lower, length-encode_with}
+use Rattle.esx_reading.specs.Written.{IsWritten}
 
 pub length_of_hex : (field bytes : List ℕ) → field ≡ encode_lower bytes → length field ≡ 2 * length bytes
 length_of_hex field bytes e = ap length e ∙ length-encode_with lower_digits bytes
 
 pub decodes : (field bytes : List ℕ) → IsWritten bytes → field ≡ encode_lower bytes → decode_of field ≡ Ok bytes
 decodes field bytes w e = ap decode_of e ∙ decode_of-encode_lower bytes w.are_bytes
-
--- the digits are no capitals, wherever they are looked up
-no_capital_digit : (n : ℕ) → is_no_capital (slice_index lower_digits n) ≡ true
-no_capital_digit n = elim (cases_lt n (length lower_digits)) [
-  | inl within ↦ All-get_or (λ b. is_no_capital b ≡ true) lower_digits n 0 within (AllPass-from_list_all is_no_capital lower_digits refl)
-  | inr past ↦ ap is_no_capital (get_or_past lower_digits n 0 past)
-]
-
--- a digit that is no capital, by its value
-below_ten : (c v : ℕ) → hex_digit_value c ≡ Some v → is_no_capital c ≡ true → v < 10 → c ≡ v + 48
-below_ten c v p a lt = grind (arith)
-
-ten_and_up : (c v : ℕ) → hex_digit_value c ≡ Some v → is_no_capital c ≡ true → 10 ≤ v → c ≡ v + 87
-ten_and_up c v p a ge = grind (arith)
-
--- what a digit below ten is, and one of ten and more
-pub low_digit : (v : ℕ) → v < 10 → slice_index lower_digits v ≡ v + 48
-low_digit v lt = below_ten (slice_index lower_digits v) v (IsDigits-lower_digits v (omega (arith, lt))) (no_capital_digit v) lt
-
-pub high_digit : (v : ℕ) → 10 ≤ v → v < 16 → slice_index lower_digits v ≡ v + 87
-high_digit v ge lt = ten_and_up (slice_index lower_digits v) v (IsDigits-lower_digits v lt) (no_capital_digit v) ge
-
-pub digit_of_low : (byte : ℕ) → 48 ≤ byte → byte ≤ 57 → byte ≡ slice_index lower_digits (byte - 48)
-digit_of_low byte low high = let d = low_digit (byte - 48) (omega (arith, low, high)) in omega (arith, d, low)
-
-pub digit_of_high : (byte : ℕ) → 97 ≤ byte → byte ≤ 102 → byte ≡ slice_index lower_digits (byte - 97 + 10)
-digit_of_high byte low high = let d = high_digit (byte - 97 + 10) (omega arith) (omega (arith, low, high)) in omega (arith, d, low)
-
-pub no_digit : (byte : ℕ) → (48 ≤ byte → byte ≤ 57 → ⊥) → (97 ≤ byte → byte ≤ 102 → ⊥) → (v : ℕ) → v < 16 → byte ≡ slice_index lower_digits v → ⊥
-no_digit byte low high v small e = elim (cases_lt v 10) [
-  | inl less ↦ let d = e ∙ low_digit v less in low (omega (arith, d)) (omega (arith, d, less))
-  | inr more ↦ let d = e ∙ high_digit v more small in high (omega (arith, d, more)) (omega (arith, d, small))
-]
 
 -- the byte of two digits
 pub hex_of_pair : (high low h l : ℕ) → l < 16 → high ≡ slice_index lower_digits h → low ≡ slice_index lower_digits l

@@ -1,3 +1,6 @@
 pub mod FieldLemmas
+mod FrontLemmas
 pub mod HexField
+mod HexTable
 pub mod NumberLemmas
+mod OneFieldLemmas

@@ -3,7 +3,7 @@
 ghost use Rattle.std.specs.Prelude.{◌≡◌, ◌<◌, ◌≤◌, ◌^◌, ◌∷◌, ◌++◌, ◌↔◌, ◌⊎◌, [], ℕ, List, decimal, drop, get_or, length, take, MatchOption, IfSome, IfNone, IsTrue};
 ghost use Rattle.esx_types.specs.declared.config.TheConstants.{VM_NUMBERS};
 ghost use Rattle.std.specs.Str.Parse.{AllDigits, digits_value};
-ghost use Rattle.esx_reading.specs.Fields.{HasNoSpace, fields};
+ghost use Rattle.esx_reading.specs.Fields.{HasNoSpace, fields, fields_left};
 
 use esx_types::{VM_NUMBERS, VmId};
 use std::marker::Model;
@@ -69,6 +69,59 @@ fn split_at_space<'a>(text: &'a str) -> Option<(&'a str, &'a str)>
     Some((field, later))
 }
 
+/// From this number on, one more digit may lead out of 64 bits.
+const FULL: u64 = u64::MAX / 10;
+
+/// The number that the digits in front write, as far as a space or the end, and how many they are. `None` where
+/// another byte ends them, and for the largest numbers of 64 bits.
+#[inline(always)]
+fn digits_in_front(bytes: &[u8]) -> Option<(u64, usize)>
+    ensures within { IfSome result (λ p. p.1 ≤ length bytes.now) }
+    ensures small { IfSome result (λ p. p.0 < 2 ^ 64) }
+    ensures digits { IfSome result (λ p. AllDigits 10 (take p.1 bytes.now) × (p.0 ≡ digits_value 10 (take p.1 bytes.now))) }
+    ensures end { IfSome result (λ p. p.1 < length bytes.now → get_or bytes.now p.1 0 ≡ 32) }
+{
+    let mut number: u64 = 0;
+    for i in 0..bytes.len() {
+        let byte = bytes[i];
+        if byte < b'0' || b'9' < byte {
+            return if byte == b' ' {
+                Some((number, i))
+            } else {
+                None
+            };
+        }
+        if number >= FULL {
+            return None;
+        }
+        number = number * 10 + u64::from(byte - b'0');
+    }
+    Some((number, bytes.len()))
+}
+
+/// The number that is the first field, and the text behind it. `None` where that is no number, and for the largest
+/// of 64 bits.
+#[inline(always)]
+fn number_in_front<'a>(text: &'a str) -> Option<(u64, Option<&'a str>)>
+    ensures small { IfSome result (λ p. p.0 < 2 ^ 64) }
+    ensures read { IfSome result (λ p. fields text.now ≡ decimal p.0 ∷ fields_left p.1) }
+{
+    let bytes = text.as_bytes();
+    let first = *bytes.first()?;
+    let (number, count) = digits_in_front(bytes)?;
+    if count == 0 {
+        return None;
+    }
+    if first <= b'0' && count != 1 {
+        return None;
+    }
+    if count == bytes.len() {
+        return Some((number, None));
+    }
+    let (_, later) = text.split_at(count + 1);
+    Some((number, Some(later)))
+}
+
 /// The fields of a line that are left, seen as their list.
 #[derive(Drop)]
 pub struct Fields<'a> {
@@ -120,6 +173,19 @@ impl<'a> Fields<'a> {
         self.rest.is_none()
     }
 
+    /// The field that is left, where one alone is.
+    #[inline]
+    pub fn only(&self) -> Option<&'a str>
+        ensures some { IfSome result (λ field. self.now ≡ field.now ∷ []) }
+        ensures none { IfNone result ((field : List ℕ) → self.now ≡ field ∷ [] → ⊥) }
+    {
+        let text = self.rest?;
+        if text.as_bytes().contains(&b' ') {
+            return None;
+        }
+        Some(text)
+    }
+
     /// All that is left, as the text that it was.
     pub fn rest(&self) -> Option<&'a str>
         ensures { MatchOption result (self.now ≡ []) (λ text. self.now ≡ fields text.now) }
@@ -134,7 +200,7 @@ impl<'a> Fields<'a> {
         ensures none { IfNone result ((n : ℕ) (others : List (List ℕ)) → n < limit → self.old ≡ decimal n ∷ others → ⊥) }
         ensures one { IfNone result (self.new ≡ drop 1 self.old) }
     {
-        let number = number_of(self.next()?)?;
+        let number = self.word()?;
         if number < limit { Some(number) } else { None }
     }
 
@@ -148,8 +214,28 @@ impl<'a> Fields<'a> {
         Some(number as u32)
     }
 
-    /// The next field as a word.
+    /// The next field as a word: most in one pass over its bytes.
+    #[inline(always)]
     pub fn word(&mut self) -> Option<u64>
+        ensures small { IfSome result (λ n. n < 2 ^ 64) }
+        ensures some { IfSome result (λ n. self.old ≡ decimal n ∷ self.new) }
+        ensures none { IfNone result ((n : ℕ) (others : List (List ℕ)) → n < 2 ^ 64 → self.old ≡ decimal n ∷ others → ⊥) }
+        ensures one { IfNone result (self.new ≡ drop 1 self.old) }
+    {
+        let text = self.rest?;
+        match number_in_front(text) {
+            Some((number, later)) => {
+                self.rest = later;
+                Some(number)
+            }
+            None => self.plain_word(),
+        }
+    }
+
+    /// The same for every field: it is cut off first.
+    #[inline(never)]
+    fn plain_word(&mut self) -> Option<u64>
+        ensures small { IfSome result (λ n. n < 2 ^ 64) }
         ensures some { IfSome result (λ n. self.old ≡ decimal n ∷ self.new) }
         ensures none { IfNone result ((n : ℕ) (others : List (List ℕ)) → n < 2 ^ 64 → self.old ≡ decimal n ∷ others → ⊥) }
         ensures one { IfNone result (self.new ≡ drop 1 self.old) }

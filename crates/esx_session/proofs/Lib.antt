@@ -13,4 +13,5 @@ pub mod ReplyLemmas
 pub mod EntryLemmas
 pub mod CallsLemmas
 pub mod StopLemmas
+pub mod MemoryLemmas
 pub mod PrintedLemmas

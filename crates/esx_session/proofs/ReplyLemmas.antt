@@ -91,7 +91,7 @@ takes_reply old new reply is some next = record {
   next = next;
 }
 
-no_lines : (old new : Place) (taken : List (List ℕ)) → ended taken ≡ [] → old.left ≡ taken ++ new.left → new.passed ≡ old.passed + length taken
+pub no_lines : (old new : Place) (taken : List (List ℕ)) → ended taken ≡ [] → old.left ≡ taken ++ new.left → new.passed ≡ old.passed + length taken
     → (new.passed ≡ old.passed) × (old.left ≡ new.left)
 no_lines old new [] e left passed = (omega (arith, passed), left)
 no_lines old new ([] ∷ taken) e left passed = absurd (cc)

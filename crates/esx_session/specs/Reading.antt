@@ -10,7 +10,7 @@ use Rattle.esx_events.specs.declared.call.Call.{Call}
 use Rattle.esx_reading.specs.Fields.{joined}
 use Rattle.esx_reading.specs.declared.fault.TextFault.{TextFault}
 use Rattle.esx_reading.specs.declared.fault.TextFault.TheVariants.{BadLine, OutOfMemory}
-use Rattle.esx_words.specs.Commands.{IsInRange, spelling}
+use Rattle.esx_words.specs.Commands.{IsInRange, spelling, MayTakeMemory}
 use Rattle.esx_session.specs.declared.session.Entry.{Entry}
 use Rattle.esx_session.specs.Sessions.{ended, site_words, quoted, entry_text, end_text, IsEntry, IsEnded}
 
@@ -46,6 +46,14 @@ pub record SpellsCall (line : List ℕ) (caller : ℕ) (call : Call) : Type 0 wh
   pub range : IsInRange call
   pub spelled : line ≡ decimal caller ++ 32 ∷ spelling call
 
+-- the line of a caller and a command that may take memory
+pub record CallTakesMemory (line : List ℕ) : Type 0 where
+  pub caller : ℕ
+  pub command : List ℕ
+  pub known : caller < CALLERS
+  pub spelled : line ≡ decimal caller ++ 32 ∷ command
+  pub takes : MayTakeMemory command
+
 -- the line of a reply's line
 pub record Quotes (line text : List ℕ) : Type 0 where
   pub ascii : IsAscii text
@@ -58,6 +66,11 @@ QuotesNone line = (text : List ℕ) → Quotes line text → ⊥
 abbrev pub LeavesReply : List (List ℕ) → Type 0
 LeavesReply [] = Unit {0}
 LeavesReply (line ∷ lines) = HasNoFeed line × QuotesNone line
+
+-- a line of a reply stands next
+abbrev pub BeginsReply : List (List ℕ) → Type 0
+BeginsReply [] = ⊥
+BeginsReply (line ∷ lines) = (text : List ℕ) × Quotes line text
 
 -- the lines of a reply, and where the reader is behind them
 pub record TakesReply (old new : Place) (reply : List ℕ) : Type 0 where
@@ -98,6 +111,14 @@ LacksEntry (BadLine n) line old = ((n ≡ old.passed) × SpellsNoCall line)
 LacksEntry OutOfMemory line old = Unit {0}
 LacksEntry _ line old = ⊥
 
+-- a call with its reply may take memory: its line may, or it is the line of a call and a line of its reply follows
+abbrev pub EntryTakesMemory : List ℕ → List (List ℕ) → Type 0
+EntryTakesMemory line left = CallTakesMemory line ⊎ (((caller : ℕ) × (call : Call) × SpellsCall line caller call) × BeginsReply left)
+
+abbrev pub NextTakesMemory : List (List ℕ) → Type 0
+NextTakesMemory [] = ⊥
+NextTakesMemory (line ∷ left) = EntryTakesMemory line left
+
 -- the calls of a session, and its end
 abbrev pub calls_text : List Entry → List ℕ
 calls_text entries = flat_map entry_text entries ++ end_text (length entries)
@@ -127,6 +148,11 @@ pub record AreRead (old new : Place) (entries : List Entry) : Type 0 where
 abbrev pub GoesOn : ℕ → List (List ℕ) → Type 0
 GoesOn count [] = ⊥
 GoesOn count (line ∷ lines) = line ≡ codes "end " ++ decimal count → ⊥
+
+-- the first two lines are those of a session, and a third stands there and does not end it
+abbrev pub GoesPastOpening : List ℕ → Type 0
+GoesPastOpening text = (site : Config) × (others : List (List ℕ)) × IsConfig site
+    × (lines text ≡ codes "esx session 1" ∷ joined (site_words site) ∷ others) × GoesOn 0 others
 
 -- behind some lines the next cannot stand, or they cannot end
 abbrev pub IsStuck : List (List ℕ) → List (List ℕ) → Type 0

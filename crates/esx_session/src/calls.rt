@@ -6,7 +6,7 @@ ghost use Rattle.esx_types.specs.declared.config.Config.{Config};
 ghost use Rattle.esx_reading.specs.Fields.{joined};
 ghost use Rattle.esx_session.specs.declared.session.Entry.{Entry};
 ghost use Rattle.esx_session.specs.Sessions.{site_words, IsEntry, Reads, HasOpening, IsRefused};
-ghost use Rattle.esx_session.specs.Reading.{head_line, placed, TakesReply, LacksReply, TakesEntry, LacksEntry, AreRead, TellsCalls, LacksCalls, LacksHead, LacksOpening, GoesOn, Follows};
+ghost use Rattle.esx_session.specs.Reading.{head_line, placed, TakesReply, LacksReply, TakesEntry, LacksEntry, AreRead, TellsCalls, LacksCalls, LacksHead, LacksOpening, GoesOn, BeginsReply, EntryTakesMemory, NextTakesMemory, Follows};
 
 use crate::line::{call_of, is_end};
 use crate::place::Place;
@@ -34,6 +34,7 @@ fn add_line(reply: &mut Vec<u8>, line: &str) -> Result<(), AllocError>
 fn read_reply(alloc: Global, place: &mut Place) -> Result<Bytes, TextFault>
     ensures ok { IfOk result (TakesReply place.old place.new) }
     ensures only { IfErr result (λ e. LacksReply e place.old) }
+    ensures memory { IsErrOf result TextFault.OutOfMemory → BeginsReply place.old.left }
 {
     let mut reply = Vec::new(alloc);
     while let Some(line) = place.next_reply() {
@@ -61,6 +62,7 @@ fn at_line(fault: TextFault, number: u64) -> TextFault
 fn read_entry(alloc: Global, line: &str, place: &mut Place) -> Result<Entry, TextFault>
     ensures ok { IfOk result (TakesEntry line.now place.old place.new) }
     ensures only { IfErr result (λ e. LacksEntry e line.now place.old) }
+    ensures memory { IsErrOf result TextFault.OutOfMemory → EntryTakesMemory line.now place.old.left }
 {
     let (caller, call) = match call_of(alloc, line) {
         Ok(found) => found,
@@ -82,6 +84,7 @@ fn next_entry(alloc: Global, place: &mut Place, count: u64) -> Result<Option<Ent
         → IfOk result (λ next. IfNone next (TellsCalls start.left done)) }
     ensures only { (start : Place) (done : List Entry) → AreRead start place.old done → count ≡ length done → IfErr result (λ e. LacksCalls e start) }
     ensures memory { IsErrOf result TextFault.OutOfMemory → GoesOn count place.old.left }
+    ensures wants { IsErrOf result TextFault.OutOfMemory → NextTakesMemory place.old.left }
     ensures entry { IfOk result (λ next. IfSome next IsEntry) }
     ensures passed { IfOk result (λ next. IfSome next (λ entry. place.old.passed < place.new.passed)) }
     ensures left { IfOk result (λ next. IfSome next (λ entry. length place.new.left < length place.old.left)) }
@@ -161,7 +164,8 @@ pub fn open_calls<'a>(text: &'a str) -> Result<(Config, Calls<'a>), TextFault>
 impl<'a> Calls<'a> {
     /// The next call, with its reply. `None` behind the last of them, where the text ends with the number of its
     /// calls and nothing else. `BadLine` has the first line at which the text is no session, from 1 on: one past
-    /// its last line where it ends too early. `OutOfMemory` where there is none for the entry.
+    /// its last line where it ends too early. `OutOfMemory` where there is none for the entry: its line has a command
+    /// that may take memory, or is that of a call with a line of a reply behind it.
     ///
     /// The reader goes on behind the entry that it gives, and else stays where it is: after the end it says the end
     /// again, after a bad line the same line, and after want of memory it tries the same entry once more.
@@ -172,6 +176,7 @@ impl<'a> Calls<'a> {
             → IfOk result (λ next. IfNone next (Reads text site done)) }
         ensures only { (text : List ℕ) (site : Config) (done : List Entry) → Follows text site done self.old → IfErr result (λ e. IsRefused e text) }
         ensures memory { IsErrOf result TextFault.OutOfMemory → GoesOn self.old.count self.old.at.left }
+        ensures wants { IsErrOf result TextFault.OutOfMemory → NextTakesMemory self.old.at.left }
         ensures entry { IfOk result (λ next. IfSome next IsEntry) }
         ensures count { IfOk result (λ next. IfSome next (λ entry. self.new.count ≡ self.old.count + 1)) }
         ensures bound { IfOk result (λ next. IfSome next (λ entry. self.new.count < 2 ^ 63)) }

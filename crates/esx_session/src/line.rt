@@ -1,11 +1,11 @@
 //! The lines of a session, each alone.
 
-ghost use Rattle.std.specs.Prelude.{◌≡◌, ◌∷◌, ◌++◌, ◌<◌, ◌↔◌, ℕ, List, codes, decimal, MatchOption, IfSome, IfNone, IfOk, IfErr, IsTrue};
+ghost use Rattle.std.specs.Prelude.{◌≡◌, ◌∷◌, ◌++◌, ◌<◌, ◌↔◌, ℕ, List, codes, decimal, MatchOption, IfSome, IfNone, IfOk, IfErr, IsErrOf, IsTrue};
 ghost use Rattle.esx_types.specs.declared.config.TheConstants.{CALLERS};
 ghost use Rattle.esx_events.specs.declared.call.Call.{Call};
 ghost use Rattle.esx_reading.specs.Faults.{Refuses};
 ghost use Rattle.esx_reading.specs.Fields.{fields};
-ghost use Rattle.esx_session.specs.Reading.{SpellsCall, Quotes, QuotesNone};
+ghost use Rattle.esx_session.specs.Reading.{SpellsCall, CallTakesMemory, Quotes, QuotesNone};
 
 use esx_events::Call;
 use esx_reading::{Fields, TextFault, number_of};
@@ -42,6 +42,7 @@ fn parted<'a>(line: &'a str) -> Option<(&'a str, &'a str)>
 pub fn call_of(alloc: Global, line: &str) -> Result<(u16, Call), TextFault>
     ensures found { IfOk result (λ p. SpellsCall line.now p.0 p.1) }
     ensures only { IfErr result (λ e. Refuses e ((caller : ℕ) (call : Call) → SpellsCall line.now caller call → ⊥)) }
+    ensures memory { IsErrOf result TextFault.OutOfMemory → CallTakesMemory line.now }
 {
     let Some((number, command)) = parted(line) else {
         return Err(TextFault::BadLine(1));

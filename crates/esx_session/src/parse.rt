@@ -2,6 +2,7 @@
 
 ghost use Rattle.std.specs.Prelude.{IfOk, IfErr, IsErrOf};
 ghost use Rattle.esx_session.specs.Sessions.{Reads, HasOpening, IsRefused};
+ghost use Rattle.esx_session.specs.Reading.{GoesPastOpening};
 
 use crate::calls::open_calls;
 use crate::session::Session;
@@ -10,11 +11,13 @@ use esx_types::Rows;
 use std::alloc::Global;
 
 /// The session of a text. `BadLine` has the first line at which the text is none, from 1 on: one past its
-/// last line where it ends too early. Memory is taken behind the first two lines alone.
+/// last line where it ends too early. Memory is taken behind the first two lines alone, where a third stands
+/// that is not the end of a session of no calls.
 pub fn parse_session(alloc: Global, text: &str) -> Result<Session, TextFault>
     ensures ok { IfOk result (λ session. Reads text.now session.site session.entries) }
     ensures only { IfErr result (λ e. IsRefused e text.now) }
     ensures memory { IsErrOf result TextFault.OutOfMemory → HasOpening text.now }
+    ensures third { IsErrOf result TextFault.OutOfMemory → GoesPastOpening text.now }
 {
     let (site, mut calls) = open_calls(text)?;
     let mut entries = Rows::new(alloc);

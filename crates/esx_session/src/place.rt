@@ -1,6 +1,6 @@
 //! Where a reader is in the lines of a text.
 
-ghost use Rattle.std.specs.Prelude.{◌≡◌, ◌∷◌, ◌++◌, ◌+◌, ◌<◌, ◌≤◌, ◌^◌, [], ℕ, List, MatchOption, IfSome, IfNone, get_or, length, take, false};
+ghost use Rattle.std.specs.Prelude.{◌≡◌, ◌∷◌, ◌++◌, ◌+◌, ◌≤◌, ◌^◌, [], ℕ, List, MatchOption, IfSome, IfNone, get_or, false};
 ghost use Rattle.std.specs.List.{All};
 ghost use Rattle.std.specs.Str.Lines.{lines};
 ghost use Rattle.esx_session.specs.Reading.{HasNoFeed, Quotes, LeavesReply};
@@ -8,23 +8,11 @@ ghost use Rattle.esx_session.specs.Reading.{HasNoFeed, Quotes, LeavesReply};
 use crate::line::reply_of;
 use std::marker::Model;
 
-/// Where the first line feed stands.
-fn first_feed(bytes: &[u8]) -> Option<usize>
-    ensures here { IfSome result (λ at. (at < length bytes.now) × (get_or bytes.now at 0 ≡ 10)) }
-    ensures before { IfSome result (λ at. All (λ b. b ≡ 10 → ⊥) (take at bytes.now)) }
-    ensures none { IfNone result (All (λ b. b ≡ 10 → ⊥) bytes.now) }
-{
-    bytes.iter().position(|byte| *byte == b'\n')
-}
-
 /// The text before the first line feed, and the text behind it.
 fn split_at_feed<'a>(text: &'a str) -> Option<(&'a str, &'a str)>
     ensures { MatchOption result (All (λ b. b ≡ 10 → ⊥) text.now) (λ p. All (λ b. b ≡ 10 → ⊥) p.0.now × (text.now ≡ p.0.now ++ 10 ∷ p.1.now)) }
 {
-    let at = first_feed(text.as_bytes())?;
-    let (line, _) = text.split_at(at);
-    let (_, later) = text.split_at(at + 1);
-    Some((line, later))
+    text.split_once('\n')
 }
 
 /// Whether a text begins with the first byte of a reply's line.

@@ -4,6 +4,7 @@ pub mod EventLemmas
 pub mod ListedLemmas
 pub mod ReadingLemmas
 pub mod SampleLemmas
+pub mod MemoryLemmas
 pub mod OperandLemmas
 pub mod CommandLemmas
 pub mod PrintingLemmas

@@ -45,7 +45,7 @@ ended_text event = event_text event ++ codes "; "
 abbrev pub read_so_far : List Event → List ℕ → List ℕ
 read_so_far events rest = flat_map ended_text events ++ rest
 
-ended : (x : Event) (xs : List Event) (rest : List ℕ) → read_so_far (x ∷ xs) rest ≡ event_text x ++ 59 ∷ 32 ∷ read_so_far xs rest
+pub ended : (x : Event) (xs : List Event) (rest : List ℕ) → read_so_far (x ∷ xs) rest ≡ event_text x ++ 59 ∷ 32 ∷ read_so_far xs rest
 ended x xs rest = append_assoc (ended_text x) (flat_map ended_text xs) rest ∙ append_assoc (event_text x) (codes "; ") (read_so_far xs rest)
 
 pub one_event_more : (events : List Event) (event : Event) (rest later : List ℕ) → rest ≡ event_text event ++ (codes "; " ++ later)

@@ -1,6 +1,6 @@
 -- The grammar of commands: a table with a line for each.
-use Rattle.std.specs.Prelude.{ℕ, IsTrue, List, [], ◌∷◌, ◌++◌, ◌≡◌, ◌≤◌, length}
-use Rattle.std.specs.List.{AllByRecursion}
+use Rattle.std.specs.Prelude.{ℕ, IsTrue, List, [], ◌∷◌, ◌++◌, ◌≡◌, ◌≤◌, ◌⊎◌, length, codes}
+use Rattle.std.specs.List.{All, AllByRecursion}
 use Rattle.std.specs.Str.{IsAscii}
 use Rattle.esx_events.specs.Lists.{IsTriable}
 use Rattle.esx_events.specs.Names.{starts_lower}
@@ -137,9 +137,28 @@ abbrev pub AreOperands : (form : Form) → Operands form → Type 0
 AreOperands (Form.Plain kinds) x = AreValues kinds x
 AreOperands Form.Tried events = IsTriable events × AllByRecursion IsEventInRange events
 
-abbrev pub OperandsTakeMemory : Form → Type 0
-OperandsTakeMemory (Form.Plain kinds) = TakeMemory kinds
-OperandsTakeMemory Form.Tried = Unit {0}
+-- the words begin with the first of an event whose values take memory
+abbrev pub EventTakesMemory : List (List ℕ) → Type 0
+EventTakesMemory words = (verb : EventVerb) × (others : List (List ℕ)) × (words ≡ event_word verb ∷ others) × TakeMemory (event_kinds verb) others
+
+-- no semicolon stands in the bytes
+abbrev pub HasNoSemicolon : List ℕ → Type 0
+HasNoSemicolon = All (λ b. b ≡ 59 → ⊥)
+
+-- the text begins with this part, and a semicolon and a space stand behind it, or nothing does
+pub record BeginsWith (part text : List ℕ) : Type 0 where
+  pub plain : HasNoSemicolon part
+  pub behind : (text ≡ part) ⊎ ((later : List ℕ) × (text ≡ part ++ (codes "; " ++ later)))
+
+-- events that are tried take memory: the first is read, and there has to be room for it, or it takes memory itself
+pub record ListTakesMemory (text : List ℕ) : Type 0 where
+  pub part : List ℕ
+  pub begins : BeginsWith part text
+  pub first : ((event : Event) × SpellsEvent part event) ⊎ EventTakesMemory (fields part)
+
+abbrev pub OperandsTakeMemory : Form → List (List ℕ) → Type 0
+OperandsTakeMemory (Form.Plain kinds) words = TakeMemory kinds words
+OperandsTakeMemory Form.Tried words = ListTakesMemory (joined words)
 
 abbrev pub verb : Call → Verb
 verb (call.Do event) = verbs.Event (event_verb event)
@@ -192,9 +211,10 @@ pub record Spells (text : List ℕ) (call : Call) : Type 0 where
   pub range : IsInRange call
   pub spelled : text ≡ spelling call
 
--- some words begin with the first of a command whose operands take memory; the same of the words of a text
+-- some words begin with the first of a command whose operands take memory, and the operands before the one that
+-- takes it stand behind; the same of the words of a text
 abbrev pub BeginTakingMemory : List (List ℕ) → Type 0
-BeginTakingMemory words = (verb : Verb) × (others : List (List ℕ)) × (words ≡ verb_word verb ∷ others) × OperandsTakeMemory (verb_form verb)
+BeginTakingMemory words = (verb : Verb) × (others : List (List ℕ)) × (words ≡ verb_word verb ∷ others) × OperandsTakeMemory (verb_form verb) others
 
 abbrev pub MayTakeMemory : List ℕ → Type 0
 MayTakeMemory text = BeginTakingMemory (fields text)

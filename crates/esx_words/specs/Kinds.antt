@@ -1,5 +1,5 @@
 -- What can stand behind the first word of a command: a list of kinds, and values of these kinds.
-use Rattle.std.specs.Prelude.{ℕ, List, [], ◌∷◌, ◌<◌, ◌≤◌, ◌^◌, length, decimal, map}
+use Rattle.std.specs.Prelude.{ℕ, List, [], ◌∷◌, ◌≡◌, ◌<◌, ◌≤◌, ◌^◌, ◌%◌, ◌⊎◌, length, decimal, map}
 use Rattle.std.specs.List.{AllByRecursion}
 use Rattle.hex.specs.Hex.{encode_lower}
 use Rattle.esx_types.specs.declared.config.TheConstants.{VM_NUMBERS}
@@ -58,12 +58,22 @@ AreValues Kinds.End tt = Unit {0}
 AreValues (Kinds.Then kind kinds) (x, xs) = IsValue kind x × AreValues kinds xs
 AreValues Kinds.Words ws = (length ws ≤ 200) × AllByRecursion (λ w. w < 2 ^ 64) ws
 
--- values of these kinds take memory of their own
-abbrev pub TakeMemory : Kinds → Type 0
-TakeMemory Kinds.End = ⊥
-TakeMemory (Kinds.Then Kind.Machine kinds) = TakeMemory kinds
-TakeMemory (Kinds.Then Kind.Number kinds) = TakeMemory kinds
-TakeMemory (Kinds.Then Kind.Word kinds) = TakeMemory kinds
-TakeMemory (Kinds.Then Kind.Hex kinds) = Unit {0}
-TakeMemory (Kinds.Then Kind.Name kinds) = Unit {0}
-TakeMemory Kinds.Words = Unit {0}
+-- the first word is that of a value of this kind, and what stands behind it is so
+abbrev pub ValueThen : Kind → (List (List ℕ) → Type 0) → List (List ℕ) → Type 0
+ValueThen kind P words = (x : Value kind) × (others : List (List ℕ)) × IsValue kind x × (words ≡ value_word kind x ∷ others) × P others
+
+-- no words, or a first one that is a number of 64 bits
+abbrev pub MayBeNumbers : List (List ℕ) → Type 0
+MayBeNumbers words = (words ≡ []) ⊎ ValueThen Kind.Word (λ others. Unit {0}) words
+
+-- values of these kinds take memory, and the words are those of the values before the one that takes it: for bytes
+-- one last word as long as some bytes have digits, for a name one last word, and for a sample's words a first one or none
+abbrev pub TakeMemory : Kinds → List (List ℕ) → Type 0
+TakeMemory Kinds.End words = ⊥
+TakeMemory (Kinds.Then Kind.Machine kinds) words = ValueThen Kind.Machine (λ others. TakeMemory kinds others) words
+TakeMemory (Kinds.Then Kind.Number kinds) words = ValueThen Kind.Number (λ others. TakeMemory kinds others) words
+TakeMemory (Kinds.Then Kind.Word kinds) words = ValueThen Kind.Word (λ others. TakeMemory kinds others) words
+TakeMemory (Kinds.Then Kind.Hex kinds) words =
+    (digits : List ℕ) × (words ≡ digits ∷ []) × (0 < length digits) × (length digits ≤ 8192) × (length digits % 2 ≡ 0)
+TakeMemory (Kinds.Then Kind.Name kinds) words = (word : List ℕ) × (words ≡ word ∷ [])
+TakeMemory Kinds.Words words = MayBeNumbers words

@@ -67,7 +67,7 @@ fn operands_of(alloc: Global, verb: Verb, fields: &mut Fields) -> Result<Call, T
     ensures found { IfOk result (λ call. IsInRange call × (verb_word verb ∷ fields.old ≡ words_of call)) }
     ensures only { IfErr result (λ e. Refuses e ((x : Operands (verb_form verb)) → AreOperands (verb_form verb) x
         → fields.old ≡ operand_words (verb_form verb) x → ⊥)) }
-    ensures memory { IsErrOf result TextFault.OutOfMemory → OperandsTakeMemory (verb_form verb) }
+    ensures memory { IsErrOf result TextFault.OutOfMemory → OperandsTakeMemory (verb_form verb) fields.old }
 {
     match verb {
         Verb::Event { verb } => match event_of(alloc, verb, fields) {
@@ -120,7 +120,7 @@ fn call_of(alloc: Global, fields: &mut Fields) -> Result<Call, TextFault>
 }
 
 /// The call of a command line. `BadLine(1)` where the line is no command. Memory is taken for names, bytes, the
-/// words of a sample and tried events, and for nothing else.
+/// words of a sample and tried events, once what stands before them has been read, and for nothing else.
 pub fn parse_command(alloc: Global, text: &str) -> Result<Call, TextFault>
     ensures found { IfOk result (λ call. Spells text.now call) }
     ensures only { IfErr result (λ e. Refuses e ((call : Call) → Spells text.now call → ⊥)) }

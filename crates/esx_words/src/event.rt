@@ -4,9 +4,10 @@ ghost use Rattle.std.specs.Prelude.{◌≡◌, ◌∷◌, [], ◌<◌, decimal, 
 ghost use Rattle.esx_types.specs.declared.config.TheConstants.{VM_NUMBERS};
 ghost use Rattle.esx_events.specs.declared.event.Event.{Event};
 ghost use Rattle.esx_reading.specs.Faults.{Refuses};
+ghost use Rattle.esx_reading.specs.Fields.{fields};
 ghost use Rattle.esx_words.specs.Kinds.{Values, AreValues, value_words, TakeMemory};
 ghost use Rattle.esx_words.specs.Verbs.{event_word};
-ghost use Rattle.esx_words.specs.Commands.{event_kinds, event_words, IsEventInRange, SpellsEvent};
+ghost use Rattle.esx_words.specs.Commands.{event_kinds, event_words, IsEventInRange, SpellsEvent, EventTakesMemory};
 ghost use Rattle.esx_words.specs.declared.verbs.EventVerb.TheVariants as events;
 
 use crate::operands::{drawn, drawn_place, machine, number, place, range, sampled, spec, written};
@@ -46,7 +47,7 @@ pub fn event_of(alloc: Global, verb: EventVerb, fields: &mut Fields) -> Result<E
     ensures found { IfOk result (λ event. IsEventInRange event × (event_word verb ∷ fields.old ≡ event_words event)) }
     ensures only { IfErr result (λ e. Refuses e ((x : Values (event_kinds verb)) → AreValues (event_kinds verb) x
         → fields.old ≡ value_words (event_kinds verb) x → ⊥)) }
-    ensures memory { IsErrOf result TextFault.OutOfMemory → TakeMemory (event_kinds verb) }
+    ensures memory { IsErrOf result TextFault.OutOfMemory → TakeMemory (event_kinds verb) fields.old }
 {
     match verb {
         EventVerb::Admit => match spec(fields) {
@@ -104,6 +105,7 @@ pub fn event_of(alloc: Global, verb: EventVerb, fields: &mut Fields) -> Result<E
 fn event_of_fields(alloc: Global, fields: &mut Fields) -> Result<Event, TextFault>
     ensures found { IfOk result (λ event. IsEventInRange event × (fields.old ≡ event_words event)) }
     ensures only { IfErr result (λ e. Refuses e ((event : Event) → IsEventInRange event → fields.old ≡ event_words event → ⊥)) }
+    ensures memory { IsErrOf result TextFault.OutOfMemory → EventTakesMemory fields.old }
 {
     let Some(word) = fields.next() else {
         return Err(TextFault::BadLine(1));
@@ -118,6 +120,7 @@ fn event_of_fields(alloc: Global, fields: &mut Fields) -> Result<Event, TextFaul
 pub fn event_of_text(alloc: Global, text: &str) -> Result<Event, TextFault>
     ensures found { IfOk result (λ event. SpellsEvent text.now event) }
     ensures only { IfErr result (λ e. Refuses e ((event : Event) → SpellsEvent text.now event → ⊥)) }
+    ensures memory { IsErrOf result TextFault.OutOfMemory → EventTakesMemory (fields text.now) }
 {
     event_of_fields(alloc, &mut Fields::of(text))
 }

@@ -1,12 +1,15 @@
 //! All that is left of a line, read as values of some kinds.
 
-ghost use Rattle.std.specs.Prelude.{◌≡◌, ◌∷◌, [], ◌<◌, ◌≤◌, ◌^◌, decimal, ℕ, List, IfSome, IfNone, IfOk, IfErr, length, map};
+ghost use Rattle.std.specs.Prelude.{◌≡◌, ◌∷◌, [], ◌<◌, ◌≤◌, ◌^◌, ◌%◌, decimal, ℕ, List, IfSome, IfNone, IfOk, IfErr, IsErrOf, length, map};
 ghost use Rattle.std.specs.List.{AllByRecursion};
 ghost use Rattle.hex.specs.Hex.{encode_lower};
 ghost use Rattle.esx_types.specs.declared.config.TheConstants.{VM_NUMBERS};
 ghost use Rattle.esx_events.specs.Names.{IsName};
 ghost use Rattle.esx_reading.specs.Written.{IsWritten};
 ghost use Rattle.esx_reading.specs.Faults.{Refuses};
+ghost use Rattle.esx_words.specs.Kinds.{TakeMemory, MayBeNumbers};
+ghost use Rattle.esx_words.specs.Commands.{event_kinds};
+ghost use Rattle.esx_words.specs.declared.verbs.EventVerb.TheVariants as events;
 
 use esx_events::{Boxed, Name};
 use esx_reading::{Fields, TextFault, written_bytes};
@@ -128,11 +131,21 @@ fn digits<'a>(fields: &mut Fields<'a>) -> Option<(VmId, u32, u32, &'a str)>
 {
     let vm = fields.vm()?;
     let (first, second) = fields.pair()?;
-    let text = fields.next()?;
-    if fields.is_empty() {
-        Some((vm, first, second, text))
-    } else {
-        None
+    let text = fields.only()?;
+    Some((vm, first, second, text))
+}
+
+/// The bytes of digits, in a box.
+#[inline(always)]
+fn boxed_bytes(alloc: Global, digits: &str) -> Result<Boxed<Bytes>, TextFault>
+    ensures found { IfOk result (λ bytes. IsWritten bytes × (digits.now ≡ encode_lower bytes)) }
+    ensures only { IfErr result (λ e. Refuses e ((bytes : List ℕ) → IsWritten bytes → digits.now ≡ encode_lower bytes → ⊥)) }
+    ensures memory { IsErrOf result TextFault.OutOfMemory → (0 < length digits.now) × (length digits.now ≤ 8192) × (length digits.now % 2 ≡ 0) }
+{
+    let bytes = written_bytes(alloc, digits)?;
+    match Boxed::new(alloc, bytes) {
+        Ok(bytes) => Ok(bytes),
+        Err(_) => Err(TextFault::OutOfMemory),
     }
 }
 
@@ -145,28 +158,26 @@ pub fn written(
         × (fields.old ≡ decimal p.0 ∷ decimal p.1 ∷ decimal p.2 ∷ encode_lower p.3 ∷ [])) }
     ensures only { IfErr result (λ e. Refuses e ((vm n m : ℕ) (bytes : List ℕ) → vm < VM_NUMBERS → n < 2 ^ 32 → m < 2 ^ 32 → IsWritten bytes
         → fields.old ≡ decimal vm ∷ decimal n ∷ decimal m ∷ encode_lower bytes ∷ [] → ⊥)) }
+    ensures memory { IsErrOf result TextFault.OutOfMemory → TakeMemory (event_kinds events.Write) fields.old }
 {
     let Some((vm, first, second, text)) = digits(fields) else {
         return Err(TextFault::BadLine(1));
     };
-    let bytes = written_bytes(alloc, text)?;
-    let Ok(bytes) = Boxed::new(alloc, bytes) else {
-        return Err(TextFault::OutOfMemory);
-    };
-    Ok((vm, first, second, bytes))
+    match boxed_bytes(alloc, text) {
+        Ok(bytes) => Ok((vm, first, second, bytes)),
+        Err(fault) => Err(fault),
+    }
 }
 
 /// A name alone.
 pub fn name(alloc: Global, fields: &mut Fields) -> Result<Name, TextFault>
     ensures found { IfOk result (λ name. IsName name × (fields.old ≡ name ∷ [])) }
     ensures only { IfErr result (λ e. Refuses e ((name : List ℕ) → IsName name → fields.old ≡ name ∷ [] → ⊥)) }
+    ensures memory { IsErrOf result TextFault.OutOfMemory → (text : List ℕ) × (fields.old ≡ text ∷ []) }
 {
-    let Some(text) = fields.next() else {
+    let Some(text) = fields.only() else {
         return Err(TextFault::BadLine(1));
     };
-    if !fields.is_empty() {
-        return Err(TextFault::BadLine(1));
-    }
     match Name::new(alloc, text) {
         Ok(Some(name)) => Ok(name),
         Ok(None) => Err(TextFault::BadLine(1)),
@@ -183,6 +194,7 @@ fn words(alloc: Global, fields: &mut Fields) -> Result<Vec<u64>, TextFault>
         × (fields.old ≡ map decimal words.items)) }
     ensures only { IfErr result (λ e. Refuses e ((words : List ℕ) → length words ≤ 200 → AllByRecursion (λ w. w < 2 ^ 64) words
         → fields.old ≡ map decimal words → ⊥)) }
+    ensures memory { IsErrOf result TextFault.OutOfMemory → MayBeNumbers fields.old }
 {
     let mut words = Vec::new(alloc);
     while !fields.is_empty() {
@@ -209,6 +221,7 @@ pub fn sampled(
     ensures only { IfErr result (λ e. Refuses e ((vm n : ℕ) (words : List ℕ) → vm < VM_NUMBERS → n < 2 ^ 32
         → length words ≤ 200 → AllByRecursion (λ w. w < 2 ^ 64) words
         → fields.old ≡ decimal vm ∷ decimal n ∷ map decimal words → ⊥)) }
+    ensures memory { IsErrOf result TextFault.OutOfMemory → TakeMemory (event_kinds events.Sample) fields.old }
 {
     let Some(vm) = fields.vm() else {
         return Err(TextFault::BadLine(1));

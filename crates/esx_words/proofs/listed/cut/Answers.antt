@@ -1,5 +1,6 @@
-use Rattle.std.proofs.Common.{None, lit<}
-use Rattle.std.proofs.lemmas.Str.Pattern.{split_once_first, strip_prefix_char}
+use Rattle.std.proofs.Common.{◌≡◌, None, lit<}
+use Rattle.std.proofs.lemmas.List.Elements.{All-from_get_or}
+use Rattle.std.proofs.lemmas.Str.Pattern.{split_once_first, split_parts, strip_prefix_char}
 use Rattle.esx_words.proofs.ListedLemmas.{next_part, last_part}
 use Rattle.esx_words.proofs.ReadingLemmas.{one_event, begins}
 use Rattle.esx_words.proofs.listed.cut.Goals as goal
@@ -23,3 +24,12 @@ returns-clause-first c =
     let cut = next_part c.args.text.now c.in-Some.front.now c.in-Some.behind.now h.0 h.1 h.2 in
     λ events are e.
     let b = begins c.args.text.now c.in-Some.front.now c.in-Some.behind.now cut events are e in (b.event, b.spells)
+
+pub returns-in_default-clause-plain : goal.returns-in_default-clause-plain
+returns-in_default-clause-plain c =
+    All-from_get_or (λ b. b ≡ 59 → ⊥) c.args.text.now 0 (split_parts 59 c.args.text.now None c.in_default.ensures.cases (lit< tt))
+
+pub returns-clause-plain : goal.returns-clause-plain
+returns-clause-plain c =
+    let h = rw c.in-Some.is at (split_parts 59 c.args.text.now c.split_once.result c.split_once.ensures.cases (lit< tt)) in
+    All-from_get_or (λ b. b ≡ 59 → ⊥) c.in-Some.front.now 0 h.1

@@ -1,6 +1,7 @@
 use Rattle.std.proofs.Common.{refl, sym, ◌∙◌, arith}
 use Rattle.esx_words.proofs.OperandLemmas.{refuses_more}
 use Rattle.esx_words.proofs.ReadingLemmas.{left_of, last_event, range_more, triable_more}
+use Rattle.esx_words.proofs.MemoryLemmas.{memory_behind, no_room}
 use Rattle.esx_words.proofs.listed.events_of.Goals as goal
 
 pub returns-in-Err-clause-only : goal.returns-in-Err-clause-only
@@ -27,3 +28,12 @@ returns-in-None-clause-found c =
       range_more c.loop.events.items c.in-Ok.found.0 c.loop.invariant.range c.in-Ok.ensures.range,
       c.loop.invariant.read ∙ last_event c.loop.events.items c.in-Ok.found.0 c.loop.rest.now last,
     )
+
+pub returns-in-Err-clause-memory : goal.returns-in-Err-clause-memory
+returns-in-Err-clause-memory c = λ e.
+    memory_behind c.loop.events.items c.loop.rest.now c.args.text.now c.loop.invariant.range c.loop.invariant.read (c.in-Err.ensures.memory (cc))
+
+pub returns-in_default-clause-memory : goal.returns-in_default-clause-memory
+returns-in_default-clause-memory c = λ e.
+    no_room c.loop.events.items c.in-Ok.found.0 c.loop.rest.now c.args.text.now c.in-Ok.found.1 c.loop.invariant.range c.loop.invariant.read
+    c.in-Ok.ensures.range c.in-Ok.ensures.found

@@ -17,3 +17,6 @@ pub returns-clause-found : goal.returns-clause-found
 returns-clause-found c =
     let found = c.in-Ok.ensures.found in
     rw c.in-Some-new.ensures.value (found.0, found.1, c.in-Some.ensures ∙ ap fields found.2 ∙ fields_of_list _ found.0.0 found.1)
+
+pub returns-in-Err-clause-memory : goal.returns-in-Err-clause-memory
+returns-in-Err-clause-memory c = λ e. rw (ap joined c.in-Some.ensures ∙ joined_of_fields c.in-Some.text.now) (c.in-Err.ensures.memory (cc))

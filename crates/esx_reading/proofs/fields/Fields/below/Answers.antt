@@ -4,9 +4,8 @@ use Rattle.esx_reading.proofs.fields.Fields.below.Goals as goal
 
 pub returns-else-number-limit-clause-none : goal.returns-else-number-limit-clause-none
 returns-else-number-limit-clause-none c = λ n others small e.
-    let now = c.in_ok-next.ensures.left in
-    let has = c.in_ok-number.ensures.some.1 in
+    let has = c.in_ok-number.ensures.some in
     let same_text : decimal c.in_ok-number.number ≡ decimal n = cc in
-    let fits : n < 2 ^ 64 = omega (arith, c.ranges.limit.fits) in
-    let number_fits : c.in_ok-number.number < 2 ^ 64 = c.in_ok-number.ensures.some.0 in
-    let same = decimal_injective c.in_ok-number.number n number_fits fits same_text in omega arith
+    let fits : n < 2 ^ 64 = omega (arith, small, c.ranges.limit.fits) in
+    let number_fits : c.in_ok-number.number < 2 ^ 64 = c.in_ok-number.ensures.small in
+    let same = decimal_injective c.in_ok-number.number n number_fits fits same_text in omega (arith, same, small, c.if-number-limit.false)
