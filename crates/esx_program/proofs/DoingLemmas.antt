@@ -1,0 +1,180 @@
+-- What is done with a file and with streams, by the word that asks for it.
+use Rattle.std.proofs.Common.{◌≡◌, ◌∙◌, ◌⊎◌, ◌+◌, ℕ, List, [], Option, Some, None, Result, Ok, Err, refl, inl, inr, arith}
+use Rattle.std.specs.Prelude.{codes, IsSome, IsUtf8}
+use Rattle.std.specs.Result.{IfOk, IfErr, IsErrOf, OnOk}
+use Rattle.std.specs.IoError.{error_kind}
+use Rattle.std.specs.Io.KnownBytes.{Appends}
+use Rattle.std.specs.declared.io.ErrorKind.{ErrorKind}
+use Rattle.std.specs.declared.io.ErrorKind.TheVariants as kind
+use Rattle.clap.specs.Words.{Text as Word}
+use Rattle.esx_types.specs.declared.config.Config.{Config}
+use Rattle.esx_reading.specs.declared.fault.TextFault.{TextFault}
+use Rattle.esx_reading.specs.declared.fault.TextFault.TheVariants as text
+use Rattle.esx_scenario.specs.Plans.{Plan}
+use Rattle.esx_session.specs.declared.session.Entry.{Entry}
+use Rattle.esx_text.specs.declared.fault.ServeFault.{ServeFault}
+use Rattle.esx_check.specs.Replays.{ReplayStops, replay_text, write_faults}
+use Rattle.esx_check.specs.declared.fault.OutputFault.{OutputFault}
+use Rattle.esx_check.specs.declared.fault.OutputFault.TheVariants as output
+use Rattle.esx_program.specs.declared.running.RunFault.{RunFault}
+use Rattle.esx_program.specs.declared.words.Asked.{Asked}
+use Rattle.esx_program.specs.declared.words.Asked.TheVariants.{Console, Run as RunOf, Replay, Check}
+use Rattle.esx_program.specs.declared.Done.{Done}
+use Rattle.esx_program.specs.declared.Done.TheVariants.{Served, Ran, Replayed, Checked}
+use Rattle.esx_program.specs.declared.Failure.{Failure}
+use Rattle.esx_program.specs.declared.Failure.TheVariants.{Words, Text, Serve, Output, Run}
+use Rattle.esx_program.specs.Doing.{served_as, ran_as, replayed_as, Does, EndsCheck, EndsConsole, EndsReplay, EndsRun, IsSiteAsked, LacksSite}
+use Rattle.esx_program.specs.Failing.{MayFail, WantsSession}
+use Rattle.esx_program.specs.Files.{HasScenario, HasSession, HasText, LacksScenario, LacksSession, Opened}
+use Rattle.esx_program.specs.Given.{open_fault}
+use Rattle.esx_program.specs.Runs.{Plays, RunStops}
+use Rattle.esx_program.specs.Sessions.{GivenOut, IsReplayed, IsNotReplayed}
+use Rattle.esx_program.specs.States.{SinkState, SourceState}
+use Rattle.esx_program.specs.Status.{TellsCheck, TellsNoCheck, word_of_done}
+use Rattle.esx_program.specs.Streams.{IsServed}
+use Rattle.esx_program.specs.Words.{asked_of}
+use Rattle.esx_program.proofs.FileLemmas.{text_refused}
+use Rattle.esx_program.proofs.SessionLemmas.{faults_of}
+
+module _ {A : Type 0} (asked : Word × Option A) (some : IsSome asked.1) where
+  -- a file that could not be opened
+  unopened_may_fail : (k : ErrorKind) → MayFail asked (Text (open_fault k))
+  unopened_may_fail kind.OutOfMemory = some
+  unopened_may_fail _ = some
+
+  -- a fault of a scenario that is named
+  no_scenario_may_fail : (read : Opened) (e : TextFault) → (asked.0 ≡ codes "console") ⊎ (asked.0 ≡ codes "run") → LacksScenario read e → MayFail asked (Text e)
+  no_scenario_may_fail (Err error) e word n = rw n (unopened_may_fail (error_kind error))
+  no_scenario_may_fail (Ok states) text.NotToml word n = (some, word)
+  no_scenario_may_fail (Ok states) (text.BadKey path) word n = (some, word)
+  no_scenario_may_fail (Ok states) (text.BadLine k) word n = absurd n
+  no_scenario_may_fail (Ok states) text.NotText word n = some
+  no_scenario_may_fail (Ok states) (text.Differs k) word n = absurd n
+  no_scenario_may_fail (Ok states) text.Read word n = some
+  no_scenario_may_fail (Ok states) text.Write word n = absurd n
+  no_scenario_may_fail (Ok states) text.OutOfMemory word n = some
+
+  -- a fault of a session that is named
+  no_session_may_fail : (read : Opened) (e : TextFault) → WantsSession asked → LacksSession read e → MayFail asked (Text e)
+  no_session_may_fail (Err error) e word n = rw n (unopened_may_fail (error_kind error))
+  no_session_may_fail (Ok states) text.NotToml word n = absurd n
+  no_session_may_fail (Ok states) (text.BadKey path) word n = absurd n
+  no_session_may_fail (Ok states) (text.BadLine k) word n = (some, word)
+  no_session_may_fail (Ok states) text.NotText word n = some
+  no_session_may_fail (Ok states) (text.Differs k) word n = absurd n
+  no_session_may_fail (Ok states) text.Read word n = some
+  no_session_may_fail (Ok states) text.Write word n = absurd n
+  no_session_may_fail (Ok states) text.OutOfMemory word n = some
+
+no_site_may_fail : (file : Option Opened) (e : TextFault) → LacksSite file e → MayFail {A = Opened} (codes "console", file) (Text e)
+no_site_may_fail None e n = absurd n
+no_site_may_fail (Some read) e n = no_scenario_may_fail (codes "console", Some read) refl read e (inl refl) n
+
+module _ (unread left : SourceState) (errors errors' out out' : SinkState) where
+  -- what was done is what is asked for
+  pub does_word : (asked : Asked Opened) (ended : Result Done Failure) → Does asked ended unread left errors errors' out out'
+      → IfOk ended (λ done. word_of_done done ≡ (asked_of asked).0)
+  does_word (Console file) (Ok Served) d = refl
+  does_word (Console file) (Ok Ran) d = absurd d.0
+  does_word (Console file) (Ok Replayed) d = absurd d.0
+  does_word (Console file) (Ok (Checked c)) d = absurd d.0
+  does_word (RunOf file) (Ok Served) d = absurd d.0
+  does_word (RunOf file) (Ok Ran) d = refl
+  does_word (RunOf file) (Ok Replayed) d = absurd d.0
+  does_word (RunOf file) (Ok (Checked c)) d = absurd d.0
+  does_word (Replay file) (Ok Served) d = absurd d.0
+  does_word (Replay file) (Ok Ran) d = absurd d.0
+  does_word (Replay file) (Ok Replayed) d = refl
+  does_word (Replay file) (Ok (Checked c)) d = absurd d.0
+  does_word (Check file) (Ok Served) d = absurd d.0
+  does_word (Check file) (Ok Ran) d = absurd d.0
+  does_word (Check file) (Ok Replayed) d = absurd d.0
+  does_word (Check file) (Ok (Checked c)) d = refl
+  does_word asked (Err e) d = tt
+
+  -- it fails only as that may fail
+  pub does_fail : (asked : Asked Opened) (ended : Result Done Failure) → Does asked ended unread left errors errors' out out'
+      → IfErr ended (MayFail (asked_of asked))
+  does_fail asked (Ok done) d = tt
+  does_fail (Console file) (Err Words) d = absurd d.0
+  does_fail (Console file) (Err (Text e)) d = no_site_may_fail file e d.0.0
+  does_fail (Console file) (Err (Serve e)) d = refl
+  does_fail (Console file) (Err (Output e)) d = absurd d.0
+  does_fail (Console file) (Err (Run e)) d = absurd d.0
+  does_fail (RunOf file) (Err Words) d = absurd d.0
+  does_fail (RunOf file) (Err (Text e)) d = no_scenario_may_fail (asked_of (RunOf file)) refl file e (inr refl) d.0.0
+  does_fail (RunOf file) (Err (Serve e)) d = absurd d.0
+  does_fail (RunOf file) (Err (Output e)) d = absurd d.0
+  does_fail (RunOf file) (Err (Run e)) d = refl
+  does_fail (Replay file) (Err Words) d = absurd d.0
+  does_fail (Replay file) (Err (Text e)) d = no_session_may_fail (asked_of (Replay file)) refl file e (inl refl) d.0.0
+  does_fail (Replay file) (Err (Serve e)) d = absurd d.0
+  does_fail (Replay file) (Err (Output e)) d = inl refl
+  does_fail (Replay file) (Err (Run e)) d = absurd d.0
+  does_fail (Check file) (Err Words) d = absurd d.0
+  does_fail (Check file) (Err (Text e)) d = no_session_may_fail (asked_of (Check file)) refl file e (inr refl) d.0.0
+  does_fail (Check file) (Err (Serve e)) d = absurd d.0
+  does_fail (Check file) (Err (Output e)) d = inr refl
+  does_fail (Check file) (Err (Run e)) d = absurd d.0
+
+-- the text of a file was checked
+module _ (read : Opened) (out out' : SinkState) (bytes : List ℕ) (here : HasText read bytes) (utf8 : IsUtf8 bytes) where
+  checked_done : (done : Done) → TellsCheck bytes done out out' → EndsCheck read (Ok done) out out'
+  checked_done Served t = absurd t
+  checked_done Ran t = absurd t
+  checked_done Replayed t = absurd t
+  checked_done (Checked c) t = (bytes, here, t.0, t.1)
+
+  not_checked : (failure : Failure) → TellsNoCheck bytes failure out out' → EndsCheck read (Err failure) out out'
+  not_checked Words t = absurd t
+  not_checked (Text text.NotToml) t = absurd t.0
+  not_checked (Text (text.BadKey path)) t = absurd t.0
+  not_checked (Text (text.BadLine k)) t = (text_refused read bytes (text.BadLine k) here utf8 t.0 (λ h. cc), t.1)
+  not_checked (Text text.NotText) t = absurd t.0
+  not_checked (Text (text.Differs k)) t = absurd t.0
+  not_checked (Text text.Read) t = absurd t.0
+  not_checked (Text text.Write) t = absurd t.0
+  not_checked (Text text.OutOfMemory) t = (text_refused read bytes text.OutOfMemory here utf8 tt (λ h. t.0), t.1)
+  not_checked (Serve e) t = absurd t
+  not_checked (Output e) t = (bytes, here, t.0, t.1, t.2)
+  not_checked (Run e) t = absurd t
+
+  pub file_checked : (ended : Result Done Failure) → IfOk ended (λ done. TellsCheck bytes done out out') → IfErr ended (λ e. TellsNoCheck bytes e out out')
+      → EndsCheck read ended out out'
+  file_checked (Ok done) ok fault = checked_done done ok
+  file_checked (Err failure) ok fault = not_checked failure fault
+
+-- the site that is asked for was served
+pub console_ends : (file : Option Opened) (site : Config) (unread left : SourceState) (out out' : SinkState) (r : Result ℕ ServeFault)
+    → IsSiteAsked file site → IsServed site r unread left out out' → EndsConsole file (served_as r) unread left out out'
+console_ends file site unread left out out' (Ok n) here served = (site, here, n, served)
+console_ends file site unread left out out' (Err e) here served = (site, here, served)
+
+-- the scenario of a file was run
+pub run_ends : (read : Opened) (plan : Plan) (errors errors' out out' : SinkState) (r : Result (Unit {0}) RunFault)
+    → HasScenario read plan → OnOk r (Plays plan errors errors' out out') → IfErr r (λ e. RunStops e plan errors errors' out out')
+    → EndsRun read (ran_as r) errors errors' out out'
+run_ends read plan errors errors' out out' (Ok done) here ok fault = (plan, here, ok)
+run_ends read plan errors errors' out out' (Err e) here ok fault = (plan, here, fault)
+
+-- the session of a file was gone through again
+pub replay_ends : (read : Opened) (site : Config) (entries : List Entry) (out out' : SinkState) (r : Result (Unit {0}) OutputFault)
+    → HasSession read site entries → OnOk r (Appends out.contents out'.contents (replay_text site entries))
+    → IfErr r (λ e. (taken : Option (List ℕ)) × ReplayStops e site entries out.contents taken × GivenOut e taken out'.contents)
+    → out'.failures ≡ out.failures + write_faults r → out'.flushes + write_faults r ≡ out.flushes + 1 → ((IsErrOf r output.Write → ⊥) → out'.waiting ≡ [])
+    → EndsReplay read (replayed_as r) out out'
+replay_ends read site entries out out' (Ok done) here ok fault failures flushes sent =
+    (site, entries, here, record { told = ok; failures = omega (arith, failures); flushes = omega (arith, flushes); sent = sent (λ h. cc) })
+replay_ends read site entries out out' (Err e) here ok fault failures flushes sent = (
+  site,
+  entries,
+  here,
+  record {
+    taken = fault.0;
+    stops = fault.1;
+    given = fault.2;
+    failures = rw (faults_of e) at failures;
+    flushes = rw (faults_of e) at flushes;
+    sent = λ other. sent (λ h. other (cc));
+  },
+)

@@ -1,0 +1,130 @@
+-- What a file that was opened and read comes to.
+use Rattle.std.proofs.Common.{◌≡◌, ◌⊎◌, inl, inr, ℕ, List, Option, Result, Ok, Err, refl, arith}
+use Rattle.std.specs.Prelude.{◌+◌, ◌^◌, ◌≤◌, length, IsUtf8}
+use Rattle.std.specs.Io.KnownBytes.{Consumes}
+use Rattle.std.specs.Result.{IfErr, IfOk, IsErrOf, OnOk}
+use Rattle.std.specs.IoError.{error_kind}
+use Rattle.std.specs.declared.io.Error.{Error}
+use Rattle.esx_reading.specs.declared.fault.TextFault.{TextFault}
+use Rattle.esx_reading.specs.declared.fault.TextFault.TheVariants.{NotToml, BadKey, BadLine, NotText, Differs, Read, Write, OutOfMemory}
+use Rattle.esx_reading.specs.Whole.{GivesMore, GivesOn, GivesWhole, IsOfText}
+use Rattle.esx_scenario.specs.Scenarios.{IsRefused as IsNoPlan}
+use Rattle.esx_session.specs.Sessions.{HasOpening, IsRefused}
+use Rattle.esx_program.specs.Files.{FailsToRead, HasText, IsNoScenario, IsNoSession, IsNoText, IsRead, StopsWithin, LacksSession, LacksText, Opened}
+use Rattle.esx_program.specs.States.{SourceState}
+
+module _ (old new : SourceState) (most : new.calls ≤ old.calls + 2 ^ 26) where
+  no_text_of : (e : TextFault) → IsOfText e
+      → (e ≡ NotText → (bytes : List ℕ) × GivesWhole old.remaining new.remaining bytes × (IsUtf8 bytes → ⊥))
+      → (e ≡ NotText → (bytes : List ℕ) × GivesWhole old.remaining new.remaining bytes × (new.calls ≤ old.calls + length bytes + 1))
+      → (e ≡ NotText → new.empty_reads ≡ old.empty_reads + 1)
+      → (e ≡ Read → FailsToRead old new) → (e ≡ OutOfMemory → GivesOn old.remaining new.remaining old.calls new.calls)
+      → (e ≡ OutOfMemory → new.empty_reads ≡ old.empty_reads) → ((e ≡ Read → ⊥) → new.failures ≡ old.failures) → IsNoText old new e
+  no_text_of NotToml is none end found fails memory unended same = is
+  no_text_of (BadKey path) is none end found fails memory unended same = is
+  no_text_of (BadLine n) is none end found fails memory unended same = is
+  no_text_of NotText is none end found fails memory unended same =
+      let at_end = end refl in
+      let whole = none refl in
+      ((whole.0, record { given = whole.1; found = found refl }, whole.2), record { failures = same (λ h. cc); each = record { input = at_end.0; read = at_end.1.given; each = at_end.2 }; most = most })
+  no_text_of (Differs k) is none end found fails memory unended same = is
+  no_text_of Read is none end found fails memory unended same = fails refl
+  no_text_of Write is none end found fails memory unended same = is
+  no_text_of OutOfMemory is none end found fails memory unended same =
+      let on = memory refl in
+      record {
+        read = record { failures = same (λ h. cc); each = record { input = on.bytes; read = on.given; each = omega (arith, on.each) }; most = most };
+        given = on;
+        not_found = unended refl;
+      }
+
+  -- a text that could not be read
+  pub no_text : {T : Type 0} (r : Result T TextFault) → IfErr r IsOfText
+      → (IsErrOf r NotText → (bytes : List ℕ) × GivesWhole old.remaining new.remaining bytes × (IsUtf8 bytes → ⊥))
+      → (IsErrOf r NotText → (bytes : List ℕ) × GivesWhole old.remaining new.remaining bytes × (new.calls ≤ old.calls + length bytes + 1))
+      → (IsErrOf r Read → (new.failures ≡ old.failures + 1)
+      ⊎ ((new.failures ≡ old.failures) × ((new.calls ≡ old.calls + 2 ^ 26) ⊎ GivesMore old.remaining new.remaining)))
+      → (IsErrOf r Read → (bytes : List ℕ) × Consumes old.remaining new.remaining bytes × (new.calls ≤ old.calls + length bytes + 1))
+      → (IsErrOf r OutOfMemory → GivesOn old.remaining new.remaining old.calls new.calls)
+      → ((IsErrOf r Read → ⊥) → new.failures ≡ old.failures)
+      → (IsErrOf r NotText → new.empty_reads ≡ old.empty_reads + 1)
+      → (IsErrOf r Read → new.empty_reads ≡ old.empty_reads)
+      → (IsErrOf r OutOfMemory → new.empty_reads ≡ old.empty_reads) → IfErr r (IsNoText old new)
+  no_text (Ok v) is none end cause each memory same found not_found not_found_in_memory = tt
+  no_text (Err e) is none end cause each memory same found not_found not_found_in_memory =
+      no_text_of e is (λ h. none (cc)) (λ h. end (cc)) (λ h. found (cc))
+      (λ h. let on = each (cc) in
+      record { cause = cause (cc); not_found = not_found (cc); each = record { input = on.0; read = on.1; each = on.2 }; most = most })
+      (λ h. memory (cc)) (λ h. not_found_in_memory (cc)) (λ other. same (λ h. other (cc)))
+
+  -- a text that was read
+  pub is_text : {T : Type 0} (r : Result T TextFault) (bytes : T → List ℕ) → IfOk r (λ v. GivesWhole old.remaining new.remaining (bytes v))
+      → IfOk r (λ v. new.calls ≤ old.calls + length (bytes v) + 1) → ((IsErrOf r Read → ⊥) → new.failures ≡ old.failures)
+      → OnOk r (new.empty_reads ≡ old.empty_reads + 1) → IfOk r (λ v. IsRead old new (bytes v))
+  is_text (Ok v) bytes given calls same found = record { given = given; failures = same (λ h. cc); calls = calls; found = found; most = most }
+  is_text (Err e) bytes given calls same found = tt
+
+module _ (old new : SourceState) where
+  -- it has no scenario either
+  pub no_scenario_unread : (e : TextFault) → IsNoText old new e → IsNoScenario old new e
+  no_scenario_unread NotToml n = absurd n
+  no_scenario_unread (BadKey path) n = absurd n
+  no_scenario_unread (BadLine k) n = n
+  no_scenario_unread NotText n = n
+  no_scenario_unread (Differs k) n = n
+  no_scenario_unread Read n = n
+  no_scenario_unread Write n = n
+  no_scenario_unread OutOfMemory n = inl n
+
+  -- nor a session
+  pub no_session_unread : (e : TextFault) → IsNoText old new e → IsNoSession old new e
+  no_session_unread NotToml n = n
+  no_session_unread (BadKey path) n = n
+  no_session_unread (BadLine k) n = absurd n
+  no_session_unread NotText n = n
+  no_session_unread (Differs k) n = n
+  no_session_unread Read n = n
+  no_session_unread Write n = n
+  no_session_unread OutOfMemory n = inl n
+
+  -- a text that was refused
+  module _ (text : List ℕ) (given : IsRead old new text) (utf8 : IsUtf8 text) where
+    no_plan_of : (e : TextFault) → IsNoPlan text e → IsNoScenario old new e
+    no_plan_of NotToml n = (text, given, n)
+    no_plan_of (BadKey path) n = (text, given, n)
+    no_plan_of (BadLine k) n = n
+    no_plan_of NotText n = absurd n
+    no_plan_of (Differs k) n = n
+    no_plan_of Read n = absurd n
+    no_plan_of Write n = n
+    no_plan_of OutOfMemory n = inr (text, given, utf8)
+
+    pub no_scenario : {T : Type 0} (r : Result T TextFault) → IfErr r (IsNoPlan text) → IfErr r (IsNoScenario old new)
+    no_scenario (Ok v) n = tt
+    no_scenario (Err e) n = no_plan_of e n
+
+    no_session_of : (e : TextFault) → IsRefused e text → (e ≡ OutOfMemory → HasOpening text) → IsNoSession old new e
+    no_session_of NotToml n opening = n
+    no_session_of (BadKey path) n opening = n
+    no_session_of (BadLine k) n opening = (text, given, n)
+    no_session_of NotText n opening = absurd n
+    no_session_of (Differs k) n opening = n
+    no_session_of Read n opening = absurd n
+    no_session_of Write n opening = n
+    no_session_of OutOfMemory n opening = inr (text, given, utf8, opening refl)
+
+    pub no_session : {T : Type 0} (r : Result T TextFault) → IfErr r (λ e. IsRefused e text) → (IsErrOf r OutOfMemory → HasOpening text)
+        → IfErr r (IsNoSession old new)
+    no_session (Ok v) n opening = tt
+    no_session (Err e) n opening = no_session_of e n (λ h. opening (cc))
+
+-- a file that has no text has no session
+pub no_text_no_session : (read : Opened) (e : TextFault) → LacksText read e → LacksSession read e
+no_text_no_session (Ok states) e n = no_session_unread states.0 states.1 e n
+no_text_no_session (Err error) e n = n
+
+-- a file whose text was refused
+pub text_refused : (read : Opened) (text : List ℕ) (e : TextFault) → HasText read text → IsUtf8 text → IsRefused e text → (e ≡ OutOfMemory → HasOpening text)
+    → LacksSession read e
+text_refused (Ok states) text e here utf8 n opening = no_session_of states.0 states.1 text here utf8 e n opening
+text_refused (Err error) text e here utf8 n opening = absurd here

@@ -1,0 +1,26 @@
+use Rattle.esx_program.specs.States.{sink_state}
+use Rattle.esx_program.proofs.RunLemmas.{nothing_told, plays, stops}
+use Rattle.esx_program.proofs.running.run_to.Goals as goal
+
+pub returns-in-Ok-clause-ok : goal.returns-in-Ok-clause-ok
+returns-in-Ok-clause-ok g c =
+    let m = c.in-Ok.ensures.ok in
+    let told = c.tell.ensures.told in
+    plays c.args.scenario.now c.in-Ok.made.console m.0 m.1 c.in-Ok.made.endings.items m.2
+    (sink_state g.E.Sink.contents g.E.Sink.waiting g.E.Sink.failures g.E.Sink.flushes c.args.errors)
+    (sink_state g.E.Sink.contents g.E.Sink.waiting g.E.Sink.failures g.E.Sink.flushes c.tell.result.errors) told.0 told.1 told.2 told.3 told.4
+    (sink_state g.W.Sink.contents g.W.Sink.waiting g.W.Sink.failures g.W.Sink.flushes c.args.writer)
+    (sink_state g.W.Sink.contents g.W.Sink.waiting g.W.Sink.failures g.W.Sink.flushes c.tell.result.writer) c.tell.result.ended c.tell.ensures.ok
+
+pub returns-in-Ok-clause-fault : goal.returns-in-Ok-clause-fault
+returns-in-Ok-clause-fault g c =
+    let m = c.in-Ok.ensures.ok in
+    let told = c.tell.ensures.told in
+    stops c.args.scenario.now c.in-Ok.made.console m.0 m.1 c.in-Ok.made.endings.items m.2
+    (sink_state g.E.Sink.contents g.E.Sink.waiting g.E.Sink.failures g.E.Sink.flushes c.args.errors)
+    (sink_state g.E.Sink.contents g.E.Sink.waiting g.E.Sink.failures g.E.Sink.flushes c.tell.result.errors) told.0 told.1 told.2 told.3 told.4
+    (sink_state g.W.Sink.contents g.W.Sink.waiting g.W.Sink.failures g.W.Sink.flushes c.args.writer)
+    (sink_state g.W.Sink.contents g.W.Sink.waiting g.W.Sink.failures g.W.Sink.flushes c.tell.result.writer) c.tell.result.ended c.tell.ensures.fault
+
+pub returns-in-Err-clause-fault : goal.returns-in-Err-clause-fault
+returns-in-Err-clause-fault g c = nothing_told c.in-Err.fault c.args.scenario.now _ _ c.in-Err.ensures.fault

@@ -1,0 +1,13 @@
+use Rattle.esx_program.proofs.WordLemmas.{one_more, last_one}
+use Rattle.esx_program.proofs.words.program.Goals as goal
+
+pub returns : goal.returns
+returns c =
+    let first = one_more c.new.result c.in_ok-word_with_file.field-0 c.in_ok-subcommand.field-0 _ _
+    c.in_ok-subcommand.ensures c.in_ok-word_with_file.ensures.local c.new.ensures.app c.in_ok-word_with_file.ensures.app in
+    let second = one_more c.in_ok-subcommand.field-0 c.in_ok-word_with_file-2.field-0 c.in_ok-subcommand-2.field-0 _ _
+    c.in_ok-subcommand-2.ensures c.in_ok-word_with_file-2.ensures.local first c.in_ok-word_with_file-2.ensures.app in
+    let third = one_more c.in_ok-subcommand-2.field-0 c.in_ok-word_with_file-3.field-0 c.in_ok-subcommand-3.field-0 _ _
+    c.in_ok-subcommand-3.ensures c.in_ok-word_with_file-3.ensures.local second c.in_ok-word_with_file-3.ensures.app in
+    last_one c.subcommand-4.result c.in_ok-subcommand-3.field-0 c.in_ok-word_with_file-4.field-0 _ _
+    c.subcommand-4.ensures c.in_ok-word_with_file-4.ensures.local third c.in_ok-word_with_file-4.ensures.app

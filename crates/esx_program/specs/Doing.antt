@@ -1,0 +1,129 @@
+-- What is done with a file and with streams where something is asked for.
+use Rattle.std.specs.Prelude.{◌≡◌, ◌⊎◌, ℕ, List, Option, Some, None, Result, Ok, Err, false, map, string_bytes}
+use Rattle.std.specs.Borrow.{Bor}
+use Rattle.std.specs.Vec.Iter.{into_iter_items}
+use Rattle.std.specs.declared.io.Error.{Error}
+use Rattle.clap.specs.Words.{Text as Word, takes}
+use Rattle.esx_types.specs.declared.config.Config.{Config}
+use Rattle.esx_reading.specs.declared.fault.TextFault.{TextFault}
+use Rattle.esx_reading.specs.declared.fault.TextFault.TheVariants as text
+use Rattle.esx_scenario.specs.Plans.{Plan}
+use Rattle.esx_session.specs.declared.session.Entry.{Entry}
+use Rattle.esx_text.specs.declared.fault.ServeFault.{ServeFault}
+use Rattle.esx_check.specs.Checks.{ChecksText}
+use Rattle.esx_check.specs.declared.check.Checked.{Checked as Outcome}
+use Rattle.esx_check.specs.declared.fault.OutputFault.{OutputFault}
+use Rattle.esx_program.specs.declared.running.RunFault.{RunFault}
+use Rattle.esx_program.specs.declared.words.Asked.{Asked}
+use Rattle.esx_program.specs.declared.words.Asked.TheVariants as asked
+use Rattle.esx_program.specs.declared.Done.{Done}
+use Rattle.esx_program.specs.declared.Done.TheVariants.{Served, Ran, Replayed, Checked}
+use Rattle.esx_program.specs.declared.Failure.{Failure}
+use Rattle.esx_program.specs.declared.Failure.TheVariants.{Words, Text, Serve, Output, Run}
+use Rattle.esx_program.specs.Failing.{Asks}
+use Rattle.esx_program.specs.Files.{Opened, IsFile, HasScenario, HasSession, HasText, LacksScenario, LacksSession}
+use Rattle.esx_program.specs.Given.{Args}
+use Rattle.esx_program.specs.Runs.{Plays, RunStops}
+use Rattle.esx_program.specs.Sessions.{IsTold, IsNotTold, IsReplayed, IsNotReplayed}
+use Rattle.esx_program.specs.States.{SourceState, SinkState}
+use Rattle.esx_program.specs.Streams.{IsServed}
+use Rattle.esx_program.specs.Words.{AskAlike, asked_in, program_app, word_and_file}
+
+-- the program's own site
+abbrev pub own_site : Config
+own_site = record { frames = 20; page = 16; slots = 8; tau = 75; high = 6; soft = 4; hard = 2; low = 1; nodes = 16777216 }
+
+-- the site of the scenario in a file, or the program's own where no file is named
+abbrev pub IsSiteAsked : Option Opened → Config → Type 0
+IsSiteAsked None site = site ≡ own_site
+IsSiteAsked (Some read) site = (plan : Plan) × HasScenario read plan × (site ≡ plan.site)
+
+-- why there is no such site
+abbrev pub LacksSite : Option Opened → TextFault → Type 0
+LacksSite None e = ⊥
+LacksSite (Some read) e = LacksScenario read e
+
+-- how the program ends with a console, a run and a replay
+abbrev pub served_as : Result ℕ ServeFault → Result Done Failure
+served_as (Ok count) = Ok Served
+served_as (Err e) = Err (Serve e)
+
+abbrev pub ran_as : Result (Unit {0}) RunFault → Result Done Failure
+ran_as (Ok done) = Ok Ran
+ran_as (Err e) = Err (Run e)
+
+abbrev pub replayed_as : Result (Unit {0}) OutputFault → Result Done Failure
+replayed_as (Ok done) = Ok Replayed
+replayed_as (Err e) = Err (Output e)
+
+-- A console ends: all input was answered at that site, or it was served up to a fault. Or the file that is named has no site, and nothing was read or written.
+abbrev pub EndsConsole : Option Opened → Result Done Failure → SourceState → SourceState → SinkState → SinkState → Type 0
+EndsConsole file (Ok Served) unread left out out' = (site : Config) × IsSiteAsked file site × (count : ℕ) × IsServed site (Ok count) unread left out out'
+EndsConsole file (Err (Text e)) unread left out out' = LacksSite file e × (left ≡ unread) × (out' ≡ out)
+EndsConsole file (Err (Serve e)) unread left out out' = (site : Config) × IsSiteAsked file site × IsServed site (Err e) unread left out out'
+EndsConsole file ended unread left out out' = ⊥
+
+-- A run ends: the scenario in a file was run and told, or its run stopped. Or there is no such scenario, and nothing was written.
+abbrev pub EndsRun : Opened → Result Done Failure → SinkState → SinkState → SinkState → SinkState → Type 0
+EndsRun read (Ok Ran) errors errors' out out' = (plan : Plan) × HasScenario read plan × Plays plan errors errors' out out'
+EndsRun read (Err (Text e)) errors errors' out out' = LacksScenario read e × (errors' ≡ errors) × (out' ≡ out)
+EndsRun read (Err (Run e)) errors errors' out out' = (plan : Plan) × HasScenario read plan × RunStops e plan errors errors' out out'
+EndsRun read ended errors errors' out out' = ⊥
+
+-- A replay ends: the replies of the session in a file were written, or writing them stopped. Or there is no such session, and nothing was written.
+abbrev pub EndsReplay : Opened → Result Done Failure → SinkState → SinkState → Type 0
+EndsReplay read (Ok Replayed) out out' = (site : Config) × (entries : List Entry) × HasSession read site entries × IsReplayed site entries out out'
+EndsReplay read (Err (Text e)) out out' = LacksSession read e × (out' ≡ out)
+EndsReplay read (Err (Output e)) out out' = (site : Config) × (entries : List Entry) × HasSession read site entries × IsNotReplayed e site entries out out'
+EndsReplay read ended out out' = ⊥
+
+-- A check ends: what the session in a file comes to was written as a line, or a front of it. Or there is no such session, and nothing was written.
+abbrev pub EndsCheck : Opened → Result Done Failure → SinkState → SinkState → Type 0
+EndsCheck read (Ok (Checked checked)) out out' = (bytes : List ℕ) × HasText read bytes × ChecksText bytes checked × IsTold checked out out'
+EndsCheck read (Err (Text e)) out out' = LacksSession read e × (out' ≡ out)
+EndsCheck read (Err (Output e)) out out' =
+    (bytes : List ℕ) × HasText read bytes × (checked : Outcome) × ChecksText bytes checked × IsNotTold e checked out out'
+EndsCheck read ended out out' = ⊥
+
+-- What is asked for was done, and ended so: with what a source had, with what was told of errors, and with what was written. The streams that it takes no part in are as they were.
+abbrev pub Does : Asked Opened → Result Done Failure → SourceState → SourceState → SinkState → SinkState → SinkState → SinkState → Type 0
+Does (asked.Console file) ended unread left errors errors' out out' = EndsConsole file ended unread left out out' × (errors' ≡ errors)
+Does (asked.Run read) ended unread left errors errors' out out' = EndsRun read ended errors errors' out out' × (left ≡ unread)
+Does (asked.Replay read) ended unread left errors errors' out out' = EndsReplay read ended out out' × (left ≡ unread) × (errors' ≡ errors)
+Does (asked.Check read) ended unread left errors errors' out out' = EndsCheck read ended out out' × (left ≡ unread) × (errors' ≡ errors)
+
+-- The same of a file and of ends of the standard library, of which only the bytes are known.
+pub record DoesOver {F : Type 0} (remaining : F → Option (List ℕ)) (wanted : Asked (Result F Error)) (ended : Result Done Failure)
+    (unread left errors errors' out out' : Option (List ℕ)) : Type 0 where
+  pub read : Asked Opened
+  pub file : AskAlike (IsFile remaining) wanted read
+  pub source : SourceState
+  pub source' : SourceState
+  pub told : SinkState
+  pub told' : SinkState
+  pub written : SinkState
+  pub written' : SinkState
+  pub before : (source.remaining ≡ unread) × (told.contents ≡ errors) × (written.contents ≡ out)
+  pub after : (source'.remaining ≡ left) × (told'.contents ≡ errors') × (written'.contents ≡ out')
+  pub does : Does read ended source source' told told' written written'
+
+-- words that ask for nothing, or that there was no memory for
+abbrev pub AskForNothing : List Word → Result Done Failure → Type 0
+AskForNothing words (Err Words) = (takes program_app words ≡ false) ⊎ (asked_in words ≡ None)
+AskForNothing words (Err (Text text.OutOfMemory)) = Unit {0}
+AskForNothing words ended = ⊥
+
+-- What the words ask for was done, with the file that they name as it was opened. Or they ask for nothing, and the streams are as they were.
+abbrev pub DoesWords : {F : Type 0} → (F → Option (List ℕ)) → List Word → Result Done Failure
+    → Option (List ℕ) → Option (List ℕ) → Option (List ℕ) → Option (List ℕ) → Option (List ℕ) → Option (List ℕ) → Type 0
+DoesWords {F} remaining words ended unread left errors errors' out out' =
+    ((named : Asked (Bor Word)) × Asks words (word_and_file named) × (wanted : Asked (Result F Error)) × AskAlike (λ _ _. Unit {0}) named wanted
+    × DoesOver remaining wanted ended unread left errors errors' out out')
+    ⊎ (AskForNothing words ended × (left ≡ unread) × (errors' ≡ errors) × (out' ≡ out))
+
+-- the same of the words that the program was given, where they could be read
+abbrev pub DoesGiven : {F : Type 0} → (F → Option (List ℕ)) → Result Args Error → Result Done Failure
+    → Option (List ℕ) → Option (List ℕ) → Option (List ℕ) → Option (List ℕ) → Option (List ℕ) → Option (List ℕ) → Type 0
+DoesGiven remaining (Ok args) ended unread left errors errors' out out' =
+    DoesWords remaining (map string_bytes (into_iter_items args)) ended unread left errors errors' out out'
+DoesGiven remaining (Err e) ended unread left errors errors' out out' = (left ≡ unread) × (errors' ≡ errors) × (out' ≡ out)

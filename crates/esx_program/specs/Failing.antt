@@ -1,0 +1,72 @@
+-- With what the program may end after its words.
+use Rattle.std.specs.Prelude.{◌≡◌, ◌⊎◌, List, Option, Some, None, Result, Ok, Err, IsSome, codes, false, map, string_bytes}
+use Rattle.std.specs.IoError.{error_kind}
+use Rattle.std.specs.Vec.Iter.{into_iter_items}
+use Rattle.std.specs.declared.io.Error.{Error}
+use Rattle.clap.specs.Words.{Text as Word, takes}
+use Rattle.esx_reading.specs.declared.fault.TextFault.TheVariants as text
+use Rattle.esx_program.specs.declared.words.WordsFault.{WordsFault}
+use Rattle.esx_program.specs.declared.words.WordsFault.TheVariants as words
+use Rattle.esx_program.specs.declared.Done.{Done}
+use Rattle.esx_program.specs.declared.Failure.{Failure}
+use Rattle.esx_program.specs.declared.Failure.TheVariants.{Words, Text, Serve, Output, Run}
+use Rattle.esx_program.specs.Given.{Args, words_failure}
+use Rattle.esx_program.specs.Status.{word_of_done}
+use Rattle.esx_program.specs.Words.{HaveNoFault, asked_in, program_app}
+
+-- a word and a file that is a scenario
+abbrev pub NamesScenario : {A : Type 0} → Word × Option A → Type 0
+NamesScenario asked = IsSome asked.1 × ((asked.0 ≡ codes "console") ⊎ (asked.0 ≡ codes "run"))
+
+-- a word that wants a session
+abbrev pub WantsSession : {A : Type 0} → Word × Option A → Type 0
+WantsSession asked = (asked.0 ≡ codes "replay") ⊎ (asked.0 ≡ codes "check")
+
+-- a word and a file that is a session
+abbrev pub NamesSession : {A : Type 0} → Word × Option A → Type 0
+NamesSession asked = IsSome asked.1 × WantsSession asked
+
+-- how what is asked for may fail: at the file, if one is named, at the streams of a console, in a run, or where a replay or a check is written
+abbrev pub MayFail : {A : Type 0} → Word × Option A → Failure → Type 0
+MayFail asked Words = ⊥
+MayFail asked (Text text.NotToml) = NamesScenario asked
+MayFail asked (Text (text.BadKey path)) = NamesScenario asked
+MayFail asked (Text (text.BadLine n)) = NamesSession asked
+MayFail asked (Text text.NotText) = IsSome asked.1
+MayFail asked (Text (text.Differs k)) = ⊥
+MayFail asked (Text text.Read) = IsSome asked.1
+MayFail asked (Text text.Write) = ⊥
+MayFail asked (Text text.OutOfMemory) = IsSome asked.1
+MayFail asked (Serve e) = asked.0 ≡ codes "console"
+MayFail asked (Output e) = WantsSession asked
+MayFail asked (Run e) = asked.0 ≡ codes "run"
+
+-- words that ask for nothing, as a failure
+abbrev pub refused_as : WordsFault → Failure
+refused_as words.Wrong = Words
+refused_as words.OutOfMemory = Text text.OutOfMemory
+
+-- The words ask for this, and say no more.
+pub record Asks (words : List Word) (asked : Word × Option Word) : Type 0 where
+  pub no_fault : HaveNoFault words
+  pub asked_for : asked_in words ≡ Some asked
+
+-- what was done is what the words ask for
+abbrev pub DoesAsked : List Word → Done → Type 0
+DoesAsked words done = (file : Option Word) × Asks words (word_of_done done, file)
+
+-- Wrong words are refused. Memory may always run out. Any other failure is one of what the words ask for.
+abbrev pub FailsAfter : List Word → Failure → Type 0
+FailsAfter words Words = (takes program_app words ≡ false) ⊎ (asked_in words ≡ None)
+FailsAfter words (Text text.OutOfMemory) = Unit {0}
+FailsAfter words failure = (asked : Word × Option Word) × Asks words asked × MayFail asked failure
+
+-- how it ends with what it was given
+abbrev pub EndsWith : Result Args Error → Result Done Failure → Type 0
+EndsWith (Ok args) (Ok done) = DoesAsked (map string_bytes (into_iter_items args)) done
+EndsWith (Ok args) (Err failure) = FailsAfter (map string_bytes (into_iter_items args)) failure
+EndsWith (Err e) result = result ≡ Err (words_failure (error_kind e))
+
+-- it ends so with whatever it was given
+abbrev pub EndsAsGiven : Result Done Failure → Type 0
+EndsAsGiven ended = (given : Result Args Error) × EndsWith given ended

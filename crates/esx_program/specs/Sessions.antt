@@ -1,0 +1,63 @@
+-- What is written where a session is gone through again.
+use Rattle.std.specs.Prelude.{ℕ, List, [], ◌≡◌, ◌+◌, Option}
+use Rattle.std.specs.Io.KnownBytes.{Appends}
+use Rattle.esx_types.specs.declared.config.Config.{Config}
+use Rattle.esx_writing.specs.Writing.{WritesFront}
+use Rattle.esx_session.specs.declared.session.Entry.{Entry}
+use Rattle.esx_check.specs.declared.check.Checked.{Checked}
+use Rattle.esx_check.specs.declared.check.Checked.TheVariants.{Same, Differs}
+use Rattle.esx_check.specs.declared.fault.OutputFault.{OutputFault}
+use Rattle.esx_check.specs.declared.fault.OutputFault.TheVariants as output
+use Rattle.esx_check.specs.Checks.{checked_text}
+use Rattle.esx_check.specs.Replays.{ReplayStops, replay_text}
+use Rattle.esx_program.specs.States.{SinkState}
+
+-- the line of what a check came to was written, nothing failed, and after one flush nothing waits
+pub record IsTold (checked : Checked) (out out' : SinkState) : Type 0 where
+  pub told : Appends out.contents out'.contents (checked_text checked)
+  pub failures : out'.failures ≡ out.failures
+  pub flushes : out'.flushes ≡ out.flushes + 1
+  pub sent : out'.waiting ≡ []
+
+-- after a fault of writing a front of what the check came to was written, and nothing where memory ran out
+abbrev pub CheckStops : OutputFault → Checked → Option (List ℕ) → Option (List ℕ) → Type 0
+CheckStops output.Write checked old new = WritesFront old new (checked_text checked)
+CheckStops output.OutOfMemory checked old new = Appends old new []
+
+-- how many calls of the sink fail with a fault
+abbrev pub failed_writes : OutputFault → ℕ
+failed_writes output.Write = 1
+failed_writes output.OutOfMemory = 0
+
+-- the line was not written, or not all of it, or it could not be handed on
+pub record IsNotTold (e : OutputFault) (checked : Checked) (out out' : SinkState) : Type 0 where
+  pub stops : CheckStops e checked out.contents out'.contents
+  pub failures : out'.failures ≡ out.failures + failed_writes e
+  pub flushes : out'.flushes + failed_writes e ≡ out.flushes + 1
+  pub sent : (e ≡ output.Write → ⊥) → out'.waiting ≡ []
+
+-- all that was taken came out, or after a fault of writing a front of it
+abbrev pub GivenOut : OutputFault → Option (List ℕ) → Option (List ℕ) → Type 0
+GivenOut output.Write taken out = (rest : List ℕ) × Appends out taken rest
+GivenOut output.OutOfMemory taken out = taken ≡ out
+
+-- the replies of a session and the table were written, nothing failed, and after one flush nothing waits
+pub record IsReplayed (site : Config) (entries : List Entry) (out out' : SinkState) : Type 0 where
+  pub told : Appends out.contents out'.contents (replay_text site entries)
+  pub failures : out'.failures ≡ out.failures
+  pub flushes : out'.flushes ≡ out.flushes + 1
+  pub sent : out'.waiting ≡ []
+
+-- they were not written, or not all of them, or they could not be handed on
+pub record IsNotReplayed (e : OutputFault) (site : Config) (entries : List Entry) (out out' : SinkState) : Type 0 where
+  pub taken : Option (List ℕ)
+  pub stops : ReplayStops e site entries out.contents taken
+  pub given : GivenOut e taken out'.contents
+  pub failures : out'.failures ≡ out.failures + failed_writes e
+  pub flushes : out'.flushes + failed_writes e ≡ out.flushes + 1
+  pub sent : (e ≡ output.Write → ⊥) → out'.waiting ≡ []
+
+-- 1 at a difference
+abbrev pub check_status : Checked → ℕ
+check_status (Same count) = 0
+check_status (Differs number) = 1

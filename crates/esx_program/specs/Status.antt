@@ -1,0 +1,67 @@
+-- How the program ends.
+use Rattle.std.specs.Prelude.{◌≡◌, ℕ, List, Result, Ok, Err, codes}
+use Rattle.esx_reading.specs.declared.fault.TextFault.TheVariants as text
+use Rattle.esx_text.specs.declared.fault.ServeFault.TheVariants.{Read, Write, OutOfMemory}
+use Rattle.esx_session.specs.Sessions.{HasOpening, IsRefused}
+use Rattle.esx_check.specs.Checks.{ChecksText}
+use Rattle.esx_check.specs.declared.check.Checked.{Checked as Outcome}
+use Rattle.esx_check.specs.declared.fault.OutputFault.TheVariants as output
+use Rattle.esx_program.specs.declared.running.RunFault.TheVariants as run
+use Rattle.esx_program.specs.declared.words.WordsFault.{WordsFault}
+use Rattle.esx_program.specs.declared.words.WordsFault.TheVariants as words
+use Rattle.esx_program.specs.declared.Done.{Done}
+use Rattle.esx_program.specs.declared.Done.TheVariants.{Served, Ran, Replayed, Checked}
+use Rattle.esx_program.specs.declared.Failure.{Failure}
+use Rattle.esx_program.specs.declared.Failure.TheVariants.{Words, Text, Serve, Output, Run}
+use Rattle.esx_program.specs.Sessions.{IsTold, IsNotTold, check_status}
+use Rattle.esx_program.specs.States.{SinkState}
+
+-- 1 where a file or an opening was refused, or it could not read or write; 2 where it was given wrong words; 3 where memory ran out
+abbrev pub status_of : Failure → ℕ
+status_of Words = 2
+status_of (Text text.OutOfMemory) = 3
+status_of (Text _) = 1
+status_of (Serve Read) = 1
+status_of (Serve Write) = 1
+status_of (Serve OutOfMemory) = 3
+status_of (Output output.Write) = 1
+status_of (Output output.OutOfMemory) = 3
+status_of (Run (run.Refused e)) = 1
+status_of (Run run.Write) = 1
+status_of (Run run.OutOfMemory) = 3
+
+-- after words that ask for nothing
+abbrev pub status_of_words : WordsFault → ℕ
+status_of_words words.Wrong = 2
+status_of_words words.OutOfMemory = 3
+
+-- the word that asks for what was done
+abbrev pub word_of_done : Done → List ℕ
+word_of_done Served = codes "console"
+word_of_done Ran = codes "run"
+word_of_done Replayed = codes "replay"
+word_of_done (Checked checked) = codes "check"
+
+-- it is a check of that text, and the line of what it comes to was written
+abbrev pub TellsCheck : List ℕ → Done → SinkState → SinkState → Type 0
+TellsCheck bytes (Checked checked) old new = ChecksText bytes checked × IsTold checked old new
+TellsCheck bytes _ old new = ⊥
+
+-- The text was refused so, and nothing was written. Or its check came to something, and at most a front of its line was written.
+abbrev pub TellsNoCheck : List ℕ → Failure → SinkState → SinkState → Type 0
+TellsNoCheck bytes (Text text.OutOfMemory) old new = HasOpening bytes × (new ≡ old)
+TellsNoCheck bytes (Text e) old new = IsRefused e bytes × (new ≡ old)
+TellsNoCheck bytes (Output e) old new = (checked : Outcome) × ChecksText bytes checked × IsNotTold e checked old new
+TellsNoCheck bytes _ old new = ⊥
+
+-- 0, but 1 where a session differs
+abbrev pub status_of_done : Done → ℕ
+status_of_done Served = 0
+status_of_done Ran = 0
+status_of_done Replayed = 0
+status_of_done (Checked checked) = check_status checked
+
+-- well, or otherwise
+abbrev pub status_of_end : Result Done Failure → ℕ
+status_of_end (Ok done) = status_of_done done
+status_of_end (Err failure) = status_of failure

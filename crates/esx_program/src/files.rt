@@ -1,0 +1,99 @@
+//! What is in a file that was opened, or was not.
+
+ghost use Rattle.std.specs.Prelude.{◌≡◌, ℕ, List, string_bytes, IfOk, IfErr};
+ghost use Rattle.esx_types.specs.Ranges.{IsConfig};
+ghost use Rattle.esx_scenario.specs.Scenarios.{IsScenario};
+ghost use Rattle.esx_session.specs.Sessions.{Reads};
+ghost use Rattle.esx_program.specs.Files.{Opened, IsLeft, IsNoScenario, IsNoSession, IsNoText, IsRead, HasScenario, HasSession, HasText, LacksScenario, LacksSession, LacksText};
+ghost use Rattle.esx_program.specs.Given.{open_fault};
+ghost use Rattle.esx_program.specs.States.{source_state};
+
+use esx_reading::{TextFault, read_text};
+use esx_scenario::{Scenario, parse_scenario};
+use esx_session::{Session, parse_session};
+use esx_types::Source;
+use std::alloc::Global;
+use std::io::{self, ErrorKind};
+
+/// What is told of a file that could not be opened.
+fn fault_of_kind(kind: ErrorKind) -> TextFault
+    ensures { result ≡ open_fault kind }
+{
+    match kind {
+        ErrorKind::OutOfMemory => TextFault::OutOfMemory,
+        _ => TextFault::Read,
+    }
+}
+
+/// The text that a file gives.
+fn text_of_source<F: Source>(alloc: Global, file: &mut F) -> Result<String, TextFault>
+    ensures text { IfOk result (λ s. IsRead (source_state F.remaining F.calls F.failures F.empty_reads file.old) (source_state F.remaining F.calls F.failures F.empty_reads file.new) (string_bytes s)) }
+    ensures fault { IfErr result (IsNoText (source_state F.remaining F.calls F.failures F.empty_reads file.old) (source_state F.remaining F.calls F.failures F.empty_reads file.new)) }
+{
+    read_text(alloc, file)
+}
+
+/// The scenario that a file gives.
+fn scenario_of_source<F: Source>(alloc: Global, file: &mut F) -> Result<Scenario, TextFault>
+    ensures scenario { IfOk result (λ plan. (text : List ℕ)
+        × IsRead (source_state F.remaining F.calls F.failures F.empty_reads file.old) (source_state F.remaining F.calls F.failures F.empty_reads file.new) text × IsScenario text plan) }
+    ensures fault { IfErr result (IsNoScenario (source_state F.remaining F.calls F.failures F.empty_reads file.old) (source_state F.remaining F.calls F.failures F.empty_reads file.new)) }
+{
+    let text = text_of_source(alloc, file)?;
+    parse_scenario(alloc, text.as_str())
+}
+
+/// The session that a file gives.
+fn session_of_source<F: Source>(alloc: Global, file: &mut F) -> Result<Session, TextFault>
+    ensures config { IfOk result (λ session. IsConfig session.site) }
+    ensures session { IfOk result (λ session. (text : List ℕ)
+        × IsRead (source_state F.remaining F.calls F.failures F.empty_reads file.old) (source_state F.remaining F.calls F.failures F.empty_reads file.new) text
+        × Reads text session.site session.entries) }
+    ensures fault { IfErr result (IsNoSession (source_state F.remaining F.calls F.failures F.empty_reads file.old) (source_state F.remaining F.calls F.failures F.empty_reads file.new)) }
+{
+    let text = text_of_source(alloc, file)?;
+    parse_session(alloc, text.as_str())
+}
+
+/// The text in a file.
+pub fn text_of_file<F: Source>(
+    alloc: Global,
+    opened: &mut io::Result<F>,
+) -> Result<String, TextFault>
+    ensures { (read : Opened) × IsLeft (source_state F.remaining F.calls F.failures F.empty_reads) opened.old opened.new read
+        × IfOk result (λ s. HasText read (string_bytes s)) × IfErr result (LacksText read) }
+{
+    match opened {
+        Ok(file) => text_of_source(alloc, file),
+        Err(error) => Err(fault_of_kind(error.kind())),
+    }
+}
+
+/// The scenario in a file.
+pub fn scenario_of_file<F: Source>(
+    alloc: Global,
+    opened: &mut io::Result<F>,
+) -> Result<Scenario, TextFault>
+    ensures { (read : Opened) × IsLeft (source_state F.remaining F.calls F.failures F.empty_reads) opened.old opened.new read
+        × IfOk result (HasScenario read) × IfErr result (LacksScenario read) }
+{
+    match opened {
+        Ok(file) => scenario_of_source(alloc, file),
+        Err(error) => Err(fault_of_kind(error.kind())),
+    }
+}
+
+/// The session in a file.
+pub fn session_of_file<F: Source>(
+    alloc: Global,
+    opened: &mut io::Result<F>,
+) -> Result<Session, TextFault>
+    ensures config { IfOk result (λ session. IsConfig session.site) }
+    ensures session { (read : Opened) × IsLeft (source_state F.remaining F.calls F.failures F.empty_reads) opened.old opened.new read
+        × IfOk result (λ session. HasSession read session.site session.entries) × IfErr result (LacksSession read) }
+{
+    match opened {
+        Ok(file) => session_of_source(alloc, file),
+        Err(error) => Err(fault_of_kind(error.kind())),
+    }
+}

@@ -1,0 +1,163 @@
+//! A session, gone through again.
+
+ghost use Rattle.std.specs.Prelude.{◌≡◌, ◌+◌, ◌≤◌, [], ℕ, List, Option, IfOk, IfErr, IsErrOf, OnOk};
+ghost use Rattle.std.specs.Io.KnownBytes.{Appends, Keeps};
+ghost use Rattle.esx_types.specs.Ranges.{IsConfig};
+ghost use Rattle.esx_session.specs.Sessions.{HasOpening, IsRefused};
+ghost use Rattle.esx_check.specs.Checks.{ChecksText, checked_text};
+ghost use Rattle.esx_check.specs.Replays.{ReplayStops, replay_text, write_faults};
+ghost use Rattle.esx_writing.specs.Writing.{Writes, sink_faults};
+ghost use Rattle.esx_program.specs.Sessions.{CheckStops, GivenOut, check_status, failed_writes};
+
+use crate::gates::Counting;
+use crate::outgoing::{Outgoing, Waiting};
+use crate::progress::{Progress, Watched};
+use esx_check::{Checked, OutputFault, check_text_through, replay_session, write_checked};
+use esx_reading::TextFault;
+use esx_session::Session;
+use esx_types::{Sink, SinkFailed};
+use esx_writing::AnswerBuffer;
+use std::alloc::Global;
+use std::marker::Brand;
+use std::sync::ledger::{Blank, Ledger};
+
+/// Checks the session of a text while it is read, and tells how many of its calls were made to `to`, where there
+/// is one.
+///
+/// A bad line behind a difference is the fault all the same.
+pub fn check_watched<P: Print>(
+    alloc: Global,
+    text: &str,
+    to: Option<&P>,
+) -> Result<Checked, TextFault>
+    ensures checks { IfOk result (ChecksText text.now) }
+    ensures fault { IfErr result (λ e. IsRefused e text.now) }
+    ensures memory { IsErrOf result TextFault.OutOfMemory → HasOpening text.now }
+{
+    let progress = Progress::new(to, None, "calls");
+    let mut gate = Counting {
+        progress: &progress,
+    };
+    let checked = check_text_through(alloc, text, &mut gate);
+    progress.end();
+    checked
+}
+
+/// Hands on what waits, where memory ran out, and tells what an output comes to by that.
+fn give_up<W: Sink>(writer: &mut W) -> OutputFault
+    ensures bytes { Keeps (W.contents writer.old) (W.contents writer.new) }
+    ensures failures { W.failures writer.new ≡ W.failures writer.old + failed_writes result }
+    ensures flushes { W.flushes writer.new + failed_writes result ≡ W.flushes writer.old + 1 }
+    ensures sent { (result ≡ OutputFault.Write → ⊥) → W.waiting writer.new ≡ [] }
+{
+    match writer.flush() {
+        Ok(()) => OutputFault::OutOfMemory,
+        Err(SinkFailed) => OutputFault::Write,
+    }
+}
+
+/// Writes what a check came to as a line, and hands it on.
+fn write_line<W: Sink>(
+    writer: &mut W,
+    held: &mut AnswerBuffer,
+    checked: Checked,
+) -> Result<(), SinkFailed>
+    requires { held.old ≡ [] }
+    ensures bytes { Writes (W.contents writer.old) (W.contents writer.new) (checked_text checked) result }
+    ensures failures { W.failures writer.new ≡ W.failures writer.old + sink_faults result }
+    ensures flushes { W.flushes writer.new + sink_faults result ≡ W.flushes writer.old + 1 }
+    ensures sent { OnOk result (W.waiting writer.new ≡ []) }
+{
+    write_checked(writer, held, checked)?;
+    writer.flush()
+}
+
+/// Writes what a check came to as a line, and hands it on.
+pub fn tell_check<W: Sink>(
+    alloc: Global,
+    checked: Checked,
+    writer: &mut W,
+) -> Result<(), OutputFault>
+    ensures told { OnOk result (Appends (W.contents writer.old) (W.contents writer.new) (checked_text checked)) }
+    ensures fault { IfErr result (λ e. CheckStops e checked (W.contents writer.old) (W.contents writer.new)) }
+    ensures failures { W.failures writer.new ≡ W.failures writer.old + write_faults result }
+    ensures flushes { W.flushes writer.new + write_faults result ≡ W.flushes writer.old + 1 }
+    ensures sent { (IsErrOf result OutputFault.Write → ⊥) → W.waiting writer.new ≡ [] }
+{
+    let Ok(mut held) = AnswerBuffer::new(alloc) else {
+        return Err(give_up(writer));
+    };
+    match write_line(writer, &mut held, checked) {
+        Ok(()) => Ok(()),
+        Err(SinkFailed) => Err(OutputFault::Write),
+    }
+}
+
+/// The status that the program ends with after a check.
+pub fn status_of_check(checked: Checked) -> u8
+    ensures { result ≡ check_status checked }
+{
+    match checked {
+        Checked::Same(_) => 0,
+        Checked::Differs(_) => 1,
+    }
+}
+
+/// Writes the replies of a session anew, and lets them wait until there are many.
+fn replay_buffered<W: Sink + Drop, L: Ledger>(
+    alloc: Global,
+    session: Session,
+    mut writer: W,
+    blank: Blank,
+) -> (Result<(), OutputFault>, W)
+    requires config { IsConfig session.site }
+    requires name { blank.name ≡ L.name }
+    requires parts { blank.parts ≡ L.parts }
+    requires three { 3 ≤ blank.parts }
+    ensures ok { OnOk result.0 (Appends (W.contents writer) (W.contents result.1) (replay_text session.site session.entries)) }
+    ensures fault { IfErr result.0 (λ e. (taken : Option (List ℕ)) × ReplayStops e session.site session.entries (W.contents writer) taken
+        × GivenOut e taken (W.contents result.1)) }
+    ensures failures { W.failures result.1 ≡ W.failures writer + write_faults result.0 }
+    ensures flushes { W.flushes result.1 + write_faults result.0 ≡ W.flushes writer + 1 }
+    ensures sent { (IsErrOf result.0 OutputFault.Write → ⊥) → W.waiting result.1 ≡ [] }
+{
+    let Ok(waiting) = Waiting::new(alloc) else {
+        let fault = give_up(&mut writer);
+        return (Err(fault), writer);
+    };
+    let mut outgoing = Outgoing::<W, L>::new(writer, waiting, blank);
+    let replayed = replay_session(alloc, session, &mut outgoing);
+    (replayed, outgoing.into_sink())
+}
+
+/// How a replay ended, and the writer as it is then.
+#[derive(Drop)]
+pub struct Replayed<W: Drop> {
+    pub ended: Result<(), OutputFault>,
+    pub writer: W,
+}
+
+/// The same, and tells how many bytes were written to `to`, where there is one.
+pub fn replay_watched<P: Print, W: Sink + Drop>(
+    alloc: Global,
+    session: Session,
+    to: Option<&P>,
+    writer: W,
+) -> Replayed<W>
+    requires { IsConfig session.site }
+    ensures ok { OnOk result.ended (Appends (W.contents writer) (W.contents result.writer) (replay_text session.site session.entries)) }
+    ensures fault { IfErr result.ended (λ e. (taken : Option (List ℕ)) × ReplayStops e session.site session.entries (W.contents writer) taken
+        × GivenOut e taken (W.contents result.writer)) }
+    ensures failures { W.failures result.writer ≡ W.failures writer + write_faults result.ended }
+    ensures flushes { W.flushes result.writer + write_faults result.ended ≡ W.flushes writer + 1 }
+    ensures sent { (IsErrOf result.ended OutputFault.Write → ⊥) → W.waiting result.writer ≡ [] }
+{
+    let progress = Progress::new(to, None, "bytes of replies");
+    let watched = Watched::new(writer, &progress);
+    let (ended, watched) = replay_buffered::<_, Brand>(alloc, session, watched, Blank::new(3));
+    progress.end();
+    Replayed {
+        ended,
+        writer: watched.into_writer(),
+    }
+}

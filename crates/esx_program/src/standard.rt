@@ -1,0 +1,157 @@
+//! Files and streams of the standard library, as the sources and sinks that the program reads and writes.
+
+ghost use Rattle.std.specs.Prelude.{◌≡◌, ◌≤◌, IfOk, IfErr};
+ghost use Rattle.esx_program.specs.Doing.{DoesOver};
+ghost use Rattle.esx_program.specs.Failing.{MayFail};
+ghost use Rattle.esx_program.specs.Files.{IsSame};
+ghost use Rattle.esx_program.specs.Status.{word_of_done};
+ghost use Rattle.esx_program.specs.Words.{asked_of, AskAlike};
+
+use crate::commands::{Ended, Streams, run_asked};
+use crate::words::Asked;
+use esx_types::{ReadSource, Source, WriteSink};
+use std::alloc::AllocGlobal;
+use std::fs;
+use std::io::{self, Read, Write};
+use std::marker::Brand;
+use std::rt::Files;
+use std::sync::Wait;
+use std::sync::ledger::{Blank, Ledger};
+use std::thread::Threads;
+
+/// What is asked for, with its file as it is opened.
+pub fn opened<R: Files>(rt: &R, asked: Asked<&str>) -> Asked<io::Result<R::File>>
+    ensures { AskAlike (λ _ _. Unit {0}) asked.entry result }
+{
+    match asked {
+        Asked::Console(None) => Asked::Console(None),
+        Asked::Console(Some(path)) => Asked::Console(Some(fs::open(rt, path))),
+        Asked::Run(path) => Asked::Run(fs::open(rt, path)),
+        Asked::Replay(path) => Asked::Replay(fs::open(rt, path)),
+        Asked::Check(path) => Asked::Check(fs::open(rt, path)),
+    }
+}
+
+/// A file as a source.
+fn source_of<F: Read + Drop, L: Ledger>(
+    opened: io::Result<F>,
+    calls: Blank,
+) -> io::Result<ReadSource<F, L>>
+    requires name { calls.name ≡ L.name }
+    requires parts { calls.parts ≡ L.parts }
+    requires three { 3 ≤ calls.parts }
+    ensures { IsSame F.remaining ⟦<ReadSource<F, L> as Source>⟧.remaining opened result }
+{
+    match opened {
+        Ok(file) => Ok(ReadSource::new(file, calls)),
+        Err(error) => Err(error),
+    }
+}
+
+/// What is asked for, with its file as a source.
+fn with_source<F: Read + Drop, L: Ledger>(
+    asked: Asked<io::Result<F>>,
+    calls: Blank,
+) -> Asked<io::Result<ReadSource<F, L>>>
+    requires name { calls.name ≡ L.name }
+    requires parts { calls.parts ≡ L.parts }
+    requires three { 3 ≤ calls.parts }
+    ensures { AskAlike (IsSame F.remaining ⟦<ReadSource<F, L> as Source>⟧.remaining) asked result }
+{
+    match asked {
+        Asked::Console(None) => Asked::Console(None),
+        Asked::Console(Some(opened)) => Asked::Console(Some(source_of(opened, calls))),
+        Asked::Run(opened) => Asked::Run(source_of(opened, calls)),
+        Asked::Replay(opened) => Asked::Replay(source_of(opened, calls)),
+        Asked::Check(opened) => Asked::Check(source_of(opened, calls)),
+    }
+}
+
+fn run_counted<
+    R: AllocGlobal + Threads + Wait + Sync,
+    P: Print + Sync,
+    F: Read + Drop,
+    I: Read + Drop,
+    E: Write + Drop,
+    W: Write + Drop,
+    Files: Ledger,
+    In: Ledger,
+    Told: Ledger,
+    Out: Ledger,
+>(
+    rt: &R,
+    asked: Asked<io::Result<F>>,
+    to: Option<&P>,
+    streams: Streams<I, E, W>,
+    calls_file: Blank,
+    calls_in: Blank,
+    calls_told: Blank,
+    calls_out: Blank,
+) -> Ended<I, E, W>
+    requires name_file { calls_file.name ≡ Files.name }
+    requires parts_file { calls_file.parts ≡ Files.parts }
+    requires three_file { 3 ≤ calls_file.parts }
+    requires name_in { calls_in.name ≡ In.name }
+    requires parts_in { calls_in.parts ≡ In.parts }
+    requires three_in { 3 ≤ calls_in.parts }
+    requires name_told { calls_told.name ≡ Told.name }
+    requires parts_told { calls_told.parts ≡ Told.parts }
+    requires three_told { 3 ≤ calls_told.parts }
+    requires name_out { calls_out.name ≡ Out.name }
+    requires parts_out { calls_out.parts ≡ Out.parts }
+    requires three_out { 3 ≤ calls_out.parts }
+    ensures word { IfOk result.ended (λ done. word_of_done done ≡ (asked_of asked).0) }
+    ensures failure { IfErr result.ended (MayFail (asked_of asked)) }
+    ensures does { DoesOver F.remaining asked result.ended (I.remaining streams.reader) (I.remaining result.streams.reader)
+        (E.contents streams.errors) (E.contents result.streams.errors) (W.contents streams.writer) (W.contents result.streams.writer) }
+{
+    let Streams {
+        reader,
+        errors,
+        writer,
+    } = streams;
+    let mut asked = with_source::<_, Files>(asked, calls_file);
+    let streams = Streams {
+        reader: ReadSource::<I, In>::new(reader, calls_in),
+        errors: WriteSink::<E, Told>::new(errors, calls_told),
+        writer: WriteSink::<W, Out>::new(writer, calls_out),
+    };
+    let Ended { ended, streams } = run_asked(rt, &mut asked, to, streams);
+    let Streams {
+        reader,
+        errors,
+        writer,
+    } = streams;
+    let streams = Streams {
+        reader: reader.into_reader(),
+        errors: errors.into_writer(),
+        writer: writer.into_writer(),
+    };
+    Ended { ended, streams }
+}
+
+/// Does what is asked for, of a file and over streams of the standard library.
+pub fn run_over<
+    R: AllocGlobal + Threads + Wait + Sync,
+    P: Print + Sync,
+    F: Read + Drop,
+    I: Read + Drop,
+    E: Write + Drop,
+    W: Write + Drop,
+>(rt: &R, asked: Asked<io::Result<F>>, to: Option<&P>, streams: Streams<I, E, W>) -> Ended<I, E, W>
+    ensures word { IfOk result.ended (λ done. word_of_done done ≡ (asked_of asked).0) }
+    ensures failure { IfErr result.ended (MayFail (asked_of asked)) }
+    ensures does { DoesOver F.remaining asked result.ended (I.remaining streams.reader) (I.remaining result.streams.reader)
+        (E.contents streams.errors) (E.contents result.streams.errors) (W.contents streams.writer) (W.contents result.streams.writer) }
+{
+    run_counted::<_, _, _, _, _, _, Brand, Brand, Brand, Brand>(
+        rt,
+        asked,
+        to,
+        streams,
+        Blank::new(3),
+        Blank::new(3),
+        Blank::new(3),
+        Blank::new(3),
+    )
+}

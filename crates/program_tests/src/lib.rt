@@ -1,0 +1,5 @@
+//! What is run of the program.
+#![tactic(auto)]
+
+#[cfg(test)]
+mod tests;

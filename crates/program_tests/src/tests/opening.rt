@@ -1,0 +1,151 @@
+//! The program's words, and the sites of scenarios in files.
+
+use super::asking::streams;
+use esx_program::{Asked, Ended, Failure, WordsFault, asked_of_words, run_over};
+use std::alloc::{AllocError, AllocGlobal, Global};
+use std::io::{self, ErrorKind, Read, Stderr};
+use std::sync::Wait;
+use std::test::Fail;
+use std::thread::Threads;
+
+/// Reads words that are given in one line, with one space between each and the next.
+pub fn words_of(alloc: Global, line: &str) -> Result<Vec<String>, AllocError> {
+    let mut words = Vec::new(alloc);
+    for word in line.split(' ') {
+        words.push(String::from_str(alloc, word)?)?;
+    }
+    Ok(words)
+}
+
+#[test]
+fn words(rt: HostRuntime) -> Result<(), Fail> {
+    let alloc = rt.alloc();
+    let rows = [
+        ("esxplan", Ok(Asked::Console(None))),
+        ("esxplan console", Ok(Asked::Console(None))),
+        ("esxplan console a.toml", Ok(Asked::Console(Some("a.toml")))),
+        ("esxplan console --", Ok(Asked::Console(None))),
+        ("esxplan console -- -a", Ok(Asked::Console(Some("-a")))),
+        ("esxplan run a", Ok(Asked::Run("a"))),
+        ("esxplan run", Err(WordsFault::Wrong)),
+        ("esxplan replay a", Ok(Asked::Replay("a"))),
+        ("esxplan check a", Ok(Asked::Check("a"))),
+        ("esxplan replay", Err(WordsFault::Wrong)),
+        ("esxplan check", Err(WordsFault::Wrong)),
+        ("esxplan check a b", Err(WordsFault::Wrong)),
+        ("esxplan check --help", Err(WordsFault::Wrong)),
+        ("esxplan console -a", Err(WordsFault::Wrong)),
+        ("esxplan console a b", Err(WordsFault::Wrong)),
+        ("esxplan Console", Err(WordsFault::Wrong)),
+        ("esxplan a.toml", Err(WordsFault::Wrong)),
+        ("esxplan --help", Err(WordsFault::Wrong)),
+        ("esxplan help", Err(WordsFault::Wrong)),
+        ("esxplan console --help", Err(WordsFault::Wrong)),
+    ];
+    for (line, wanted) in &rows {
+        let words = words_of(alloc, *line)?;
+        assert!(rt;
+            asked_of_words(alloc, words.as_slice()) == *wanted,
+            "{line}"
+        );
+    }
+    Ok(())
+}
+
+/// Gives a text byte by byte, and fails behind it where it is told to.
+#[derive(Drop)]
+pub(super) struct Tape {
+    pub(super) text: &'static [u8],
+    pub(super) fails: bool,
+}
+
+impl Read for Tape {
+    fn read(&mut self, buffer: &mut [u8]) -> io::Result<usize> {
+        match self.text.split_first() {
+            Some((first, rest)) => {
+                if buffer.is_empty() {
+                    return Ok(0);
+                }
+                buffer[0] = *first;
+                self.text = rest;
+                Ok(1)
+            }
+            None => {
+                if self.fails {
+                    Err(io::Error::from(ErrorKind::Other))
+                } else {
+                    Ok(0)
+                }
+            }
+        }
+    }
+}
+
+const SMALL: &[u8] = b"version = 1\n[machine]\nframes = 20\npage = 16\nslots = 8\n";
+
+const OTHER: &[u8] = b"version = 1\n[machine]\nframes = 8\npage = 32\nslots = 0\nnodes = 2\n";
+
+/// Serves one `sum` at the site of a file, and gives what is answered.
+fn sum_at<R: AllocGlobal + Threads + Wait + Sync>(
+    rt: &R,
+    opened: io::Result<Tape>,
+) -> Result<Vec<u8>, Failure> {
+    let to: Option<&Stderr> = None;
+    let Ended { ended, streams } = run_over(
+        rt,
+        Asked::Console(Some(opened)),
+        to,
+        streams(rt.alloc()),
+    );
+    match ended {
+        Ok(_) => Ok(streams.writer),
+        Err(failure) => Err(failure),
+    }
+}
+
+pub fn taped(text: &'static [u8], fails: bool) -> io::Result<Tape> {
+    Ok(Tape { text, fails })
+}
+
+/// A console is served at the site of the scenario in its file.
+#[test]
+fn sites(rt: HostRuntime) {
+    let rows = [
+        (
+            SMALL,
+            b"overhead 0 private 0 shared 0 free 20 high\n".as_slice(),
+        ),
+        (
+            OTHER,
+            b"overhead 0 private 0 shared 0 free 8 high\n".as_slice(),
+        ),
+    ];
+    for (text, answer) in &rows {
+        let Ok(bytes) = sum_at(&rt, taped(*text, false)) else {
+            panic!(rt; "a good scenario was refused");
+        };
+        assert!(rt; bytes.as_slice() == *answer);
+    }
+}
+
+/// A file that has no scenario, that fails, or that was not opened is told so.
+#[test]
+fn no_sites(rt: HostRuntime) -> Result<(), Fail> {
+    let alloc = rt.alloc();
+    let rows = [
+        (taped(SMALL, true), 1, "read fault"),
+        (taped(b"version = 1\n\xff", false), 1, "bad text"),
+        (taped(b"frames = ", false), 1, "bad toml"),
+        (taped(b"version = 2", false), 1, "bad key version"),
+        (Err(io::Error::from(ErrorKind::NotFound)), 1, "read fault"),
+        (Err(io::Error::from(ErrorKind::OutOfMemory)), 3, "no memory"),
+    ];
+    for (opened, status, text) in rows {
+        let Err(failure) = sum_at(&rt, opened) else {
+            panic!(rt; "a bad scenario was taken");
+        };
+        assert_eq!(rt; failure.status(), status);
+        assert_eq!(rt; failure.to_string(alloc)?.as_str(), text);
+    }
+    Ok(())
+}
