@@ -1,6 +1,6 @@
 //! Names of nodes.
 
-ghost use Rattle.std.specs.Prelude.{◌≡◌, ◌↔◌, IfOk, IfSome, IsSome, IsTrue};
+ghost use Rattle.std.specs.Prelude.{◌≡◌, ◌↔◌, IfOk, IfSome, IsSome, IsTrue, OnErr};
 ghost use Rattle.esx_events.specs.Names.{IsName, is_name_byte, is_lower, starts_lower, is_name};
 ghost use Rattle.std.specs.List.{list_all};
 
@@ -64,10 +64,11 @@ impl Model for Name {
 }
 
 impl Name {
-    /// The name that is this text, where it may be one.
+    /// The name that is this text, where it may be one. Memory is taken for a name alone.
     pub fn new(alloc: Global, text: &str) -> Result<Option<Name>, AllocError>
         ensures some { IfOk result (λ found. IsSome found ↔ IsName text.now) }
         ensures value { IfOk result (λ found. IfSome found (λ name. name ≡ text.now)) }
+        ensures memory { OnErr result (IsName text.now) }
     {
         if is_name(text.as_bytes()) {
             let text = Boxed::new(alloc, String::from_str(alloc, text)?)?;

@@ -2,13 +2,13 @@
 
 ghost use Rattle.std.specs.Prelude.{◌≡◌, IfOk};
 ghost use Rattle.std.specs.List.{position_from};
-ghost use Rattle.esx_types.specs.Frames.{ref_count};
 ghost use Rattle.esx_types.specs.Listings.{is_shared_under};
 ghost use Rattle.esx_changes.specs.Planned.{Plans};
 ghost use Rattle.esx_sharing.specs.Sharing.{look_at_shared, look_at_hinted, look_at_hint, look_by_key, look_in, key_in, join_changes, pair_changes, hint_changes, count_with, look_changes, look_said, looked, scan_frame, scan_row, scan_plan, HasCounts};
 
 use esx_changes::Plan;
 use esx_changes::changes::{page_at, unlisted};
+use esx_changes::shared::ref_count;
 use esx_events::{Answer, Refusal, Scanned};
 use esx_formulas::content_key;
 use esx_model::Look;
@@ -119,25 +119,12 @@ pub fn look_by_row(tables: &SiteTables, vm: VmId, page: u32, row: &FrameRow) -> 
     }
 }
 
-fn ref_count(row: &FrameRow) -> u32
-    ensures { result ≡ ref_count row.now }
-{
-    match row {
-        FrameRow::Free | FrameRow::Overhead | FrameRow::Private { .. } => 0,
-        FrameRow::Shared { count, .. } => *count,
-    }
-}
-
 /// How many pages are in a shared frame with one more.
-#[tactic(auto, using(crate::proofs::Rows::no_count))]
 fn count_with(tables: &SiteTables, frame: u32) -> u32
     requires { HasCounts tables.now }
     ensures { result ≡ count_with tables.now frame }
 {
-    match tables.frame(frame) {
-        Some(row) => ref_count(row) + 1,
-        None => 1,
-    }
+    ref_count(tables, frame) + 1
 }
 
 /// A page leaves its frame for another, where so many are then.
