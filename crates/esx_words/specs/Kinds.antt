@@ -67,7 +67,7 @@ abbrev pub MayBeNumbers : List (List ℕ) → Type 0
 MayBeNumbers words = (words ≡ []) ⊎ ValueThen Kind.Word (λ others. Unit {0}) words
 
 -- values of these kinds take memory, and the words are those of the values before the one that takes it: for bytes
--- one last word as long as some bytes have digits, for a name one last word, and for a sample's words a first one or none
+-- one last word as long as some bytes have digits, for a name that name, and for a sample's words a first one or none
 abbrev pub TakeMemory : Kinds → List (List ℕ) → Type 0
 TakeMemory Kinds.End words = ⊥
 TakeMemory (Kinds.Then Kind.Machine kinds) words = ValueThen Kind.Machine (λ others. TakeMemory kinds others) words
@@ -75,5 +75,5 @@ TakeMemory (Kinds.Then Kind.Number kinds) words = ValueThen Kind.Number (λ othe
 TakeMemory (Kinds.Then Kind.Word kinds) words = ValueThen Kind.Word (λ others. TakeMemory kinds others) words
 TakeMemory (Kinds.Then Kind.Hex kinds) words =
     (digits : List ℕ) × (words ≡ digits ∷ []) × (0 < length digits) × (length digits ≤ 8192) × (length digits % 2 ≡ 0)
-TakeMemory (Kinds.Then Kind.Name kinds) words = (word : List ℕ) × (words ≡ word ∷ [])
+TakeMemory (Kinds.Then Kind.Name kinds) words = (name : List ℕ) × IsName name × (words ≡ name ∷ [])
 TakeMemory Kinds.Words words = MayBeNumbers words

@@ -173,7 +173,7 @@ pub fn written(
 pub fn name(alloc: Global, fields: &mut Fields) -> Result<Name, TextFault>
     ensures found { IfOk result (λ name. IsName name × (fields.old ≡ name ∷ [])) }
     ensures only { IfErr result (λ e. Refuses e ((name : List ℕ) → IsName name → fields.old ≡ name ∷ [] → ⊥)) }
-    ensures memory { IsErrOf result TextFault.OutOfMemory → (text : List ℕ) × (fields.old ≡ text ∷ []) }
+    ensures memory { IsErrOf result TextFault.OutOfMemory → (name : List ℕ) × IsName name × (fields.old ≡ name ∷ []) }
 {
     let Some(text) = fields.only() else {
         return Err(TextFault::BadLine(1));
