@@ -23,18 +23,16 @@ mod streams;
 mod words;
 
 pub use commands::{Ended, Streams};
-pub use running::RunFault;
-pub use session::check_watched;
-pub use site::serve_site;
-pub use standard::run_over;
-pub use words::{Asked, WordsFault, asked_of_words};
-
 use esx_check::{Checked, OutputFault};
 use esx_reading::TextFault;
 use esx_text::ServeFault;
 use esx_types::Config;
+pub use running::RunFault;
+pub use session::check_watched;
 use session::status_of_check;
+pub use site::serve_site;
 use standard::opened;
+pub use standard::run_over;
 use std::alloc::{AllocGlobal, Global};
 use std::env::{self, Args, Env};
 use std::io::{self, Eprint, ErrorKind, Input, IsTerminal, Print, Read, Stderr, Write};
@@ -43,6 +41,7 @@ use std::rt::Files;
 use std::sync::Wait;
 use std::thread::Threads;
 use thiserror::Error;
+pub use words::{Asked, WordsFault, asked_of_words};
 
 /// The site of a console that is given no scenario: 20 frames of 16 bytes and 8 swap slots.
 pub const SITE: Config = Config {
