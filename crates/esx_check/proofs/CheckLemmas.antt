@@ -1,5 +1,5 @@
 -- What a check knows on its way, and at its end.
-use Rattle.std.proofs.Common.{◌≡◌, ◌≢◌, ℕ, ◌+◌, List, [], ◌∷◌, ◌++◌, Some, Bool, false, IsTrue, ◌↔◌, refl, sym, ◌∙◌, ap, append_assoc, length, map}
+use Rattle.std.proofs.Common.{◌≡◌, ◌≢◌, ◌≤◌, ℕ, ◌+◌, ◌-◌, List, [], ◌∷◌, ◌++◌, Some, Bool, false, IsTrue, ◌↔◌, refl, sym, ◌∙◌, ap, subst, append_assoc, length, map, take, arith}
 use Rattle.std.proofs.Math.Seq.{take-append_seam}
 use Rattle.std.proofs.lemmas.List.{map-append, length-map, length-append}
 use Rattle.std.specs.Prelude.{slice_get}
@@ -10,6 +10,7 @@ use Rattle.esx_session.specs.declared.session.Entry.{Entry}
 use Rattle.esx_check.specs.declared.check.Checked.TheVariants.{Differs}
 use Rattle.esx_check.specs.Again.{made, replies_again}
 use Rattle.esx_check.specs.Checks.{Checks, PartAt, replies_told}
+use Rattle.esx_check.specs.Gates.{GoesTo}
 use Rattle.esx_check.proofs.AgainLemmas.{replies_more, made_follow, text_of}
 
 -- one more reply that stands with its call
@@ -42,21 +43,58 @@ part_at_seam xs ys zs y z other = record {
 part_of : (at : ℕ) (xs ys us vs : List (List ℕ)) → us ≡ xs → vs ≡ ys → PartAt at xs ys → PartAt at us vs
 part_of at xs ys us vs e f p = rw (e, f) p
 
+-- a call behind those whose replies are the same: the reply that stands with it, and the one that it has again
+record Reached (site : Config) (entries done later : List Entry) (e : Entry) (count : ℕ) : Type 0 where
+  more : List (List ℕ)
+  told : replies_told entries ≡ replies_told done ++ e.reply ∷ replies_told later
+  again : replies_again site entries ≡ replies_told done ++ reply_text (next_reply (made site done) e.call) ∷ more
+  long : length (replies_told done) ≡ count
+
+reached : (site : Config) (entries done later : List Entry) (e : Entry) (count : ℕ)
+    → entries ≡ done ++ e ∷ later → replies_again site done ≡ replies_told done → count ≡ length done → Reached site entries done later e count
+reached site entries done later e count split same is =
+    let reply = reply_text (next_reply (made site done) e.call) in
+    let follow = made_follow site (done ++ e ∷ []) later in
+    let more = map text_of follow.more in
+    record {
+      more = more;
+      told = ap replies_told split ∙ map-append (λ (x : Entry). x.reply) done (e ∷ later);
+      again = ap (replies_again site) (split ∙ sym (append_assoc done (e ∷ []) later)) ∙ (ap (map text_of) follow.log ∙ map-append text_of (made site (done ++ e ∷ [])).log follow.more)
+          ∙ ap (λ v. v ++ more) (replies_more site done e ∙ ap (λ v. v ++ reply ∷ []) same) ∙ append_assoc (replies_told done) (reply ∷ []) more;
+      long = length-map done (λ (x : Entry). x.reply) ∙ sym is;
+    }
+
 -- the first reply that does not
 pub differs_here : (site : Config) (entries done later : List Entry) (e : Entry) (count : ℕ)
     → entries ≡ done ++ e ∷ later → replies_again site done ≡ replies_told done
     → (reply_text (next_reply (made site done) e.call) ≡ e.reply → ⊥) → count ≡ length done → Checks site entries (Differs (count + 1))
 differs_here site entries done later e count split same other is =
-    let reply = reply_text (next_reply (made site done) e.call) in
-    let follow = made_follow site (done ++ e ∷ []) later in
-    let more = map text_of follow.more in
-    let told : replies_told entries ≡ replies_told done ++ e.reply ∷ replies_told later =
-    ap replies_told split ∙ map-append (λ (x : Entry). x.reply) done (e ∷ later) in
-    let again : replies_again site entries ≡ replies_told done ++ reply ∷ more =
-    ap (replies_again site) (split ∙ sym (append_assoc done (e ∷ []) later)) ∙ (ap (map text_of) follow.log ∙ map-append text_of (made site (done ++ e ∷ [])).log follow.more)
-    ∙ ap (λ v. v ++ more) (replies_more site done e ∙ ap (λ v. v ++ reply ∷ []) same) ∙ append_assoc (replies_told done) (reply ∷ []) more in
-    let long : length (replies_told done) ≡ count = length-map done (λ (x : Entry). x.reply) ∙ sym is in (
+    let point = reached site entries done later e count split same is in
+    let reply = reply_text (next_reply (made site done) e.call) in (
       count,
       refl,
-      rw (← long) (part_of (length (replies_told done)) _ _ _ _ told again (part_at_seam (replies_told done) (replies_told later) more e.reply reply (λ e. other (sym e)))),
+      rw (← point.long) (part_of (length (replies_told done)) _ _ _ _ point.told point.again (part_at_seam (replies_told done) (replies_told later) point.more e.reply reply (λ e. other (sym e)))),
     )
+
+-- before the first call
+pub goes_nowhere : (site : Config) (entries : List Entry) → GoesTo site entries 0
+goes_nowhere site entries = record { within = omega arith; same = refl }
+
+-- where each call that was made has its reply
+pub goes_through : (site : Config) (done : List Entry) (count : ℕ) → replies_again site done ≡ replies_told done → count ≡ length done → GoesTo site done count
+goes_through site done count same is = record { within = omega arith; same = ap (take (count - 1)) same }
+
+-- where one more call was made, whatever its reply
+pub goes_to_next : (site : Config) (entries done later : List Entry) (e : Entry) (count : ℕ)
+    → entries ≡ done ++ e ∷ later → replies_again site done ≡ replies_told done → count ≡ length done → GoesTo site entries (count + 1)
+goes_to_next site entries done later e count split same is =
+    let point = reached site entries done later e count split same is in
+    let reply = reply_text (next_reply (made site done) e.call) in
+    let alike : take (length (replies_told done)) (replies_again site entries) ≡ take (length (replies_told done)) (replies_told entries) =
+    ap (take (length (replies_told done))) point.again ∙ take-append_seam (replies_told done) (reply ∷ point.more)
+    ∙ sym (ap (take (length (replies_told done))) point.told ∙ take-append_seam (replies_told done) (e.reply ∷ replies_told later)) in
+    let one_less : count ≡ count + 1 - 1 = omega arith in
+    let back : length (replies_told done) ≡ count + 1 - 1 = point.long ∙ one_less in
+    let whole : length entries ≡ length done + length (e ∷ later) = ap length split ∙ length-append done (e ∷ later) in
+    let within : count + 1 ≤ length entries = omega arith in
+    record { within = within; same = subst (λ (n : ℕ). take n (replies_again site entries) ≡ take n (replies_told entries)) back alike }

@@ -13,11 +13,15 @@ module _ {G : Type 0} (passes : G → ℕ → Bool → G → Type 0) where
   passed_more n g m h before passed =
       subst (λ (i : ℕ). PassedFor passes i g h) (sym (add-one n)) (m, before, passed.0, subst (λ (i : ℕ). passes m (turn_of i) passed.0 h) (add-one n) passed.1)
 
-  pub some_none : (g : G) → PassedForSome passes g g
-  some_none g = (0, passed_none g)
+  pub some_of : (Holds : ℕ → Type 0) (n : ℕ) (g h : G) → Holds n → PassedFor passes n g h → PassedForSome passes Holds g h
+  some_of Holds n g h holds passed = (n, holds, passed)
 
-  pub some_more : (n : ℕ) (g m h : G) → PassedFor passes n g m → ((answer : Bool) × passes m (turn_of (n + 1)) answer h) → PassedForSome passes g h
-  some_more n g m h before passed = (n + 1, passed_more n g m h before passed)
+  pub some_none : (Holds : ℕ → Type 0) (g : G) → Holds 0 → PassedForSome passes Holds g g
+  some_none Holds g holds = (0, holds, passed_none g)
+
+  pub some_more : (Holds : ℕ → Type 0) (n : ℕ) (g m h : G) → Holds (n + 1) → PassedFor passes n g m → ((answer : Bool) × passes m (turn_of (n + 1)) answer h)
+      → PassedForSome passes Holds g h
+  some_more Holds n g m h holds before passed = (n + 1, holds, passed_more n g m h before passed)
 
 -- what holds where a call fails
 pub on_err : {T E X : Type 0} (r : Result T E) → X → OnErr r X

@@ -1,5 +1,5 @@
 -- What a check knows on its way through a text, and at its end.
-use Rattle.std.proofs.Common.{◌≡◌, ℕ, ◌+◌, List, [], ◌∷◌, ◌++◌, ◌∙◌, ap, refl, append_assoc, append-nil, length}
+use Rattle.std.proofs.Common.{◌≡◌, inr, ℕ, ◌+◌, List, [], ◌∷◌, ◌++◌, ◌∙◌, ap, refl, append_assoc, append-nil, length}
 use Rattle.esx_types.specs.declared.config.Config.{Config}
 use Rattle.esx_model.specs.Console.{next_reply, lined}
 use Rattle.esx_console.specs.Calls.{opened_session}
@@ -11,8 +11,9 @@ use Rattle.esx_session.specs.Reading.{Reader, Follows}
 use Rattle.esx_check.specs.declared.check.Checked.TheVariants.{Same, Differs}
 use Rattle.esx_check.specs.Again.{made, replies_again}
 use Rattle.esx_check.specs.Checks.{ChecksText, replies_told}
+use Rattle.esx_check.specs.Gates.{GoesToInText}
 use Rattle.esx_check.proofs.AgainLemmas.{first_again, again_more, again_nothing}
-use Rattle.esx_check.proofs.CheckLemmas.{same_more, differs_here, one_longer}
+use Rattle.esx_check.proofs.CheckLemmas.{same_more, differs_here, one_longer, goes_through, goes_to_next}
 
 -- a reader that read on from these calls
 pub record ReadOn (text : List ℕ) (site : Config) (done : List Entry) (calls : Reader) : Type 0 where
@@ -65,3 +66,14 @@ pub one_differs : (text : List ℕ) (calls : Reader) (console : Kept) (count : �
 one_differs text calls console count e so_far later reads other =
     let entries = (so_far.done ++ e ∷ []) ++ later in
     (so_far.site, entries, reads, differs_here so_far.site entries so_far.done later e count (append_assoc so_far.done (e ∷ []) later) so_far.same other so_far.counted)
+
+-- where reading ends early, before a call and behind one
+pub goes_to_last : (text : List ℕ) (calls : Reader) (console : Kept) (count : ℕ) → SoFar text calls console count → GoesToInText text count
+goes_to_last text calls console count so_far =
+    inr (so_far.site, so_far.done, (calls, so_far.follows), goes_through so_far.site so_far.done count so_far.same so_far.counted)
+
+pub goes_to_one_more : (text : List ℕ) (calls next : Reader) (console : Kept) (count : ℕ) (e : Entry) (so_far : SoFar text calls console count)
+    → Follows text so_far.site (so_far.done ++ e ∷ []) next → GoesToInText text (count + 1)
+goes_to_one_more text calls next console count e so_far follows =
+    let done = so_far.done ++ e ∷ [] in
+    inr (so_far.site, done, (next, follows), goes_to_next so_far.site done so_far.done [] e count refl so_far.same so_far.counted)

@@ -1,7 +1,12 @@
--- Which turns the gate of a check is told.
-use Rattle.std.specs.Prelude.{◌≡◌, ℕ, zero, suc, ◌-◌, ◌^◌, min, Bool}
+-- Which turns the gate of a check is told, and how far a check comes that ends early.
+use Rattle.std.specs.Prelude.{◌≡◌, ◌≤◌, ◌⊎◌, ℕ, List, zero, suc, ◌-◌, ◌^◌, min, length, take, Bool}
+use Rattle.esx_types.specs.declared.config.Config.{Config}
+use Rattle.esx_session.specs.declared.session.Entry.{Entry}
+use Rattle.esx_session.specs.Reading.{Reader, Follows}
 use Rattle.esx_check.specs.declared.check.Checked.{Checked}
 use Rattle.esx_check.specs.declared.check.Checked.TheVariants.{Same, Differs}
+use Rattle.esx_check.specs.Again.{replies_again}
+use Rattle.esx_check.specs.Checks.{replies_told}
 
 -- the turn of a call: its number, up to the greatest that a turn can be
 abbrev pub turn_of : ℕ → ℕ
@@ -12,12 +17,25 @@ abbrev pub calls_made : Checked → ℕ
 calls_made (Same count) = count
 calls_made (Differs number) = number
 
+-- A check may come to call n of a session: it has so many, and each before the n-th has its reply. With 0 no call was made.
+pub record GoesTo (site : Config) (entries : List Entry) (n : ℕ) : Type 0 where
+  pub within : n ≤ length entries
+  pub same : take (n - 1) (replies_again site entries) ≡ take (n - 1) (replies_told entries)
+
+-- the text begins with the opening of this site and with these calls
+abbrev pub BeginsWith : List ℕ → Config → List Entry → Type 0
+BeginsWith text site entries = (reader : Reader) × Follows text site entries reader
+
+-- the same of a text: no call was made, or the n-th of those with which it begins was the last
+abbrev pub GoesToInText : List ℕ → ℕ → Type 0
+GoesToInText text n = (n ≡ 0) ⊎ ((site : Config) × (entries : List Entry) × BeginsWith text site entries × GoesTo site entries n)
+
 module _ {G : Type 0} (passes : G → ℕ → Bool → G → Type 0) where
   -- it was passed for each of the calls 1 to n, once and in this order, whatever it answered
   unfoldable pub PassedFor : ℕ → G → G → Type 0
   PassedFor zero g h = h ≡ g
   PassedFor (suc n) g h = (m : G) × PassedFor n g m × (answer : Bool) × passes m (turn_of (suc n)) answer h
 
-  -- for some number of calls
-  abbrev pub PassedForSome : G → G → Type 0
-  PassedForSome g h = (n : ℕ) × PassedFor n g h
+  -- for the calls 1 to some n of which this holds
+  abbrev pub PassedForSome : (ℕ → Type 0) → G → G → Type 0
+  PassedForSome Holds g h = (n : ℕ) × Holds n × PassedFor n g h

@@ -8,7 +8,7 @@ ghost use Rattle.esx_session.specs.declared.session.Entry.{Entry};
 ghost use Rattle.esx_session.specs.Sessions.{Reads, HasOpening, IsRefused};
 ghost use Rattle.esx_session.specs.Reading.{Follows};
 ghost use Rattle.esx_check.specs.Checks.{ChecksText};
-ghost use Rattle.esx_check.specs.Gates.{calls_made, PassedFor, PassedForSome};
+ghost use Rattle.esx_check.specs.Gates.{calls_made, GoesToInText, PassedFor, PassedForSome};
 
 use crate::again::Again;
 use crate::check::Checked;
@@ -27,7 +27,8 @@ fn read_on(alloc: Global, calls: &mut Calls) -> Result<(), TextFault>
     Ok(())
 }
 
-/// Makes the calls of a text again as they are read, from the first on, and passes the gate before each.
+/// Makes the calls of a text again as they are read, from the first on, and passes the gate before each. Where
+/// reading ends early it was passed for calls that stand in the text, and each but the last of them has its reply.
 fn check_as_read<G: Gate>(
     alloc: Global,
     again: &mut Again,
@@ -41,7 +42,8 @@ fn check_as_read<G: Gate>(
     ensures only { (text : List ℕ) (site : Config) → Follows text site [] calls.old → AnswersAs again.old.console (opened_session site)
         → IfErr result (λ e. IsRefused e text) }
     ensures gate { IfOk result (λ checked. PassedFor G.passes (calls_made checked) gate.old gate.new) }
-    ensures some { OnErr result (PassedForSome G.passes gate.old gate.new) }
+    ensures some { (text : List ℕ) (site : Config) → Follows text site [] calls.old → AnswersAs again.old.console (opened_session site)
+        → OnErr result (PassedForSome G.passes (GoesToInText text) gate.old gate.new) }
 {
     let mut count: u64 = 0;
     while let Some(entry) = calls.next(alloc)? {
@@ -73,6 +75,9 @@ pub fn check_text(alloc: Global, text: &str) -> Result<Checked, TextFault>
 
 /// As `check_text`, and passes the gate before each call, with the number of the call as its turn (past
 /// 2^32 - 1 with that number). What the check comes to is the same whatever the gate answers.
+///
+/// Where memory runs out, or a line is bad, the gate was passed for the first calls of the text, for none that does
+/// not stand there, and for none behind the first that has another reply.
 pub fn check_text_through<G: Gate>(
     alloc: Global,
     text: &str,
@@ -82,7 +87,7 @@ pub fn check_text_through<G: Gate>(
     ensures only { IfErr result (λ e. IsRefused e text.now) }
     ensures memory { IsErrOf result TextFault.OutOfMemory → HasOpening text.now }
     ensures gate { IfOk result (λ checked. PassedFor G.passes (calls_made checked) gate.old gate.new) }
-    ensures some { OnErr result (PassedForSome G.passes gate.old gate.new) }
+    ensures some { OnErr result (PassedForSome G.passes (GoesToInText text.now) gate.old gate.new) }
 {
     let (site, mut calls) = open_calls(text)?;
     let Ok(mut again) = Again::open(alloc, site) else {

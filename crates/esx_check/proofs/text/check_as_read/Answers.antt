@@ -2,8 +2,8 @@ use Rattle.std.proofs.Common.{sym, ◌∙◌, ap, arith, ◌+◌, ◌++◌, ◌�
 use Rattle.std.proofs.lemmas.Result.{err_from_is_err_and}
 use Rattle.esx_check.specs.Again.{made}
 use Rattle.esx_check.proofs.CheckLemmas.{is_not}
-use Rattle.esx_check.proofs.GateLemmas.{passed_none, passed_more, some_more, on_err}
-use Rattle.esx_check.proofs.TextLemmas.{nothing_so_far, one_more_so_far, all_same, one_differs}
+use Rattle.esx_check.proofs.GateLemmas.{passed_none, passed_more, some_of, some_more, on_err}
+use Rattle.esx_check.proofs.TextLemmas.{nothing_so_far, one_more_so_far, all_same, one_differs, goes_to_last, goes_to_one_more}
 use Rattle.esx_check.proofs.text.check_as_read.Goals as goal
 
 pub loop-entry-init : goal.loop-entry-init
@@ -56,12 +56,23 @@ returns-clause-ok g c = λ text site follows answers.
     let so_far = c.loop-entry.invariant.so_far text site follows answers in
     all_same text _ _ _ so_far (rw c.in_default.is at (c.in_ok-entry.ensures.none text so_far.site so_far.done so_far.follows))
 
+pub returns-in_err-entry-clause-some : goal.returns-in_err-entry-clause-some
+returns-in_err-entry-clause-some g c = λ text site follows answers.
+    let so_far = c.loop-entry.invariant.so_far text site follows answers in
+    on_err c.from_residual.result (some_of _ _ _ _ _ (goes_to_last text _ _ _ so_far) c.loop-entry.invariant.gate)
+
 pub returns-in_default-has_same_reply-clause-some : goal.returns-in_default-has_same_reply-clause-some
-returns-in_default-has_same_reply-clause-some g c = some_more _ _ _ _ _ c.loop-entry.invariant.gate c.in_default-has_same_reply.ensures.gate
+returns-in_default-has_same_reply-clause-some g c = λ text site follows answers.
+    let so_far = c.loop-entry.invariant.so_far text site follows answers in
+    let next = rw c.in-Some.is at (c.in_ok-entry.ensures.some text so_far.site so_far.done so_far.follows) in
+    some_more _ _ _ _ _ _ (goes_to_one_more text _ _ _ _ c.in-Some.entry so_far next) c.loop-entry.invariant.gate c.in_default-has_same_reply.ensures.gate
 
 pub returns-in_err-read_on-clause-some : goal.returns-in_err-read_on-clause-some
-returns-in_err-read_on-clause-some g c =
-    on_err c.from_residual-in_err-read_on.result (some_more _ _ _ _ _ c.loop-entry.invariant.gate c.in-Ok.ensures.gate)
+returns-in_err-read_on-clause-some g c = λ text site follows answers.
+    let so_far = c.loop-entry.invariant.so_far text site follows answers in
+    let next = rw c.in-Some.is at (c.in_ok-entry.ensures.some text so_far.site so_far.done so_far.follows) in
+    on_err c.from_residual-in_err-read_on.result
+    (some_more _ _ _ _ _ _ (goes_to_one_more text _ _ _ _ c.in-Some.entry so_far next) c.loop-entry.invariant.gate c.in-Ok.ensures.gate)
 
 pub returns-then-not-same-clause-gate : goal.returns-then-not-same-clause-gate
 returns-then-not-same-clause-gate g c = passed_more _ _ _ _ _ c.loop-entry.invariant.gate c.in-Ok.ensures.gate

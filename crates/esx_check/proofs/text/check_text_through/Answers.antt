@@ -1,8 +1,9 @@
+use Rattle.std.proofs.Common.{inl, refl}
 use Rattle.esx_check.proofs.GateLemmas.{some_none, on_err}
 use Rattle.esx_check.proofs.text.check_text_through.Goals as goal
 
 pub returns-in_err-site-clause-some : goal.returns-in_err-site-clause-some
-returns-in_err-site-clause-some g c = on_err c.from_residual.result (some_none _ _)
+returns-in_err-site-clause-some g c = on_err c.from_residual.result (some_none _ _ _ (inl refl))
 
 pub returns-in_default-clause-some : goal.returns-in_default-clause-some
-returns-in_default-clause-some g c = some_none _ _
+returns-in_default-clause-some g c = some_none _ _ _ (inl refl)
