@@ -10,7 +10,8 @@ pub fn one_session()
     ensures { (text : List ℕ) → ReadsOneSession text }
 {}
 
-/// What is printed of a session is read as that session.
+/// What is printed of a session is read as that session: one whose site, callers and calls are in range, and whose
+/// replies are ASCII without carriage returns.
 pub fn read_as_printed()
     ensures { (site : Config) (entries : List Entry) → ReadsAsPrinted site entries }
 {}
