@@ -1,13 +1,20 @@
 -- What stands in a session where memory is taken.
-use Rattle.std.proofs.Common.{◌⊎◌, ◌≡◌, ℕ, List, [], ◌∷◌, ◌++◌, length, sym, ap, ◌∙◌, inl, inr}
+use Rattle.std.proofs.Common.{◌⊎◌, ◌≡◌, ◌<◌, ℕ, List, [], ◌∷◌, ◌++◌, arith, sym, ◌∙◌, append_assoc, inl, inr, subst}
+use Rattle.std.specs.List.{AllByRecursion}
+use Rattle.std.specs.Str.{IsAscii}
+use Rattle.std.proofs.lemmas.List.Elements.{All-from_recursion}
+use Rattle.std.proofs.lemmas.Str.Ascii.{IsAscii-from_all}
 use Rattle.esx_types.specs.declared.config.Config.{Config}
 use Rattle.esx_reading.specs.declared.fault.TextFault.{TextFault}
 use Rattle.esx_reading.specs.declared.fault.TextFault.TheVariants.{NotToml, BadKey, BadLine, NotText, Differs, Read, Write, OutOfMemory}
 use Rattle.esx_session.specs.declared.session.Entry.{Entry}
-use Rattle.esx_session.specs.Sessions.{ended, entry_text, IsEntry}
-use Rattle.esx_session.specs.Reading.{Place, Quotes, BeginsReply, AreRead, GoesOn, GoesPastOpening, Reader, Follows, placed}
-use Rattle.esx_session.proofs.FrontLemmas.{first_of_call, no_end_call}
+use Rattle.esx_session.specs.Sessions.{ended, entry_text, quoted, IsEnded, IsEntry}
+use Rattle.esx_session.specs.Reading.{Place, HasNoFeed, Quotes, BeginsReply, AreRead, NextTakesMemory, GoesPastOpening, Reader, Follows, placed}
+use Rattle.esx_session.proofs.FrontLemmas.{are_ascii, call_line, call_line_feed, call_text_is, closes_ended, first_of_call, same_line, spells_entry}
+use Rattle.esx_session.proofs.PlaceLemmas.{lines_feed}
+use Rattle.esx_session.proofs.QuoteLemmas.{first_quote}
 use Rattle.esx_session.proofs.ReplyLemmas.{no_lines}
+use Rattle.esx_session.proofs.StopLemmas.{no_text}
 
 pub placed_memory : (fault : TextFault) (n : ℕ) → placed fault n ≡ OutOfMemory → fault ≡ OutOfMemory
 placed_memory NotToml n e = e
@@ -25,26 +32,47 @@ pub begins_reply : (old now : List (List ℕ)) (line text : List ℕ) (rest : Li
 begins_reply old now line text rest (inl e) at q = rw (e ∙ at) (text, q)
 begins_reply old now line text rest (inr h) at q = h
 
--- the lines of a call end no session
-first_goes_on : (taken left : List (List ℕ)) (e : Entry) (more : List ℕ) → IsEntry e → ended taken ≡ entry_text e ++ more → GoesOn 0 (taken ++ left)
-first_goes_on [] left e more is same =
+-- the first of some lines that are a reply
+first_quoted : (taken left : List (List ℕ)) (reply more : List ℕ) → IsEnded reply → IsAscii reply → AllByRecursion HasNoFeed (taken ++ left)
+    → ended taken ≡ quoted reply ++ more → BeginsReply (taken ++ left)
+first_quoted taken left [] more some ascii feeds same = absurd (no_text some.0 [] some.1)
+first_quoted [] left (b ∷ reply) more some ascii feeds same = absurd (cc)
+first_quoted (line ∷ taken) left (b ∷ reply) more some ascii feeds same =
+    let first = first_quote b reply more (closes_ended (b ∷ reply) some) (are_ascii (b ∷ reply) ascii) in
+    let whole = sym (append_assoc line (10 ∷ []) (ended taken)) ∙ same ∙ first.2 in
+    let lines = same_line line (61 ∷ 32 ∷ first.0) (ended taken) first.1 feeds.0 ((λ z. omega (arith, z)), ((λ z. omega (arith, z)), first.3)) whole in
+    (first.0, record { ascii = IsAscii-from_all first.0 (All-from_recursion (λ x. x < 128) first.0 first.4); quoted = lines.0 })
+
+-- the first two of some lines that are a call with its reply
+first_takes_memory : (taken left : List (List ℕ)) (e : Entry) (more : List ℕ) → IsEntry e → AllByRecursion HasNoFeed (taken ++ left) → ended taken ≡ entry_text e ++ more
+    → NextTakesMemory (taken ++ left)
+first_takes_memory [] left e more is feeds same =
     let first = first_of_call e more is in
     let none : [] ≡ first.0 ∷ first.1 = same ∙ first.2 in absurd (cc)
-first_goes_on (line ∷ taken) left e more is same = λ end. no_end_call e more 0 (ended taken) is (sym same ∙ ap (λ t. (t ++ 10 ∷ []) ++ ended taken) end)
+first_takes_memory (line ∷ taken) left e more is feeds same =
+    let whole = sym (append_assoc line (10 ∷ []) (ended taken)) ∙ same ∙ call_text_is e more in
+    let lines = same_line line (call_line e) (ended taken) (quoted e.reply ++ more) feeds.0 (call_line_feed e is) whole in
+    inr ((e.caller, e.call, rw lines.0 (spells_entry e is)), first_quoted taken left e.reply more is.reply is.ascii feeds.1 lines.1)
 
-third : (old now : Place) (done : List Entry) (count : ℕ) → AreRead old now done → count ≡ length done → GoesOn count now.left → GoesOn 0 old.left
-third old now [] count is same goes = rw (no_lines old now is.taken is.text is.left is.passed).1 (rw same at goes)
-third old now (e ∷ done) count is same goes = rw is.left (first_goes_on is.taken now.left e _ is.range.0 is.text)
+third : (old now : Place) (done : List Entry) → AllByRecursion HasNoFeed old.left → AreRead old now done → NextTakesMemory now.left → NextTakesMemory old.left
+third old now [] feeds is takes = rw (no_lines old now is.taken is.text is.left is.passed).1 takes
+third old now (e ∷ done) feeds is takes = rw is.left (first_takes_memory is.taken now.left e _ is.range.0 (rw is.left at feeds) is.text)
 
-third_read : (old now : Place) (done : List Entry) (entry : Entry) → AreRead old now (done ++ entry ∷ []) → GoesOn 0 old.left
-third_read old now [] entry is = rw is.left (first_goes_on is.taken now.left entry _ is.range.0 is.text)
-third_read old now (e ∷ done) entry is = rw is.left (first_goes_on is.taken now.left e _ is.range.0 is.text)
+third_read : (old now : Place) (done : List Entry) (entry : Entry) → AllByRecursion HasNoFeed old.left → AreRead old now (done ++ entry ∷ []) → NextTakesMemory old.left
+third_read old now [] entry feeds is = rw is.left (first_takes_memory is.taken now.left entry _ is.range.0 (rw is.left at feeds) is.text)
+third_read old now (e ∷ done) entry feeds is = rw is.left (first_takes_memory is.taken now.left e _ is.range.0 (rw is.left at feeds) is.text)
 
--- behind some calls the text goes on
-pub goes_past : (text : List ℕ) (site : Config) (done : List Entry) (reader : Reader) → Follows text site done reader → GoesOn reader.count reader.at.left
+-- no line behind the opening has a feed
+start_feeds : (text : List ℕ) (site : Config) (done : List Entry) (reader : Reader) (f : Follows text site done reader) → AllByRecursion HasNoFeed f.start.left
+start_feeds text site done reader f = (subst (λ told. AllByRecursion HasNoFeed told) f.opening (lines_feed text)).1.1
+
+-- behind some calls memory may be taken, so behind the opening too
+pub goes_past : (text : List ℕ) (site : Config) (done : List Entry) (reader : Reader) → Follows text site done reader → NextTakesMemory reader.at.left
     → GoesPastOpening text
-goes_past text site done reader f goes = (site, f.start.left, f.range, f.opening, third f.start reader.at done reader.count f.read f.count goes)
+goes_past text site done reader f takes =
+    (site, f.start.left, f.range, f.opening, third f.start reader.at done (start_feeds text site done reader f) f.read takes)
 
 pub goes_past_read : (text : List ℕ) (site : Config) (done : List Entry) (entry : Entry) (reader : Reader) → Follows text site (done ++ entry ∷ []) reader
     → GoesPastOpening text
-goes_past_read text site done entry reader f = (site, f.start.left, f.range, f.opening, third_read f.start reader.at done entry f.read)
+goes_past_read text site done entry reader f =
+    (site, f.start.left, f.range, f.opening, third_read f.start reader.at done entry (start_feeds text site (done ++ entry ∷ []) reader f) f.read)

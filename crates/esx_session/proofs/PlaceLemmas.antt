@@ -2,7 +2,7 @@
 use Rattle.std.proofs.Common.{◌≡◌, ◌≢◌, ◌<◌, ◌≤◌, ◌-◌, ℕ, zero, suc, List, Bool, true, false, inl, inr, [], ◌∷◌, ◌++◌, length, get_or, take, arith, refl, sym, ap, ◌∙◌, cond, lit<}
 use Rattle.std.specs.Prelude.{Option, None, Some, MatchOption}
 use Rattle.std.specs.Borrow.{Bor}
-use Rattle.std.specs.List.{All, slice_split, position_or_len, before_first, after_first}
+use Rattle.std.specs.List.{All, AllByRecursion, slice_split, onto_first, position_or_len, before_first, after_first}
 use Rattle.std.specs.Option as option
 use Rattle.std.specs.Str.Lines.{lines, lines_of_parts, strip_carriage_return}
 use Rattle.std.proofs.Math.Dec.{eqb}
@@ -13,10 +13,11 @@ use Rattle.std.proofs.lemmas.Bool.Decides.{Decides-eqb, not_from_Decides}
 use Rattle.std.proofs.lemmas.List.{get_or-take}
 use Rattle.std.proofs.lemmas.List.Elements.{All-from_get_or, All-weaker, recursion_from_All}
 use Rattle.std.proofs.lemmas.Str.Pattern.{IsSplitOnceResult, split_parts}
-use Rattle.std.proofs.lemmas.List.Splits.{slice_split_at, slice_split_first, slice_split_none, length-slice_split}
+use Rattle.std.proofs.lemmas.List.Splits.{slice_split_at, slice_split_first, slice_split_none, slice_split-cons_yes, slice_split-cons_no, length-slice_split}
 use Rattle.std.proofs.lemmas.List.Sums.{fails_before_first}
 use Rattle.esx_reading.proofs.FieldLemmas.{no_match}
 use Rattle.esx_session.specs.Reading.{HasNoFeed, Quotes, LeavesReply}
+use Rattle.esx_session.proofs.QuoteLemmas.{tests_feed}
 
 pub parts_cons : (x : List ℕ) (parts : List (List ℕ)) → 0 < length parts → lines_of_parts (x ∷ parts) ≡ strip_carriage_return x ∷ lines_of_parts parts
 parts_cons x [] l = absurd (omega (arith, l))
@@ -120,6 +121,33 @@ leaves_other rest other = elim (cases_lt (position_or_len (λ b. eqb b 10) rest)
   | inl within ↦ leaves_cut rest within other
   | inr past ↦ leaves_last rest past other
 ]
+
+-- no line of a text has a feed
+front_feeds : (x : ℕ) (parts : List (List ℕ)) → (x ≡ 10 → ⊥) → AllByRecursion HasNoFeed parts → AllByRecursion HasNoFeed (onto_first x parts)
+front_feeds x [] other h = ((other, tt), tt)
+front_feeds x (part ∷ parts) other h = ((other, h.0), h.1)
+
+parts_feed : (text : List ℕ) → AllByRecursion HasNoFeed (slice_split (λ b. eqb b 10) text)
+parts_feed [] = (tt, tt)
+parts_feed (b ∷ text) = elim (tests_feed b) [
+  | inl is ↦ rw (slice_split-cons_yes (λ x. eqb x 10) b text is.0) (tt, parts_feed text)
+  | inr is ↦ rw (slice_split-cons_no (λ x. eqb x 10) b text is.0) (front_feeds b (slice_split (λ x. eqb x 10) text) is.1 (parts_feed text))
+]
+
+stripped_part : (line : List ℕ) → HasNoFeed line → HasNoFeed (strip_carriage_return line)
+stripped_part line h = let front = front_or_all (eqb (get_or line (length line - 1) 0) 13) line in rw front.1 (feed_in_front front.0 line h)
+
+last_feed : (t : Bool) (line : List ℕ) → HasNoFeed line → AllByRecursion HasNoFeed (cond t [] (line ∷ []))
+last_feed true line h = tt
+last_feed false line h = (h, tt)
+
+lines_of_parts_feed : (parts : List (List ℕ)) → AllByRecursion HasNoFeed parts → AllByRecursion HasNoFeed (lines_of_parts parts)
+lines_of_parts_feed [] h = tt
+lines_of_parts_feed (x ∷ []) h = last_feed (eqb (length x) 0) x h.0
+lines_of_parts_feed (x ∷ y ∷ parts) h = (stripped_part x h.0, lines_of_parts_feed (y ∷ parts) h.1)
+
+pub lines_feed : (text : List ℕ) → AllByRecursion HasNoFeed (lines text)
+lines_feed text = lines_of_parts_feed (slice_split (λ b. eqb b 10) text) (parts_feed text)
 
 -- the text on both sides of the first line feed
 pub parted_at_feed : (text : List ℕ) (r : Option (Bor (List ℕ) × Bor (List ℕ))) → IsSplitOnceResult 10 text r

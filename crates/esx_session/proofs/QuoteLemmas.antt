@@ -37,10 +37,16 @@ first_line (b ∷ a) text ends ascii = elim (tests_feed b) [
 ]
 
 -- a reply that is not empty begins with a line
+pub first_quote : (b : ℕ) (a text : List ℕ) → Closes true (b ∷ a) → AreAscii (b ∷ a)
+    → (line : List ℕ) × (later : List ℕ) × (quoted (b ∷ a) ++ text ≡ 61 ∷ 32 ∷ (line ++ 10 ∷ later)) × HasNoFeed line × AreAscii line
+first_quote b a text ends ascii =
+    let first = first_line (b ∷ a) text ends ascii in
+    (first.0, first.1, ap (λ t. 61 ∷ 32 ∷ t) first.2, first.3, first.4)
+
 pub begins_quote : (b : ℕ) (a text : List ℕ) → Closes true (b ∷ a) → AreAscii (b ∷ a) → NoQuote (quoted (b ∷ a) ++ text) → ⊥
 begins_quote b a text ends ascii none =
-    let first = first_line (b ∷ a) text ends ascii in
-    none first.0 first.1 first.3 first.4 (ap (λ t. 61 ∷ 32 ∷ t) first.2)
+    let first = first_quote b a text ends ascii in
+    none first.0 first.1 first.3 first.4 first.2
 
 -- replies end where no line of a reply follows
 same_from : (fresh : Bool) (a b r s : List ℕ) → Closes fresh a → Closes fresh b → AreAscii a → AreAscii b → NoQuote r → NoQuote s

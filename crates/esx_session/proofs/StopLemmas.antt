@@ -103,7 +103,7 @@ no_head told lacks = stops_at 1 told [] told refl (omega arith) begins_nothing (
 behind_first : (others : List (List ℕ)) (site : Config) (entries : List Entry) → Tells (head_line ∷ others) site entries → ended others ≡ site_line site ++ 10 ∷ calls_text entries
 behind_first others site entries is = behind_head (ended others) (site_line site ++ 10 ∷ calls_text entries) (is.same ∙ session_lines site entries)
 
-no_text : (text more : List ℕ) → [] ≡ text ++ 10 ∷ more → ⊥
+pub no_text : (text more : List ℕ) → [] ≡ text ++ 10 ∷ more → ⊥
 no_text [] more e = cc
 no_text (b ∷ text) more e = cc
 

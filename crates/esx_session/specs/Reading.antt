@@ -149,10 +149,10 @@ abbrev pub GoesOn : ℕ → List (List ℕ) → Type 0
 GoesOn count [] = ⊥
 GoesOn count (line ∷ lines) = line ≡ codes "end " ++ decimal count → ⊥
 
--- the first two lines are those of a session, and a third stands there and does not end it
+-- the first two lines are those of a session, and behind them stands what may take memory
 abbrev pub GoesPastOpening : List ℕ → Type 0
 GoesPastOpening text = (site : Config) × (others : List (List ℕ)) × IsConfig site
-    × (lines text ≡ codes "esx session 1" ∷ joined (site_words site) ∷ others) × GoesOn 0 others
+    × (lines text ≡ codes "esx session 1" ∷ joined (site_words site) ∷ others) × NextTakesMemory others
 
 -- behind some lines the next cannot stand, or they cannot end
 abbrev pub IsStuck : List (List ℕ) → List (List ℕ) → Type 0

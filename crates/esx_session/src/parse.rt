@@ -11,8 +11,8 @@ use esx_types::Rows;
 use std::alloc::Global;
 
 /// The session of a text. `BadLine` has the first line at which the text is none, from 1 on: one past its
-/// last line where it ends too early. Memory is taken behind the first two lines alone, where a third stands
-/// that is not the end of a session of no calls.
+/// last line where it ends too early. `OutOfMemory` where there is none, and only where the first two lines are those
+/// of a session and the third has a command that may take memory, or is that of a call with a line of a reply behind it.
 pub fn parse_session(alloc: Global, text: &str) -> Result<Session, TextFault>
     ensures ok { IfOk result (λ session. Reads text.now session.site session.entries) }
     ensures only { IfErr result (λ e. IsRefused e text.now) }

@@ -14,7 +14,7 @@ pub returns-in_err-entry-clause-third : goal.returns-in_err-entry-clause-third
 returns-in_err-entry-clause-third c = λ wants.
     let p = err_from_is_err_and c.from_residual-in_err-entry.result c.from_residual-in_err-entry.ensures.1 in
     let wants_entry = rw (p.1, p.2) at wants in
-    goes_past c.args.text.now c.in_ok-site.site c.loop-entries.entries c.loop-entries.calls c.loop-entries.invariant (c.in_err-entry.ensures.memory (cc))
+    goes_past c.args.text.now c.in_ok-site.site c.loop-entries.entries c.loop-entries.calls c.loop-entries.invariant (c.in_err-entry.ensures.wants (cc))
 
 pub returns-in_default-push-clause-third : goal.returns-in_default-push-clause-third
 returns-in_default-push-clause-third c = λ wants.
