@@ -25,7 +25,7 @@ use Rattle.esx_program.specs.declared.Failure.{Failure}
 use Rattle.esx_program.specs.declared.Failure.TheVariants.{Words, Text, Serve, Output, Run}
 use Rattle.esx_program.specs.Doing.{served_as, ran_as, replayed_as, Does, EndsCheck, EndsConsole, EndsReplay, EndsRun, IsSiteAsked, LacksSite}
 use Rattle.esx_program.specs.Failing.{MayFail, WantsSession}
-use Rattle.esx_program.specs.Files.{HasScenario, HasSession, HasText, LacksScenario, LacksSession, Opened}
+use Rattle.esx_program.specs.Files.{HasScenario, HasSession, HasText, LacksCheck, LacksScenario, LacksSession, Opened}
 use Rattle.esx_program.specs.Given.{open_fault}
 use Rattle.esx_program.specs.Runs.{Plays, RunStops}
 use Rattle.esx_program.specs.Sessions.{GivenOut, IsReplayed, IsNotReplayed}
@@ -65,6 +65,18 @@ module _ {A : Type 0} (asked : Word × Option A) (some : IsSome asked.1) where
   no_session_may_fail (Ok states) text.Read word n = some
   no_session_may_fail (Ok states) text.Write word n = absurd n
   no_session_may_fail (Ok states) text.OutOfMemory word n = some
+
+  -- the same where it is checked
+  no_check_may_fail : (read : Opened) (e : TextFault) → WantsSession asked → LacksCheck read e → MayFail asked (Text e)
+  no_check_may_fail (Err error) e word n = rw n (unopened_may_fail (error_kind error))
+  no_check_may_fail (Ok states) text.NotToml word n = absurd n
+  no_check_may_fail (Ok states) (text.BadKey path) word n = absurd n
+  no_check_may_fail (Ok states) (text.BadLine k) word n = (some, word)
+  no_check_may_fail (Ok states) text.NotText word n = some
+  no_check_may_fail (Ok states) (text.Differs k) word n = absurd n
+  no_check_may_fail (Ok states) text.Read word n = some
+  no_check_may_fail (Ok states) text.Write word n = absurd n
+  no_check_may_fail (Ok states) text.OutOfMemory word n = some
 
 no_site_may_fail : (file : Option Opened) (e : TextFault) → LacksSite file e → MayFail {A = Opened} (codes "console", file) (Text e)
 no_site_may_fail None e n = absurd n
@@ -112,7 +124,7 @@ module _ (unread left : SourceState) (errors errors' out out' : SinkState) where
   does_fail (Replay file) (Err (Output e)) d = inl refl
   does_fail (Replay file) (Err (Run e)) d = absurd d.0
   does_fail (Check file) (Err Words) d = absurd d.0
-  does_fail (Check file) (Err (Text e)) d = no_session_may_fail (asked_of (Check file)) refl file e (inr refl) d.0.0
+  does_fail (Check file) (Err (Text e)) d = no_check_may_fail (asked_of (Check file)) refl file e (inr refl) d.0.0
   does_fail (Check file) (Err (Serve e)) d = absurd d.0
   does_fail (Check file) (Err (Output e)) d = inr refl
   does_fail (Check file) (Err (Run e)) d = absurd d.0

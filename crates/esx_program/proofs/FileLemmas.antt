@@ -9,8 +9,9 @@ use Rattle.esx_reading.specs.declared.fault.TextFault.{TextFault}
 use Rattle.esx_reading.specs.declared.fault.TextFault.TheVariants.{NotToml, BadKey, BadLine, NotText, Differs, Read, Write, OutOfMemory}
 use Rattle.esx_reading.specs.Whole.{GivesMore, GivesOn, GivesWhole, IsOfText}
 use Rattle.esx_scenario.specs.Scenarios.{IsRefused as IsNoPlan}
+use Rattle.esx_session.specs.Reading.{GoesPastOpening}
 use Rattle.esx_session.specs.Sessions.{HasOpening, IsRefused}
-use Rattle.esx_program.specs.Files.{FailsToRead, HasText, IsNoScenario, IsNoSession, IsNoText, IsRead, StopsWithin, LacksSession, LacksText, Opened}
+use Rattle.esx_program.specs.Files.{FailsToRead, HasText, IsNoCheck, IsNoScenario, IsNoSession, IsNoText, IsRead, StopsWithin, LacksCheck, LacksText, Opened}
 use Rattle.esx_program.specs.States.{SourceState}
 
 module _ (old new : SourceState) (most : new.calls ≤ old.calls + 2 ^ 26) where
@@ -87,6 +88,17 @@ module _ (old new : SourceState) where
   no_session_unread Write n = n
   no_session_unread OutOfMemory n = inl n
 
+  -- nor is it checked
+  pub no_check_unread : (e : TextFault) → IsNoText old new e → IsNoCheck old new e
+  no_check_unread NotToml n = n
+  no_check_unread (BadKey path) n = n
+  no_check_unread (BadLine k) n = absurd n
+  no_check_unread NotText n = n
+  no_check_unread (Differs k) n = n
+  no_check_unread Read n = n
+  no_check_unread Write n = n
+  no_check_unread OutOfMemory n = inl n
+
   -- a text that was refused
   module _ (text : List ℕ) (given : IsRead old new text) (utf8 : IsUtf8 text) where
     no_plan_of : (e : TextFault) → IsNoPlan text e → IsNoScenario old new e
@@ -103,28 +115,38 @@ module _ (old new : SourceState) where
     no_scenario (Ok v) n = tt
     no_scenario (Err e) n = no_plan_of e n
 
-    no_session_of : (e : TextFault) → IsRefused e text → (e ≡ OutOfMemory → HasOpening text) → IsNoSession old new e
-    no_session_of NotToml n opening = n
-    no_session_of (BadKey path) n opening = n
-    no_session_of (BadLine k) n opening = (text, given, n)
-    no_session_of NotText n opening = absurd n
-    no_session_of (Differs k) n opening = n
-    no_session_of Read n opening = absurd n
-    no_session_of Write n opening = n
-    no_session_of OutOfMemory n opening = inr (text, given, utf8, opening refl)
+    no_session_of : (e : TextFault) → IsRefused e text → (e ≡ OutOfMemory → GoesPastOpening text) → IsNoSession old new e
+    no_session_of NotToml n past = n
+    no_session_of (BadKey path) n past = n
+    no_session_of (BadLine k) n past = (text, given, n)
+    no_session_of NotText n past = absurd n
+    no_session_of (Differs k) n past = n
+    no_session_of Read n past = absurd n
+    no_session_of Write n past = n
+    no_session_of OutOfMemory n past = inr (text, given, utf8, past refl)
 
-    pub no_session : {T : Type 0} (r : Result T TextFault) → IfErr r (λ e. IsRefused e text) → (IsErrOf r OutOfMemory → HasOpening text)
+    pub no_session : {T : Type 0} (r : Result T TextFault) → IfErr r (λ e. IsRefused e text) → (IsErrOf r OutOfMemory → GoesPastOpening text)
         → IfErr r (IsNoSession old new)
-    no_session (Ok v) n opening = tt
-    no_session (Err e) n opening = no_session_of e n (λ h. opening (cc))
+    no_session (Ok v) n past = tt
+    no_session (Err e) n past = no_session_of e n (λ h. past (cc))
 
--- a file that has no text has no session
-pub no_text_no_session : (read : Opened) (e : TextFault) → LacksText read e → LacksSession read e
-no_text_no_session (Ok states) e n = no_session_unread states.0 states.1 e n
-no_text_no_session (Err error) e n = n
+    no_check_of : (e : TextFault) → IsRefused e text → (e ≡ OutOfMemory → HasOpening text) → IsNoCheck old new e
+    no_check_of NotToml n opening = n
+    no_check_of (BadKey path) n opening = n
+    no_check_of (BadLine k) n opening = (text, given, n)
+    no_check_of NotText n opening = absurd n
+    no_check_of (Differs k) n opening = n
+    no_check_of Read n opening = absurd n
+    no_check_of Write n opening = n
+    no_check_of OutOfMemory n opening = inr (text, given, utf8, opening refl)
 
--- a file whose text was refused
+-- a file that has no text is not checked
+pub no_text_no_check : (read : Opened) (e : TextFault) → LacksText read e → LacksCheck read e
+no_text_no_check (Ok states) e n = no_check_unread states.0 states.1 e n
+no_text_no_check (Err error) e n = n
+
+-- a file whose text was refused where it was checked
 pub text_refused : (read : Opened) (text : List ℕ) (e : TextFault) → HasText read text → IsUtf8 text → IsRefused e text → (e ≡ OutOfMemory → HasOpening text)
-    → LacksSession read e
-text_refused (Ok states) text e here utf8 n opening = no_session_of states.0 states.1 text here utf8 e n opening
+    → LacksCheck read e
+text_refused (Ok states) text e here utf8 n opening = no_check_of states.0 states.1 text here utf8 e n opening
 text_refused (Err error) text e here utf8 n opening = absurd here

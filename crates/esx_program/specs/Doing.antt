@@ -21,7 +21,7 @@ use Rattle.esx_program.specs.declared.Done.TheVariants.{Served, Ran, Replayed, C
 use Rattle.esx_program.specs.declared.Failure.{Failure}
 use Rattle.esx_program.specs.declared.Failure.TheVariants.{Words, Text, Serve, Output, Run}
 use Rattle.esx_program.specs.Failing.{Asks}
-use Rattle.esx_program.specs.Files.{Opened, IsFile, HasScenario, HasSession, HasText, LacksScenario, LacksSession}
+use Rattle.esx_program.specs.Files.{Opened, IsFile, HasScenario, HasSession, HasText, LacksCheck, LacksScenario, LacksSession}
 use Rattle.esx_program.specs.Given.{Args}
 use Rattle.esx_program.specs.Runs.{Plays, RunStops}
 use Rattle.esx_program.specs.Sessions.{IsTold, IsNotTold, IsReplayed, IsNotReplayed}
@@ -77,10 +77,10 @@ EndsReplay read (Err (Text e)) out out' = LacksSession read e × (out' ≡ out)
 EndsReplay read (Err (Output e)) out out' = (site : Config) × (entries : List Entry) × HasSession read site entries × IsNotReplayed e site entries out out'
 EndsReplay read ended out out' = ⊥
 
--- A check ends: what the session in a file comes to was written as a line, or a front of it. Or there is no such session, and nothing was written.
+-- A check ends: what the session in a file comes to was written as a line, or a front of it. Or there is none to check, and nothing was written.
 abbrev pub EndsCheck : Opened → Result Done Failure → SinkState → SinkState → Type 0
 EndsCheck read (Ok (Checked checked)) out out' = (bytes : List ℕ) × HasText read bytes × ChecksText bytes checked × IsTold checked out out'
-EndsCheck read (Err (Text e)) out out' = LacksSession read e × (out' ≡ out)
+EndsCheck read (Err (Text e)) out out' = LacksCheck read e × (out' ≡ out)
 EndsCheck read (Err (Output e)) out out' =
     (bytes : List ℕ) × HasText read bytes × (checked : Outcome) × ChecksText bytes checked × IsNotTold e checked out out'
 EndsCheck read ended out out' = ⊥

@@ -9,6 +9,7 @@ use Rattle.esx_reading.specs.Whole.{GivesMore, GivesOn, GivesWhole}
 use Rattle.esx_scenario.specs.Plans.{Plan}
 use Rattle.esx_scenario.specs.Scenarios.{IsScenario, IsRefused as IsNoPlan}
 use Rattle.esx_session.specs.declared.session.Entry.{Entry}
+use Rattle.esx_session.specs.Reading.{GoesPastOpening}
 use Rattle.esx_session.specs.Sessions.{HasOpening, IsRefused, Reads}
 use Rattle.esx_text.specs.Answers.{ReadsOn}
 use Rattle.esx_program.specs.Given.{open_fault}
@@ -63,11 +64,17 @@ IsNoScenario old new (BadKey path) = (text : List ℕ) × IsRead old new text ×
 IsNoScenario old new OutOfMemory = StopsWithin old new ⊎ ((text : List ℕ) × IsRead old new text × IsUtf8 text)
 IsNoScenario old new e = IsNoText old new e
 
--- The same, where a session is wanted. Memory may also run out over a text whose first two lines are those of a session.
+-- The same, where a session is wanted. Memory may also run out over a text whose first two lines are those of a session, where what stands behind them may take memory.
 abbrev pub IsNoSession : SourceState → SourceState → TextFault → Type 0
 IsNoSession old new (BadLine n) = (text : List ℕ) × IsRead old new text × IsRefused (BadLine n) text
-IsNoSession old new OutOfMemory = StopsWithin old new ⊎ ((text : List ℕ) × IsRead old new text × IsUtf8 text × HasOpening text)
+IsNoSession old new OutOfMemory = StopsWithin old new ⊎ ((text : List ℕ) × IsRead old new text × IsUtf8 text × GoesPastOpening text)
 IsNoSession old new e = IsNoText old new e
+
+-- The same, where a session is checked. Memory may also run out over a text whose first two lines are those of a session: they open a console.
+abbrev pub IsNoCheck : SourceState → SourceState → TextFault → Type 0
+IsNoCheck old new (BadLine n) = (text : List ℕ) × IsRead old new text × IsRefused (BadLine n) text
+IsNoCheck old new OutOfMemory = StopsWithin old new ⊎ ((text : List ℕ) × IsRead old new text × IsUtf8 text × HasOpening text)
+IsNoCheck old new e = IsNoText old new e
 
 -- a file as it was opened and as it was left, or why it was not opened
 abbrev pub Opened : Type 0
@@ -127,3 +134,7 @@ LacksScenario (Err error) e = e ≡ open_fault (error_kind error)
 abbrev pub LacksSession : Opened → TextFault → Type 0
 LacksSession (Ok states) e = IsNoSession states.0 states.1 e
 LacksSession (Err error) e = e ≡ open_fault (error_kind error)
+
+abbrev pub LacksCheck : Opened → TextFault → Type 0
+LacksCheck (Ok states) e = IsNoCheck states.0 states.1 e
+LacksCheck (Err error) e = e ≡ open_fault (error_kind error)

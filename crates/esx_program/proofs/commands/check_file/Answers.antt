@@ -3,7 +3,7 @@ use Rattle.std.specs.Prelude.{IsUtf8}
 use Rattle.std.proofs.lemmas.Str.{IsUtf8-string_bytes}
 use Rattle.esx_program.specs.Files.{HasText}
 use Rattle.esx_program.proofs.DoingLemmas.{file_checked}
-use Rattle.esx_program.proofs.FileLemmas.{no_text_no_session}
+use Rattle.esx_program.proofs.FileLemmas.{no_text_no_check}
 use Rattle.esx_program.proofs.commands.check_file.Goals as goal
 
 pub returns-in-Ok : goal.returns-in-Ok
@@ -14,4 +14,4 @@ returns-in-Ok g c =
     (read.0, read.1, file_checked read.0 _ _ c.as_str.result.now here utf8 c.check_to.result.ended c.check_to.ensures.told c.check_to.ensures.failure)
 
 pub returns-in-Err : goal.returns-in-Err
-returns-in-Err g c = let none = c.in-Err.ensures in (none.0, none.1, (no_text_no_session none.0 c.in-Err.fault none.3, refl))
+returns-in-Err g c = let none = c.in-Err.ensures in (none.0, none.1, (no_text_no_check none.0 c.in-Err.fault none.3, refl))
