@@ -1,6 +1,6 @@
 //! The same work on the listings of frames, a frame for each hint.
 
-ghost use Rattle.std.specs.Prelude.{◌<◌, IfOk, length};
+ghost use Rattle.std.specs.Prelude.{◌<◌};
 
 use crate::numbers::mixed;
 use crate::work::Work;

@@ -1,6 +1,6 @@
 //! The works that are measured.
 
-ghost use Rattle.std.specs.Prelude.{◌≡◌, ◌<◌, IfOk, length, vec_len};
+ghost use Rattle.std.specs.Prelude.{◌≡◌, ◌<◌, length};
 
 use crate::draws::{Draws, mixed};
 use esx_frames::FrameTable;

@@ -1,6 +1,6 @@
 //! Threads at one desk.
 
-ghost use Rattle.std.specs.Prelude.{◌≡◌, ◌<◌, ◌≤◌, IfOk, IfSome};
+ghost use Rattle.std.specs.Prelude.{◌<◌, ◌≤◌, IfOk, IfSome};
 ghost use Rattle.desk_tests.specs.Crowd.{AreOf, AreBack};
 ghost use Rattle.esx_desk.specs.Told.{IsOf};
 

@@ -1,12 +1,12 @@
 -- The names that a console tells are names, and so the replies of a log are told as they are.
-use Rattle.std.proofs.Common.{◌≡◌, ℕ, zero, suc, true, false, if◌then◌else◌, List, [], ◌∷◌, ◌++◌, Option, None, Some, Result, Ok, Err, refl, sym, ◌∙◌, ap, subst, length, map, nat_lt, nat_le}
+use Rattle.std.proofs.Common.{◌≡◌, ℕ, zero, suc, true, false, if◌then◌else◌, List, [], ◌∷◌, ◌++◌, Option, None, Some, Result, Ok, Err, refl, sym, subst, length, map, nat_lt, nat_le}
 use Rattle.std.specs.Prelude.{option_map, not, find}
 use Rattle.std.specs.List.{AllByRecursion, list_any}
 use Rattle.esx_events.specs.Names.{IsName}
 use Rattle.esx_events.specs.declared.event.Event.{Event}
 use Rattle.esx_events.specs.declared.event.Answer.{Answer}
 use Rattle.esx_events.specs.declared.event.Refusal.{Refusal}
-use Rattle.esx_events.specs.declared.event.Refusal.TheVariants.{NothingToUndo, NothingToRedo, NoSuchNode, NameTaken, NoSuchName, OnPath, Full}
+use Rattle.esx_events.specs.declared.event.Refusal.TheVariants.{NothingToUndo, NothingToRedo, NoSuchNode, NameTaken, OnPath, Full}
 use Rattle.esx_events.specs.declared.call.Activity.{Activity}
 use Rattle.esx_events.specs.declared.call.Call.{Call}
 use Rattle.esx_events.specs.declared.call.Call.TheVariants as calls
@@ -15,7 +15,6 @@ use Rattle.esx_events.specs.declared.call.Line.{Line}
 use Rattle.esx_events.specs.declared.call.NameRow.{NameRow}
 use Rattle.esx_events.specs.declared.call.PageState.{PageState}
 use Rattle.esx_events.specs.declared.call.Reply.{Reply}
-use Rattle.esx_events.specs.declared.call.Said.{Said}
 use Rattle.esx_model.specs.declared.scene.Scene.{Scene}
 use Rattle.esx_model.specs.Replay.{next}
 use Rattle.esx_model.specs.Readings.{page_state, activity}
@@ -24,7 +23,6 @@ use Rattle.esx_model.specs.History.{History, opened, cursor, here, scene_at, boo
 use Rattle.esx_model.specs.Branching.{stands, gone_to, goto, named, go_to_mark, visit, mark, is_on_path, standing_below, dropped, prune}
 use Rattle.esx_model.specs.Console.{Session, event_outcome, move_outcome, goto_outcome, mark_outcome, prune_outcome, page_said, activity_said, help_said, outcome, after, reply_to, AreReplies, IsLegal}
 use Rattle.esx_words.specs.Commands.{IsInRange}
-use Rattle.esx_replies.specs.Replies.{reply_text}
 use Rattle.esx_replies.specs.Told.{HasNames, IsReplyTold}
 use Rattle.esx_session.specs.Sessions.{logged, IsEntry, IsSession, HasNoReturn}
 use Rattle.esx_check.specs.Checks.{IsAsked, IsPrintable}

@@ -65,7 +65,7 @@ impl<'a, T: Wanted, L: Ledger> Comparing<'a, T, L> {
         requires wanted { text.now ≡ T.text }
         requires name { blank.name ≡ L.name }
         requires parts { blank.parts ≡ L.parts }
-        requires three { 3 ≤ blank.parts }
+        requires four { 4 ≤ blank.parts }
         ensures { result ≡ record { bytes = []; tally = record { calls = 0; failures = 0; noted = 0 } } }
     {
         Comparing {
@@ -129,7 +129,7 @@ fn compared<T: Wanted, L: Ledger>(
     requires empty { held.old ≡ [] }
     requires name { blank.name ≡ L.name }
     requires parts { blank.parts ≡ L.parts }
-    requires three { 3 ≤ blank.parts }
+    requires four { 4 ≤ blank.parts }
     ensures same { IsTrue result ↔ (reply_text reply.now ≡ text.now) }
     ensures empty { IsTrue result → held.new ≡ [] }
 {
@@ -144,5 +144,5 @@ pub fn has_text(held: &mut AnswerBuffer, reply: &Reply, text: &[u8]) -> bool
     ensures same { IsTrue result ↔ (reply_text reply.now ≡ text.now) }
     ensures empty { IsTrue result → held.new ≡ [] }
 {
-    compared::<Brand, Brand>(held, reply, text, Blank::new(3))
+    compared::<Brand, Brand>(held, reply, text, Blank::new(4))
 }

@@ -1,6 +1,6 @@
 //! Laws of what passes know.
 
-ghost use Rattle.std.specs.Prelude.{◌≡◌, ℕ, List};
+ghost use Rattle.std.specs.Prelude.{◌≡◌};
 ghost use Rattle.esx_events.specs.declared.call.Call.{Call};
 ghost use Rattle.esx_events.specs.declared.call.Reply.{Reply};
 ghost use Rattle.esx_lock.specs.declared.view.View.{View};

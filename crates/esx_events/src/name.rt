@@ -1,6 +1,6 @@
 //! Names of nodes.
 
-ghost use Rattle.std.specs.Prelude.{◌≡◌, ◌↔◌, IfOk, IfSome, IsSome, IsTrue, OnErr};
+ghost use Rattle.std.specs.Prelude.{◌≡◌, ◌↔◌, IfOk, IfSome, IsSome, OnErr};
 ghost use Rattle.esx_events.specs.Names.{IsName, is_name_byte, is_lower, starts_lower, is_name};
 ghost use Rattle.std.specs.List.{list_all};
 

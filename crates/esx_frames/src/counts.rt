@@ -1,6 +1,6 @@
 //! How many frames there are of each kind.
 
-ghost use Rattle.std.specs.Prelude.{◌≡◌, ◌+◌, ◌-◌, ◌<◌, ◌^◌};
+ghost use Rattle.std.specs.Prelude.{◌≡◌, ◌+◌, ◌<◌, ◌^◌};
 ghost use Rattle.esx_frames.specs.Counts.{count_like, with_row, without_row};
 
 use esx_types::FrameRow;

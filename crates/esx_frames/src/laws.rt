@@ -1,6 +1,6 @@
 //! Laws of trades with the table. A function here does nothing: its contract is the law.
 
-ghost use Rattle.std.specs.Prelude.{◌≡◌, ℕ, List};
+ghost use Rattle.std.specs.Prelude.{ℕ, List};
 ghost use Rattle.esx_types.specs.declared.table.FrameRow.{FrameRow};
 ghost use Rattle.esx_lists.specs.Trades.{LeadsBack, row_traded};
 ghost use Rattle.esx_frames.specs.Marks.{bytes_traded_at, mark_traded_at, slot_traded_at};

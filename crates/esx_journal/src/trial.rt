@@ -1,11 +1,8 @@
 //! Events that are tried and taken back.
 
-ghost use Rattle.std.specs.Prelude.{◌≡◌, ◌≤◌, ◌+◌, ◌^◌, ◌++◌, drop, length, IfOk};
+ghost use Rattle.std.specs.Prelude.{◌≡◌, ◌≤◌, ◌+◌, ◌^◌, drop, length};
 ghost use Rattle.esx_model.specs.declared.scene.Scene.{Scene};
 ghost use Rattle.esx_model.specs.Epochs.{AreEpochsWithin};
-ghost use Rattle.esx_model.specs.Readings.{sum_of};
-ghost use Rattle.esx_model.specs.Show.{shown};
-ghost use Rattle.esx_model.specs.WhatIf.{replies_to, scene_of};
 ghost use Rattle.esx_machine.specs.Machine.{Shows};
 ghost use Rattle.esx_journal.specs.Trial.{Tells};
 

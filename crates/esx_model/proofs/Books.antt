@@ -1,10 +1,9 @@
 -- The book is read from the tables.
-use Rattle.std.proofs.Common.{zero, suc, ◌≡◌, ◌≢◌, ℕ, ◌+◌, ◌-◌, ◌<◌, ◌≤◌, Bool, true, false, not, nat_le, List, [], ◌∷◌, ◌++◌, length, map, take, replicate, refl, sym, ap, ◌∙◌, subst, arith, cond, Option, Some, None, ◌⊎◌, inl, inr, ◌==◌}
+use Rattle.std.proofs.Common.{zero, suc, ◌≡◌, ◌≢◌, ℕ, ◌+◌, ◌<◌, ◌≤◌, Bool, true, false, nat_le, List, [], ◌∷◌, ◌++◌, length, map, refl, sym, ap, ◌∙◌, subst, arith, cond, Option, Some, None, ◌⊎◌, inl, inr, ◌==◌}
 use Rattle.std.specs.Option.{option_map}
 use Rattle.std.specs.List.{filter, find, range_with_len, AllByRecursion}
 use Rattle.std.proofs.lemmas.Bool.{cases_eq, false≢true}
 use Rattle.std.proofs.lemmas.Bool.Decides.{nat_tests}
-use Rattle.std.proofs.lemmas.Grind.{common_steps}
 use Rattle.esx_types.specs.declared.config.Config.{Config}
 use Rattle.esx_types.specs.declared.level.Level.{Level}
 use Rattle.esx_types.specs.declared.table.FrameRow.{FrameRow}
@@ -21,12 +20,12 @@ use Rattle.esx_types.specs.declared.table.Listing.{Listing}
 use Rattle.esx_model.specs.Places.{is_here_at, is_private}
 use Rattle.esx_model.specs.Site.{vm_at, place_at, place_in, place_of, all_places, all_overhead}
 use Rattle.esx_model.specs.Hints.{in_order}
-use Rattle.esx_model.specs.Show.{pages_in, frame_row, frame_rows, map_row, vm_row, shared_from, shared_rows, book_of, with_key}
+use Rattle.esx_model.specs.Show.{frame_row, frame_rows, map_row, vm_row, shared_from, shared_rows, book_of, with_key}
 use Rattle.esx_types.specs.Listings as listed
 use Rattle.esx_model.specs.Tables.{raw_place, vm_table, is_hint_in, listing_by, listing_row, listing_rows, tables_of, read_place, read_vm, read_hints, read_keys, book_from}
 use Rattle.esx_model.specs.sound.Hints.{AreOrdered}
 use Rattle.esx_model.specs.sound.Sound.{IsSound}
-use Rattle.esx_model.proofs.Lists.{chosen, find_passes, find_in, all_middle, one, some_below}
+use Rattle.esx_model.proofs.Lists.{find_passes, find_in, one}
 use Rattle.esx_model.proofs.HintsKept.{in_order_ordered}
 use Rattle.esx_model.proofs.Kept.{page_is_in}
 use Rattle.esx_model.proofs.Rooms.{IsIn, row_here, private_row}

@@ -1,6 +1,6 @@
 //! The rows of virtual machines.
 
-ghost use Rattle.std.specs.Prelude.{◌≡◌, ℕ, ◌<◌, ◌^◌, Some, None, length, map, option_map, IfOk};
+ghost use Rattle.std.specs.Prelude.{◌≡◌, ◌<◌, ◌^◌, Some, None, length, map, option_map, IfOk};
 ghost use Rattle.esx_model.specs.declared.scene.Vm.{Vm};
 ghost use Rattle.esx_model.specs.Show.{map_row, period_row, vm_row, vm_rows};
 ghost use Rattle.esx_model.specs.Site.{vm_at};

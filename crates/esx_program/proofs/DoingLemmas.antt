@@ -1,5 +1,5 @@
 -- What is done with a file and with streams, by the word that asks for it.
-use Rattle.std.proofs.Common.{◌≡◌, ◌∙◌, ◌⊎◌, ◌+◌, ℕ, List, [], Option, Some, None, Result, Ok, Err, refl, inl, inr, arith}
+use Rattle.std.proofs.Common.{◌≡◌, ◌⊎◌, ◌+◌, ℕ, List, [], Option, Some, None, Result, Ok, Err, refl, inl, inr, arith}
 use Rattle.std.specs.Prelude.{codes, IsSome, IsUtf8}
 use Rattle.std.specs.Result.{IfOk, IfErr, IsErrOf, OnOk}
 use Rattle.std.specs.IoError.{error_kind}
@@ -28,7 +28,7 @@ use Rattle.esx_program.specs.Failing.{MayFail, WantsSession}
 use Rattle.esx_program.specs.Files.{HasScenario, HasSession, HasText, LacksCheck, LacksScenario, LacksSession, Opened}
 use Rattle.esx_program.specs.Given.{open_fault}
 use Rattle.esx_program.specs.Runs.{Plays, RunStops}
-use Rattle.esx_program.specs.Sessions.{GivenOut, IsReplayed, IsNotReplayed}
+use Rattle.esx_program.specs.Sessions.{GivenOut}
 use Rattle.esx_program.specs.States.{SinkState, SourceState}
 use Rattle.esx_program.specs.Status.{TellsCheck, TellsNoCheck, word_of_done}
 use Rattle.esx_program.specs.Streams.{IsServed}

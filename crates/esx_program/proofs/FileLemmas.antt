@@ -1,48 +1,44 @@
 -- What a file that was opened and read comes to.
-use Rattle.std.proofs.Common.{◌≡◌, ◌⊎◌, inl, inr, ℕ, List, Option, Result, Ok, Err, refl, arith}
+use Rattle.std.proofs.Common.{◌≡◌, ◌⊎◌, inl, inr, ℕ, List, Result, Ok, Err, refl}
 use Rattle.std.specs.Prelude.{◌+◌, ◌^◌, ◌≤◌, length, IsUtf8}
 use Rattle.std.specs.Io.KnownBytes.{Consumes}
 use Rattle.std.specs.Result.{IfErr, IfOk, IsErrOf, OnOk}
-use Rattle.std.specs.IoError.{error_kind}
-use Rattle.std.specs.declared.io.Error.{Error}
 use Rattle.esx_reading.specs.declared.fault.TextFault.{TextFault}
 use Rattle.esx_reading.specs.declared.fault.TextFault.TheVariants.{NotToml, BadKey, BadLine, NotText, Differs, Read, Write, OutOfMemory}
 use Rattle.esx_reading.specs.Whole.{GivesMore, GivesOn, GivesWhole, IsOfText}
 use Rattle.esx_scenario.specs.Scenarios.{IsRefused as IsNoPlan}
 use Rattle.esx_session.specs.Reading.{GoesPastOpening}
 use Rattle.esx_session.specs.Sessions.{HasOpening, IsRefused}
-use Rattle.esx_program.specs.Files.{FailsToRead, HasText, IsNoCheck, IsNoScenario, IsNoSession, IsNoText, IsRead, StopsWithin, LacksCheck, LacksText, Opened}
+use Rattle.esx_program.specs.Files.{FailsToRead, HasText, IsNoCheck, IsNoScenario, IsNoSession, IsNoText, IsRead, LacksCheck, LacksText, Opened, ReadsPieces}
 use Rattle.esx_program.specs.States.{SourceState}
 
-module _ (old new : SourceState) (most : new.calls ≤ old.calls + 2 ^ 26) where
+module _ (old new : SourceState) (pieces : ReadsPieces old new) where
   no_text_of : (e : TextFault) → IsOfText e
-      → (e ≡ NotText → (bytes : List ℕ) × GivesWhole old.remaining new.remaining bytes × (IsUtf8 bytes → ⊥))
-      → (e ≡ NotText → (bytes : List ℕ) × GivesWhole old.remaining new.remaining bytes × (new.calls ≤ old.calls + length bytes + 1))
+      → (e ≡ NotText → (bytes : List ℕ) × GivesWhole old.remaining new.remaining bytes × (IsUtf8 bytes → ⊥) × (new.calls ≤ old.calls + length bytes + 1))
       → (e ≡ NotText → new.empty_reads ≡ old.empty_reads + 1)
       → (e ≡ Read → FailsToRead old new) → (e ≡ OutOfMemory → GivesOn old.remaining new.remaining old.calls new.calls)
       → (e ≡ OutOfMemory → new.empty_reads ≡ old.empty_reads) → ((e ≡ Read → ⊥) → new.failures ≡ old.failures) → IsNoText old new e
-  no_text_of NotToml is none end found fails memory unended same = is
-  no_text_of (BadKey path) is none end found fails memory unended same = is
-  no_text_of (BadLine n) is none end found fails memory unended same = is
-  no_text_of NotText is none end found fails memory unended same =
-      let at_end = end refl in
+  no_text_of NotToml is none found fails memory unended same = is
+  no_text_of (BadKey path) is none found fails memory unended same = is
+  no_text_of (BadLine n) is none found fails memory unended same = is
+  no_text_of NotText is none found fails memory unended same =
       let whole = none refl in
-      ((whole.0, record { given = whole.1; found = found refl }, whole.2), record { failures = same (λ h. cc); each = record { input = at_end.0; read = at_end.1.given; each = at_end.2 }; most = most })
-  no_text_of (Differs k) is none end found fails memory unended same = is
-  no_text_of Read is none end found fails memory unended same = fails refl
-  no_text_of Write is none end found fails memory unended same = is
-  no_text_of OutOfMemory is none end found fails memory unended same =
+      (whole.0, record { given = whole.1; failures = same (λ h. cc); calls = whole.3; found = found refl; pieces = pieces }, whole.2)
+  no_text_of (Differs k) is none found fails memory unended same = is
+  no_text_of Read is none found fails memory unended same = fails refl
+  no_text_of Write is none found fails memory unended same = is
+  no_text_of OutOfMemory is none found fails memory unended same =
       let on = memory refl in
       record {
-        read = record { failures = same (λ h. cc); each = record { input = on.bytes; read = on.given; each = omega (arith, on.each) }; most = most };
         given = on;
+        failures = same (λ h. cc);
         not_found = unended refl;
+        pieces = pieces;
       }
 
   -- a text that could not be read
   pub no_text : {T : Type 0} (r : Result T TextFault) → IfErr r IsOfText
-      → (IsErrOf r NotText → (bytes : List ℕ) × GivesWhole old.remaining new.remaining bytes × (IsUtf8 bytes → ⊥))
-      → (IsErrOf r NotText → (bytes : List ℕ) × GivesWhole old.remaining new.remaining bytes × (new.calls ≤ old.calls + length bytes + 1))
+      → (IsErrOf r NotText → (bytes : List ℕ) × GivesWhole old.remaining new.remaining bytes × (IsUtf8 bytes → ⊥) × (new.calls ≤ old.calls + length bytes + 1))
       → (IsErrOf r Read → (new.failures ≡ old.failures + 1)
       ⊎ ((new.failures ≡ old.failures) × ((new.calls ≡ old.calls + 2 ^ 26) ⊎ GivesMore old.remaining new.remaining)))
       → (IsErrOf r Read → (bytes : List ℕ) × Consumes old.remaining new.remaining bytes × (new.calls ≤ old.calls + length bytes + 1))
@@ -51,18 +47,18 @@ module _ (old new : SourceState) (most : new.calls ≤ old.calls + 2 ^ 26) where
       → (IsErrOf r NotText → new.empty_reads ≡ old.empty_reads + 1)
       → (IsErrOf r Read → new.empty_reads ≡ old.empty_reads)
       → (IsErrOf r OutOfMemory → new.empty_reads ≡ old.empty_reads) → IfErr r (IsNoText old new)
-  no_text (Ok v) is none end cause each memory same found not_found not_found_in_memory = tt
-  no_text (Err e) is none end cause each memory same found not_found not_found_in_memory =
-      no_text_of e is (λ h. none (cc)) (λ h. end (cc)) (λ h. found (cc))
+  no_text (Ok v) is none cause each memory same found not_found not_found_in_memory = tt
+  no_text (Err e) is none cause each memory same found not_found not_found_in_memory =
+      no_text_of e is (λ h. none (cc)) (λ h. found (cc))
       (λ h. let on = each (cc) in
-      record { cause = cause (cc); not_found = not_found (cc); each = record { input = on.0; read = on.1; each = on.2 }; most = most })
+      record { cause = cause (cc); not_found = not_found (cc); each = record { input = on.0; read = on.1; each = on.2 }; pieces = pieces })
       (λ h. memory (cc)) (λ h. not_found_in_memory (cc)) (λ other. same (λ h. other (cc)))
 
   -- a text that was read
   pub is_text : {T : Type 0} (r : Result T TextFault) (bytes : T → List ℕ) → IfOk r (λ v. GivesWhole old.remaining new.remaining (bytes v))
       → IfOk r (λ v. new.calls ≤ old.calls + length (bytes v) + 1) → ((IsErrOf r Read → ⊥) → new.failures ≡ old.failures)
       → OnOk r (new.empty_reads ≡ old.empty_reads + 1) → IfOk r (λ v. IsRead old new (bytes v))
-  is_text (Ok v) bytes given calls same found = record { given = given; failures = same (λ h. cc); calls = calls; found = found; most = most }
+  is_text (Ok v) bytes given calls same found = record { given = given; failures = same (λ h. cc); calls = calls; found = found; pieces = pieces }
   is_text (Err e) bytes given calls same found = tt
 
 module _ (old new : SourceState) where

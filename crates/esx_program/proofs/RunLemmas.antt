@@ -1,5 +1,5 @@
 -- What comes of a run, and what comes out of it.
-use Rattle.std.proofs.Common.{◌≡◌, ◌∙◌, ◌<◌, ◌≤◌, ◌+◌, ◌++◌, ℕ, List, [], Option, None, Some, Result, Ok, Err, length, slice_get, get_or, refl, sym, ap, subst, append-nil, ⊎_elim, arith, flat_map, map}
+use Rattle.std.proofs.Common.{◌≡◌, ◌∙◌, ◌<◌, ◌≤◌, ◌+◌, ◌++◌, ℕ, List, [], Option, None, Some, Result, Ok, Err, length, slice_get, get_or, refl, ap, subst, ⊎_elim, arith, flat_map, map}
 use Rattle.std.proofs.lemmas.Option.{slice_get_cases, slice_get_within}
 use Rattle.std.specs.Result.{IfErr, OnOk}
 use Rattle.std.specs.Io.KnownBytes.{Appends, Keeps, append_known}
@@ -22,7 +22,7 @@ use Rattle.esx_program.specs.declared.ends.Ending.{Ending}
 use Rattle.esx_program.specs.declared.ends.Name.{Name}
 use Rattle.esx_program.specs.declared.running.RunFault.{RunFault}
 use Rattle.esx_program.specs.declared.running.RunFault.TheVariants.{Refused, Write, OutOfMemory}
-use Rattle.esx_program.specs.Ends.{endings, ending_text, ends_text, workers_named}
+use Rattle.esx_program.specs.Ends.{endings, ending_text, workers_named}
 use Rattle.esx_program.specs.Runs.{AreTold, IsPlayed, IsRefusedOpening, NotPlayed, Plays, RunStops, StopsTelling, fault_of, told_session, written_as}
 use Rattle.esx_program.specs.States.{SinkState}
 use Rattle.esx_program.proofs.OutgoingLemmas.{appends_known, none_wait, second_none, writes_kept}

@@ -5,7 +5,7 @@ use Rattle.std.specs.declared.io.Error.{Error}
 use Rattle.esx_types.specs.declared.config.Config.{Config}
 use Rattle.esx_reading.specs.declared.fault.TextFault.{TextFault}
 use Rattle.esx_reading.specs.declared.fault.TextFault.TheVariants.{NotToml, BadKey, BadLine, NotText, Read, OutOfMemory}
-use Rattle.esx_reading.specs.Whole.{GivesMore, GivesOn, GivesWhole}
+use Rattle.esx_reading.specs.Whole.{AskForPieces, GivesMore, GivesOn, GivesWhole}
 use Rattle.esx_scenario.specs.Plans.{Plan}
 use Rattle.esx_scenario.specs.Scenarios.{IsScenario, IsRefused as IsNoPlan}
 use Rattle.esx_session.specs.declared.session.Entry.{Entry}
@@ -17,13 +17,17 @@ use Rattle.esx_program.specs.States.{SourceState}
 use Rattle.esx_program.specs.Words.{asked_of}
 use Rattle.esx_program.specs.declared.words.Asked.{Asked}
 
--- All bytes of a file were read, and no read failed. There were at most 2^26 reads, and at most one more than bytes. One alone found the end.
+-- there were at most 2^26 reads, of 65,536 bytes each
+abbrev pub ReadsPieces : SourceState → SourceState → Type 0
+ReadsPieces old new = (new.calls ≤ old.calls + 2 ^ 26) × AskForPieces old.calls new.calls old.asked new.asked
+
+-- All bytes of a file were read, and no read failed. There was at most one read more than bytes, and one alone found the end.
 pub record IsRead (old new : SourceState) (bytes : List ℕ) : Type 0 where
   pub given : GivesWhole old.remaining new.remaining bytes
   pub failures : new.failures ≡ old.failures
   pub calls : new.calls ≤ old.calls + length bytes + 1
   pub found : new.empty_reads ≡ old.empty_reads + 1
-  pub most : new.calls ≤ old.calls + 2 ^ 26
+  pub pieces : ReadsPieces old new
 
 -- A read failed, or none of 2^26 found the end, or there were more bytes than a file may have. No read found the end.
 pub record FailsToRead (old new : SourceState) : Type 0 where
@@ -31,28 +35,18 @@ pub record FailsToRead (old new : SourceState) : Type 0 where
       ⊎ ((new.failures ≡ old.failures) × ((new.calls ≡ old.calls + 2 ^ 26) ⊎ GivesMore old.remaining new.remaining))
   pub not_found : new.empty_reads ≡ old.empty_reads
   pub each : ReadsOn old.remaining new.remaining old.calls new.calls
-  pub most : new.calls ≤ old.calls + 2 ^ 26
+  pub pieces : ReadsPieces old new
 
--- No read failed. There were at most 2^26, and at most one more than bytes that they gave.
-pub record ReadsWell (old new : SourceState) : Type 0 where
-  pub failures : new.failures ≡ old.failures
-  pub each : ReadsOn old.remaining new.remaining old.calls new.calls
-  pub most : new.calls ≤ old.calls + 2 ^ 26
-
--- Some bytes were read, and not all: each read gave some, and none failed.
+-- The reads that there were, if any, each gave some bytes: none failed, and none found the end.
 pub record StopsWithin (old new : SourceState) : Type 0 where
-  pub read : ReadsWell old new
   pub given : GivesOn old.remaining new.remaining old.calls new.calls
+  pub failures : new.failures ≡ old.failures
   pub not_found : new.empty_reads ≡ old.empty_reads
-
--- all these bytes were read, and one read alone found the end
-pub record StopsAtEnd (old new : SourceState) (bytes : List ℕ) : Type 0 where
-  pub given : GivesWhole old.remaining new.remaining bytes
-  pub found : new.empty_reads ≡ old.empty_reads + 1
+  pub pieces : ReadsPieces old new
 
 -- What a fault tells of a file: all its bytes were read and are no text, or reading failed, or memory ran out on the way.
 abbrev pub IsNoText : SourceState → SourceState → TextFault → Type 0
-IsNoText old new NotText = ((bytes : List ℕ) × StopsAtEnd old new bytes × (IsUtf8 bytes → ⊥)) × ReadsWell old new
+IsNoText old new NotText = (bytes : List ℕ) × IsRead old new bytes × (IsUtf8 bytes → ⊥)
 IsNoText old new Read = FailsToRead old new
 IsNoText old new OutOfMemory = StopsWithin old new
 IsNoText old new _ = ⊥

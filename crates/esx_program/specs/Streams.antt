@@ -3,6 +3,7 @@ use Rattle.std.specs.Prelude.{ℕ, List, [], ◌++◌, ◌≡◌, ◌⊎◌, ◌
 use Rattle.std.specs.Io.KnownBytes.{Appends}
 use Rattle.esx_types.specs.declared.config.Config.{Config}
 use Rattle.esx_model.specs.Console.{Session}
+use Rattle.esx_reading.specs.Whole.{AskForPieces}
 use Rattle.esx_text.specs.Answers.{Answers, EndsEarly, ReadsOn, write_faults}
 use Rattle.esx_text.specs.declared.fault.ServeFault.{ServeFault}
 use Rattle.esx_text.specs.declared.fault.ServeFault.TheVariants.{Read, Write, OutOfMemory}
@@ -19,13 +20,14 @@ ComesOut OutOfMemory taken out = taken ≡ out
 abbrev pub Sends : Option (List ℕ) → Option (List ℕ) → List ℕ → List ℕ → Type 0
 Sends old new waited waits = (front : List ℕ) × (waited ≡ front ++ waits) × Appends old new front
 
--- A site was served from its opening on: all input was answered, or all up to a fault. The source fails and the sink fails only where that is the fault, there was at most one read more than bytes that came, the end was found once where all was answered and never where reading is at fault, and what waits was flushed before each further read and at the end.
+-- A site was served from its opening on: all input was answered, or all up to a fault. The source fails and the sink fails only where that is the fault, there was at most one read more than bytes that came, each asked for 65,536 of them, the end was found once where all was answered and never where reading is at fault, and what waits was flushed before each further read and at the end.
 pub record IsServed (site : Config) (ended : Result ℕ ServeFault) (unread left : SourceState) (out out' : SinkState) : Type 0 where
   pub ok : IfOk ended (λ n. (after : Session) × Answers 0 n (at_opening site) after unread.remaining left.remaining out.contents out'.contents)
   pub fault : IfErr ended (λ e. (after : Session) × (taken : Option (List ℕ))
       × EndsEarly e 0 (at_opening site) after unread.remaining left.remaining unread.calls left.calls out.contents taken
       × ComesOut e taken out'.contents)
   pub reads : left.calls ≤ unread.calls + 2 ^ 26
+  pub pieces : AskForPieces unread.calls left.calls unread.asked left.asked
   pub found : OnOk ended (left.empty_reads ≡ unread.empty_reads + 1)
   pub not_found : IsErrOf ended Read → left.empty_reads ≡ unread.empty_reads
   pub ends : left.empty_reads ≤ unread.empty_reads + 1

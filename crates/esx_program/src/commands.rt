@@ -1,6 +1,6 @@
 //! What the program does with a file and with streams, as it is asked for.
 
-ghost use Rattle.std.specs.Prelude.{◌≡◌, ℕ, Option, IfOk, IfErr};
+ghost use Rattle.std.specs.Prelude.{◌≡◌, Option, IfOk, IfErr};
 ghost use Rattle.esx_types.specs.Ranges.{IsConfig};
 ghost use Rattle.esx_program.specs.declared.words.Asked.{Asked as Wanted};
 ghost use Rattle.esx_program.specs.Doing.{served_as, ran_as, replayed_as, Does, EndsCheck, EndsConsole, EndsReplay, EndsRun, IsSiteAsked, LacksSite};
@@ -54,7 +54,7 @@ fn site_asked<F: Source>(
     file: &mut Option<io::Result<F>>,
 ) -> Result<Config, TextFault>
     ensures config { IfOk result IsConfig }
-    ensures site { (read : Option Opened) × MayBeLeft (source_state F.remaining F.calls F.failures F.empty_reads) file.old file.new read
+    ensures site { (read : Option Opened) × MayBeLeft (source_state F.remaining F.calls F.failures F.empty_reads F.asked) file.old file.new read
         × IfOk result (IsSiteAsked read) × IfErr result (LacksSite read) }
 {
     match file {
@@ -83,9 +83,9 @@ fn serve_file<F: Source, I: Source + Drop, W: Sink + Drop>(
     mut reader: I,
     writer: W,
 ) -> ConsoleEnd<I, W>
-    ensures { (read : Option Opened) × MayBeLeft (source_state F.remaining F.calls F.failures F.empty_reads) file.old file.new read
+    ensures { (read : Option Opened) × MayBeLeft (source_state F.remaining F.calls F.failures F.empty_reads F.asked) file.old file.new read
         × EndsConsole read result.ended
-        (source_state I.remaining I.calls I.failures I.empty_reads reader) (source_state I.remaining I.calls I.failures I.empty_reads result.reader)
+        (source_state I.remaining I.calls I.failures I.empty_reads I.asked reader) (source_state I.remaining I.calls I.failures I.empty_reads I.asked result.reader)
         (sink_state W.contents W.waiting W.failures W.flushes writer) (sink_state W.contents W.waiting W.failures W.flushes result.writer) }
 {
     match site_asked(alloc, file) {
@@ -95,7 +95,7 @@ fn serve_file<F: Source, I: Source + Drop, W: Sink + Drop>(
                 site,
                 &mut reader,
                 writer,
-                Blank::new(3),
+                Blank::new(4),
             );
             let ended = served_as(served);
             ConsoleEnd {
@@ -131,7 +131,7 @@ fn run_file<
     E: Sink + Drop,
     W: Sink + Drop,
 >(rt: &R, opened: &mut io::Result<F>, to: Option<&P>, errors: E, writer: W) -> RunEnd<E, W>
-    ensures { (read : Opened) × IsLeft (source_state F.remaining F.calls F.failures F.empty_reads) opened.old opened.new read
+    ensures { (read : Opened) × IsLeft (source_state F.remaining F.calls F.failures F.empty_reads F.asked) opened.old opened.new read
         × EndsRun read result.ended
         (sink_state E.contents E.waiting E.failures E.flushes errors) (sink_state E.contents E.waiting E.failures E.flushes result.errors)
         (sink_state W.contents W.waiting W.failures W.flushes writer) (sink_state W.contents W.waiting W.failures W.flushes result.writer) }
@@ -171,7 +171,7 @@ fn replay_file<P: Print, F: Source, W: Sink + Drop>(
     to: Option<&P>,
     writer: W,
 ) -> End<W>
-    ensures { (read : Opened) × IsLeft (source_state F.remaining F.calls F.failures F.empty_reads) opened.old opened.new read
+    ensures { (read : Opened) × IsLeft (source_state F.remaining F.calls F.failures F.empty_reads F.asked) opened.old opened.new read
         × EndsReplay read result.ended
         (sink_state W.contents W.waiting W.failures W.flushes writer) (sink_state W.contents W.waiting W.failures W.flushes result.writer) }
 {
@@ -226,7 +226,7 @@ fn check_file<P: Print, F: Source, W: Sink + Drop>(
     to: Option<&P>,
     writer: W,
 ) -> End<W>
-    ensures { (read : Opened) × IsLeft (source_state F.remaining F.calls F.failures F.empty_reads) opened.old opened.new read
+    ensures { (read : Opened) × IsLeft (source_state F.remaining F.calls F.failures F.empty_reads F.asked) opened.old opened.new read
         × EndsCheck read result.ended
         (sink_state W.contents W.waiting W.failures W.flushes writer) (sink_state W.contents W.waiting W.failures W.flushes result.writer) }
 {
@@ -284,9 +284,9 @@ pub fn run_asked<
     to: Option<&P>,
     streams: Streams<I, E, W>,
 ) -> Ended<I, E, W>
-    ensures { (read : Wanted Opened) × AreLeft (source_state F.remaining F.calls F.failures F.empty_reads) asked.old asked.new read
+    ensures { (read : Wanted Opened) × AreLeft (source_state F.remaining F.calls F.failures F.empty_reads F.asked) asked.old asked.new read
         × Does read result.ended
-        (source_state I.remaining I.calls I.failures I.empty_reads streams.reader) (source_state I.remaining I.calls I.failures I.empty_reads result.streams.reader)
+        (source_state I.remaining I.calls I.failures I.empty_reads I.asked streams.reader) (source_state I.remaining I.calls I.failures I.empty_reads I.asked result.streams.reader)
         (sink_state E.contents E.waiting E.failures E.flushes streams.errors) (sink_state E.contents E.waiting E.failures E.flushes result.streams.errors)
         (sink_state W.contents W.waiting W.failures W.flushes streams.writer) (sink_state W.contents W.waiting W.failures W.flushes result.streams.writer) }
 {

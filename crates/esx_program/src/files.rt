@@ -27,8 +27,8 @@ fn fault_of_kind(kind: ErrorKind) -> TextFault
 
 /// The text that a file gives.
 fn text_of_source<F: Source>(alloc: Global, file: &mut F) -> Result<String, TextFault>
-    ensures text { IfOk result (λ s. IsRead (source_state F.remaining F.calls F.failures F.empty_reads file.old) (source_state F.remaining F.calls F.failures F.empty_reads file.new) (string_bytes s)) }
-    ensures fault { IfErr result (IsNoText (source_state F.remaining F.calls F.failures F.empty_reads file.old) (source_state F.remaining F.calls F.failures F.empty_reads file.new)) }
+    ensures text { IfOk result (λ s. IsRead (source_state F.remaining F.calls F.failures F.empty_reads F.asked file.old) (source_state F.remaining F.calls F.failures F.empty_reads F.asked file.new) (string_bytes s)) }
+    ensures fault { IfErr result (IsNoText (source_state F.remaining F.calls F.failures F.empty_reads F.asked file.old) (source_state F.remaining F.calls F.failures F.empty_reads F.asked file.new)) }
 {
     read_text(alloc, file)
 }
@@ -36,8 +36,8 @@ fn text_of_source<F: Source>(alloc: Global, file: &mut F) -> Result<String, Text
 /// The scenario that a file gives.
 fn scenario_of_source<F: Source>(alloc: Global, file: &mut F) -> Result<Scenario, TextFault>
     ensures scenario { IfOk result (λ plan. (text : List ℕ)
-        × IsRead (source_state F.remaining F.calls F.failures F.empty_reads file.old) (source_state F.remaining F.calls F.failures F.empty_reads file.new) text × IsScenario text plan) }
-    ensures fault { IfErr result (IsNoScenario (source_state F.remaining F.calls F.failures F.empty_reads file.old) (source_state F.remaining F.calls F.failures F.empty_reads file.new)) }
+        × IsRead (source_state F.remaining F.calls F.failures F.empty_reads F.asked file.old) (source_state F.remaining F.calls F.failures F.empty_reads F.asked file.new) text × IsScenario text plan) }
+    ensures fault { IfErr result (IsNoScenario (source_state F.remaining F.calls F.failures F.empty_reads F.asked file.old) (source_state F.remaining F.calls F.failures F.empty_reads F.asked file.new)) }
 {
     let text = text_of_source(alloc, file)?;
     parse_scenario(alloc, text.as_str())
@@ -47,9 +47,9 @@ fn scenario_of_source<F: Source>(alloc: Global, file: &mut F) -> Result<Scenario
 fn session_of_source<F: Source>(alloc: Global, file: &mut F) -> Result<Session, TextFault>
     ensures config { IfOk result (λ session. IsConfig session.site) }
     ensures session { IfOk result (λ session. (text : List ℕ)
-        × IsRead (source_state F.remaining F.calls F.failures F.empty_reads file.old) (source_state F.remaining F.calls F.failures F.empty_reads file.new) text
+        × IsRead (source_state F.remaining F.calls F.failures F.empty_reads F.asked file.old) (source_state F.remaining F.calls F.failures F.empty_reads F.asked file.new) text
         × Reads text session.site session.entries) }
-    ensures fault { IfErr result (IsNoSession (source_state F.remaining F.calls F.failures F.empty_reads file.old) (source_state F.remaining F.calls F.failures F.empty_reads file.new)) }
+    ensures fault { IfErr result (IsNoSession (source_state F.remaining F.calls F.failures F.empty_reads F.asked file.old) (source_state F.remaining F.calls F.failures F.empty_reads F.asked file.new)) }
 {
     let text = text_of_source(alloc, file)?;
     parse_session(alloc, text.as_str())
@@ -60,7 +60,7 @@ pub fn text_of_file<F: Source>(
     alloc: Global,
     opened: &mut io::Result<F>,
 ) -> Result<String, TextFault>
-    ensures { (read : Opened) × IsLeft (source_state F.remaining F.calls F.failures F.empty_reads) opened.old opened.new read
+    ensures { (read : Opened) × IsLeft (source_state F.remaining F.calls F.failures F.empty_reads F.asked) opened.old opened.new read
         × IfOk result (λ s. HasText read (string_bytes s)) × IfErr result (LacksText read) }
 {
     match opened {
@@ -74,7 +74,7 @@ pub fn scenario_of_file<F: Source>(
     alloc: Global,
     opened: &mut io::Result<F>,
 ) -> Result<Scenario, TextFault>
-    ensures { (read : Opened) × IsLeft (source_state F.remaining F.calls F.failures F.empty_reads) opened.old opened.new read
+    ensures { (read : Opened) × IsLeft (source_state F.remaining F.calls F.failures F.empty_reads F.asked) opened.old opened.new read
         × IfOk result (HasScenario read) × IfErr result (LacksScenario read) }
 {
     match opened {
@@ -89,7 +89,7 @@ pub fn session_of_file<F: Source>(
     opened: &mut io::Result<F>,
 ) -> Result<Session, TextFault>
     ensures config { IfOk result (λ session. IsConfig session.site) }
-    ensures session { (read : Opened) × IsLeft (source_state F.remaining F.calls F.failures F.empty_reads) opened.old opened.new read
+    ensures session { (read : Opened) × IsLeft (source_state F.remaining F.calls F.failures F.empty_reads F.asked) opened.old opened.new read
         × IfOk result (λ session. HasSession read session.site session.entries) × IfErr result (LacksSession read) }
 {
     match opened {

@@ -4,8 +4,8 @@
 //! a pipe get every answer at once, and a million lines do not cost a million writes.
 
 ghost use Rattle.std.specs.Prelude.{◌≡◌, ◌+◌, ◌-◌, ◌<◌, ◌≤◌, ◌++◌, [], min, take, drop, length, Ok, IfOk, OnOk, IsTrue, ◌↔◌};
-ghost use Rattle.std.specs.Io.KnownBytes.{Keeps, WriteAppends, append_known};
-ghost use Rattle.esx_types.specs.Ends.{call_failures, call_successes, write_failures};
+ghost use Rattle.std.specs.Io.KnownBytes.{WriteAppends, append_known};
+ghost use Rattle.esx_types.specs.Ends.{call_failures, no_calls, write_failures};
 ghost use Rattle.esx_program.specs.Streams.{Sends};
 
 use esx_types::{Counts, Sink, SinkFailed};
@@ -119,9 +119,10 @@ impl<W: Sink + Drop, L: Ledger> Outgoing<W, L> {
     pub fn new(sink: W, waiting: Waiting, blank: Blank) -> Outgoing<W, L>
         requires name { blank.name ≡ L.name }
         requires parts { blank.parts ≡ L.parts }
-        requires three { 3 ≤ blank.parts }
+        requires four { 4 ≤ blank.parts }
         ensures sink { result.sink ≡ sink }
         ensures waiting { result.waiting ≡ waiting }
+        ensures none { result.counts ≡ no_calls }
     {
         Outgoing {
             sink,

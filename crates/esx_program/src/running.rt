@@ -163,7 +163,7 @@ fn session_buffered<W: Sink + Drop, L: Ledger>(
     requires empty { (held.old ≡ []) × (waiting ≡ []) }
     requires name { blank.name ≡ L.name }
     requires parts { blank.parts ≡ L.parts }
-    requires three { 3 ≤ blank.parts }
+    requires four { 4 ≤ blank.parts }
     ensures ok { OnOk result.0 (Appends (W.contents writer) (W.contents result.1) (told_session console.now)) }
     ensures fault { IfErr result.0 (λ e. (taken : Option (List ℕ)) × WritesFront (W.contents writer) taken (told_session console.now)
         × (rest : List ℕ) × Appends (W.contents result.1) taken rest) }
@@ -228,7 +228,7 @@ fn tell<E: Sink + Drop, W: Sink + Drop>(made: Played, mut errors: E, writer: W) 
         &mut for_session,
         waiting,
         writer,
-        Blank::new(3),
+        Blank::new(4),
     );
     Ran {
         ended: write_fault(printed),

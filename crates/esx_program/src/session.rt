@@ -113,7 +113,7 @@ fn replay_buffered<W: Sink + Drop, L: Ledger>(
     requires config { IsConfig session.site }
     requires name { blank.name ≡ L.name }
     requires parts { blank.parts ≡ L.parts }
-    requires three { 3 ≤ blank.parts }
+    requires four { 4 ≤ blank.parts }
     ensures ok { OnOk result.0 (Appends (W.contents writer) (W.contents result.1) (replay_text session.site session.entries)) }
     ensures fault { IfErr result.0 (λ e. (taken : Option (List ℕ)) × ReplayStops e session.site session.entries (W.contents writer) taken
         × GivenOut e taken (W.contents result.1)) }
@@ -154,7 +154,7 @@ pub fn replay_watched<P: Print, W: Sink + Drop>(
 {
     let progress = Progress::new(to, None, "bytes of replies");
     let watched = Watched::new(writer, &progress);
-    let (ended, watched) = replay_buffered::<_, Brand>(alloc, session, watched, Blank::new(3));
+    let (ended, watched) = replay_buffered::<_, Brand>(alloc, session, watched, Blank::new(4));
     progress.end();
     Replayed {
         ended,

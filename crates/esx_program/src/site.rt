@@ -3,6 +3,7 @@
 ghost use Rattle.std.specs.Prelude.{◌≡◌, ◌+◌, ◌-◌, ◌^◌, ◌<◌, ◌≤◌, ◌⊎◌, [], IfOk, IfErr, OnOk, IsErrOf};
 ghost use Rattle.esx_types.specs.Ranges.{IsConfig};
 ghost use Rattle.esx_model.specs.Console.{Session};
+ghost use Rattle.esx_reading.specs.Whole.{AskForPieces};
 ghost use Rattle.esx_text.specs.Answers.{Answers, EndsEarly, ReadsOn, write_faults};
 ghost use Rattle.esx_program.specs.Site.{at_opening};
 
@@ -33,6 +34,7 @@ pub fn serve_site<R: Source, W: Sink>(
     ensures not_found { IsErrOf result ServeFault.Read → R.empty_reads reader.new ≡ R.empty_reads reader.old }
     ensures ends { R.empty_reads reader.new ≤ R.empty_reads reader.old + 1 }
     ensures reads { R.calls reader.new ≤ R.calls reader.old + 2 ^ 26 }
+    ensures pieces { AskForPieces (R.calls reader.old) (R.calls reader.new) (R.asked reader.old) (R.asked reader.new) }
     ensures each { ReadsOn (R.remaining reader.old) (R.remaining reader.new) (R.calls reader.old) (R.calls reader.new) }
     ensures read { IsErrOf result ServeFault.Read
         → (R.failures reader.new ≡ R.failures reader.old + 1)

@@ -39,7 +39,7 @@ fn source_of<F: Read + Drop, L: Ledger>(
 ) -> io::Result<ReadSource<F, L>>
     requires name { calls.name ≡ L.name }
     requires parts { calls.parts ≡ L.parts }
-    requires three { 3 ≤ calls.parts }
+    requires four { 4 ≤ calls.parts }
     ensures { IsSame F.remaining ⟦<ReadSource<F, L> as Source>⟧.remaining opened result }
 {
     match opened {
@@ -55,7 +55,7 @@ fn with_source<F: Read + Drop, L: Ledger>(
 ) -> Asked<io::Result<ReadSource<F, L>>>
     requires name { calls.name ≡ L.name }
     requires parts { calls.parts ≡ L.parts }
-    requires three { 3 ≤ calls.parts }
+    requires four { 4 ≤ calls.parts }
     ensures { AskAlike (IsSame F.remaining ⟦<ReadSource<F, L> as Source>⟧.remaining) asked result }
 {
     match asked {
@@ -90,16 +90,16 @@ fn run_counted<
 ) -> Ended<I, E, W>
     requires name_file { calls_file.name ≡ Files.name }
     requires parts_file { calls_file.parts ≡ Files.parts }
-    requires three_file { 3 ≤ calls_file.parts }
+    requires four_file { 4 ≤ calls_file.parts }
     requires name_in { calls_in.name ≡ In.name }
     requires parts_in { calls_in.parts ≡ In.parts }
-    requires three_in { 3 ≤ calls_in.parts }
+    requires four_in { 4 ≤ calls_in.parts }
     requires name_told { calls_told.name ≡ Told.name }
     requires parts_told { calls_told.parts ≡ Told.parts }
-    requires three_told { 3 ≤ calls_told.parts }
+    requires four_told { 4 ≤ calls_told.parts }
     requires name_out { calls_out.name ≡ Out.name }
     requires parts_out { calls_out.parts ≡ Out.parts }
-    requires three_out { 3 ≤ calls_out.parts }
+    requires four_out { 4 ≤ calls_out.parts }
     ensures word { IfOk result.ended (λ done. word_of_done done ≡ (asked_of asked).0) }
     ensures failure { IfErr result.ended (MayFail (asked_of asked)) }
     ensures does { DoesOver F.remaining asked result.ended (I.remaining streams.reader) (I.remaining result.streams.reader)
@@ -149,9 +149,9 @@ pub fn run_over<
         asked,
         to,
         streams,
-        Blank::new(3),
-        Blank::new(3),
-        Blank::new(3),
-        Blank::new(3),
+        Blank::new(4),
+        Blank::new(4),
+        Blank::new(4),
+        Blank::new(4),
     )
 }

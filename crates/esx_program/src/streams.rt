@@ -3,6 +3,7 @@
 ghost use Rattle.std.specs.Prelude.{◌≡◌, ◌+◌, ◌-◌, ◌^◌, ◌<◌, ◌≤◌, ◌⊎◌, [], ℕ, List, Option, IfOk, IfErr, OnOk, IsErrOf};
 ghost use Rattle.esx_types.specs.Ranges.{IsConfig};
 ghost use Rattle.esx_model.specs.Console.{Session};
+ghost use Rattle.esx_reading.specs.Whole.{AskForPieces};
 ghost use Rattle.esx_text.specs.Answers.{Answers, EndsEarly, ReadsOn, write_faults};
 ghost use Rattle.esx_program.specs.Site.{at_opening};
 ghost use Rattle.esx_program.specs.Streams.{ComesOut};
@@ -28,7 +29,7 @@ pub fn serve_buffered<R: Source, W: Sink + Drop, L: Ledger>(
     requires config { IsConfig config }
     requires name { blank.name ≡ L.name }
     requires parts { blank.parts ≡ L.parts }
-    requires three { 3 ≤ blank.parts }
+    requires four { 4 ≤ blank.parts }
     ensures ok { IfOk result.0 (λ n. (after : Session) × Answers 0 n (at_opening config) after
         (R.remaining reader.old) (R.remaining reader.new) (W.contents writer) (W.contents result.1)) }
     ensures fault { IfErr result.0 (λ e. (after : Session) × (taken : Option (List ℕ)) × EndsEarly e 0 (at_opening config) after
@@ -40,6 +41,7 @@ pub fn serve_buffered<R: Source, W: Sink + Drop, L: Ledger>(
     ensures not_found { IsErrOf result.0 ServeFault.Read → R.empty_reads reader.new ≡ R.empty_reads reader.old }
     ensures ends { R.empty_reads reader.new ≤ R.empty_reads reader.old + 1 }
     ensures reads { R.calls reader.new ≤ R.calls reader.old + 2 ^ 26 }
+    ensures pieces { AskForPieces (R.calls reader.old) (R.calls reader.new) (R.asked reader.old) (R.asked reader.new) }
     ensures each { ReadsOn (R.remaining reader.old) (R.remaining reader.new) (R.calls reader.old) (R.calls reader.new) }
     ensures read { IsErrOf result.0 ServeFault.Read
         → (R.failures reader.new ≡ R.failures reader.old + 1)

@@ -1,5 +1,5 @@
 -- What reading a file whole comes to.
-use Rattle.std.specs.Prelude.{ℕ, List, Option, ◌≤◌, ◌<◌, ◌+◌, ◌^◌, length}
+use Rattle.std.specs.Prelude.{◌≡◌, ℕ, List, Option, ◌≤◌, ◌<◌, ◌+◌, ◌*◌, ◌^◌, length}
 use Rattle.std.specs.Io.KnownBytes.{Consumes, IsAtEnd}
 use Rattle.esx_reading.specs.declared.fault.TextFault.{TextFault}
 use Rattle.esx_reading.specs.declared.fault.TextFault.TheVariants.{NotText, Read, OutOfMemory}
@@ -20,6 +20,10 @@ pub record GivesOn (old new : Option (List ℕ)) (before after : ℕ) : Type 0 w
   pub given : Consumes old new bytes
   pub few : length bytes ≤ 2 ^ 26
   pub each : after ≤ before + length bytes
+
+-- Each of the reads between two counts of them asked for 65,536 bytes, by what all reads had asked for before and after.
+abbrev pub AskForPieces : (before after asked_before asked_after : ℕ) → Type 0
+AskForPieces before after asked_before asked_after = asked_after + 65536 * before ≡ asked_before + 65536 * after
 
 -- a fault of reading, or want of memory
 abbrev pub IsOfReading : TextFault → Type 0

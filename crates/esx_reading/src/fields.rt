@@ -249,6 +249,11 @@ impl<'a> Fields<'a> {
         ensures none { IfNone result ((n m : ℕ) (others : List (List ℕ)) → n < 2 ^ 32 → m < 2 ^ 32
             → self.old ≡ decimal n ∷ decimal m ∷ others → ⊥) }
         ensures one { IfNone result ((self.new ≡ drop 1 self.old) ⊎ (self.new ≡ drop 2 self.old)) }
+
+        // It takes the second field only where the first is such a number, and then it does.
+        ensures both { IfNone result ((n : ℕ) (others : List (List ℕ)) → n < 2 ^ 32 → self.old ≡ decimal n ∷ others → self.new ≡ drop 2 self.old) }
+        ensures kept { IfNone result (((n : ℕ) (others : List (List ℕ)) → n < 2 ^ 32 → self.old ≡ decimal n ∷ others → ⊥)
+            → self.new ≡ drop 1 self.old) }
     {
         let first = self.number()?;
         let second = self.number()?;

@@ -9,5 +9,5 @@ mod written;
 
 pub use fault::TextFault;
 pub use fields::{Fields, number_of};
-pub use whole::{read_text, read_text_of, read_whole};
+pub use whole::{read_text, read_whole};
 pub use written::written_bytes;

@@ -1,15 +1,12 @@
 //! Files, read whole.
 
-ghost use Rattle.std.specs.Prelude.{◌≡◌, ◌+◌, ◌≤◌, ◌^◌, ◌⊎◌, ℕ, List, Option, length, string_bytes, IfOk, IfErr, OnOk, OnErr, IsErrOf, IsUtf8};
+ghost use Rattle.std.specs.Prelude.{◌≡◌, ◌+◌, ◌≤◌, ◌^◌, ◌⊎◌, ℕ, List, length, string_bytes, IfOk, IfErr, OnOk, OnErr, IsErrOf, IsUtf8};
 ghost use Rattle.std.specs.Io.KnownBytes.{Consumes};
-ghost use Rattle.esx_reading.specs.Whole.{GivesWhole, GivesMore, GivesOn, IsOfReading, IsOfText};
+ghost use Rattle.esx_reading.specs.Whole.{AskForPieces, GivesWhole, GivesMore, GivesOn, IsOfReading, IsOfText};
 
 use crate::fault::TextFault;
-use esx_types::{ReadSource, Source};
+use esx_types::Source;
 use std::alloc::Global;
-use std::io::Read;
-use std::marker::Brand;
-use std::sync::ledger::{Blank, Ledger};
 
 /// The most bytes that a file may have.
 const LONGEST: usize = 1 << 26;
@@ -30,6 +27,7 @@ fn read_through<R: Source>(
     ensures ok { IfOk result (λ v. GivesWhole (R.remaining source.old) (R.remaining source.new) v.items) }
     ensures fault { IfErr result IsOfReading }
     ensures reads { R.calls source.new ≤ R.calls source.old + 2 ^ 26 }
+    ensures pieces { AskForPieces (R.calls source.old) (R.calls source.new) (R.asked source.old) (R.asked source.new) }
     ensures read { IsErrOf result TextFault.Read
         → (R.failures source.new ≡ R.failures source.old + 1)
         ⊎ ((R.failures source.new ≡ R.failures source.old)
@@ -75,6 +73,7 @@ pub fn read_whole<R: Source>(alloc: Global, source: &mut R) -> Result<Vec<u8>, T
     ensures ok { IfOk result (λ v. GivesWhole (R.remaining source.old) (R.remaining source.new) v.items) }
     ensures fault { IfErr result IsOfReading }
     ensures reads { R.calls source.new ≤ R.calls source.old + 2 ^ 26 }
+    ensures pieces { AskForPieces (R.calls source.old) (R.calls source.new) (R.asked source.old) (R.asked source.new) }
     ensures read { IsErrOf result TextFault.Read
         → (R.failures source.new ≡ R.failures source.old + 1)
         ⊎ ((R.failures source.new ≡ R.failures source.old)
@@ -103,9 +102,11 @@ pub fn read_whole<R: Source>(alloc: Global, source: &mut R) -> Result<Vec<u8>, T
 pub fn read_text<R: Source>(alloc: Global, source: &mut R) -> Result<String, TextFault>
     ensures ok { IfOk result (λ s. GivesWhole (R.remaining source.old) (R.remaining source.new) (string_bytes s)) }
     ensures not_text { IsErrOf result TextFault.NotText
-        → (bytes : List ℕ) × GivesWhole (R.remaining source.old) (R.remaining source.new) bytes × (IsUtf8 bytes → ⊥) }
+        → (bytes : List ℕ) × GivesWhole (R.remaining source.old) (R.remaining source.new) bytes × (IsUtf8 bytes → ⊥)
+        × (R.calls source.new ≤ R.calls source.old + length bytes + 1) }
     ensures fault { IfErr result IsOfText }
     ensures reads { R.calls source.new ≤ R.calls source.old + 2 ^ 26 }
+    ensures pieces { AskForPieces (R.calls source.old) (R.calls source.new) (R.asked source.old) (R.asked source.new) }
     ensures read { IsErrOf result TextFault.Read
         → (R.failures source.new ≡ R.failures source.old + 1)
         ⊎ ((R.failures source.new ≡ R.failures source.old)
@@ -121,9 +122,6 @@ pub fn read_text<R: Source>(alloc: Global, source: &mut R) -> Result<String, Tex
     // Each read gave a byte at least, but for the last where it failed or found the end. Where memory ran out
     // no read found it.
     ensures end { IfOk result (λ s. R.calls source.new ≤ R.calls source.old + length (string_bytes s) + 1) }
-    ensures not_text_end { IsErrOf result TextFault.NotText
-        → (bytes : List ℕ) × GivesWhole (R.remaining source.old) (R.remaining source.new) bytes
-        × (R.calls source.new ≤ R.calls source.old + length bytes + 1) }
     ensures each { IsErrOf result TextFault.Read → (bytes : List ℕ) × Consumes (R.remaining source.old) (R.remaining source.new) bytes
         × (R.calls source.new ≤ R.calls source.old + length bytes + 1) }
     ensures memory { IsErrOf result TextFault.OutOfMemory
@@ -134,31 +132,4 @@ pub fn read_text<R: Source>(alloc: Global, source: &mut R) -> Result<String, Tex
         Ok(text) => Ok(text),
         Err(_) => Err(TextFault::NotText),
     }
-}
-
-fn read_counted<R: Read + Drop, L: Ledger>(
-    alloc: Global,
-    reader: R,
-    blank: Blank,
-) -> Result<String, TextFault>
-    requires name { blank.name ≡ L.name }
-    requires parts { blank.parts ≡ L.parts }
-    requires three { 3 ≤ blank.parts }
-    ensures ok { IfOk result (λ s. (left : Option (List ℕ)) × GivesWhole (R.remaining reader) left (string_bytes s)) }
-    ensures not_text { IsErrOf result TextFault.NotText
-        → (left : Option (List ℕ)) × (bytes : List ℕ) × GivesWhole (R.remaining reader) left bytes × (IsUtf8 bytes → ⊥) }
-    ensures fault { IfErr result IsOfText }
-{
-    let mut source = ReadSource::<R, L>::new(reader, blank);
-    read_text(alloc, &mut source)
-}
-
-/// The text that a reader of the standard library gives, as `read_text`.
-pub fn read_text_of<R: Read + Drop>(alloc: Global, reader: R) -> Result<String, TextFault>
-    ensures ok { IfOk result (λ s. (left : Option (List ℕ)) × GivesWhole (R.remaining reader) left (string_bytes s)) }
-    ensures not_text { IsErrOf result TextFault.NotText
-        → (left : Option (List ℕ)) × (bytes : List ℕ) × GivesWhole (R.remaining reader) left bytes × (IsUtf8 bytes → ⊥) }
-    ensures fault { IfErr result IsOfText }
-{
-    read_counted::<_, Brand>(alloc, reader, Blank::new(3))
 }

@@ -1,6 +1,6 @@
 //! The list of marks.
 
-ghost use Rattle.std.specs.Prelude.{◌≡◌, ◌+◌, ◌++◌, OnOk, IsUtf8, flat_map, length, codes};
+ghost use Rattle.std.specs.Prelude.{◌≡◌, ◌+◌, OnOk, IsUtf8, flat_map};
 ghost use Rattle.esx_events.specs.Names.{IsName};
 ghost use Rattle.esx_writing.specs.Writing.{Puts, sink_faults};
 ghost use Rattle.esx_replies.specs.Replies.{marks_head, mark_text, marks_text};

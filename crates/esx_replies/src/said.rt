@@ -67,7 +67,7 @@ pub fn write_reply<W: Sink>(
 fn reply_bytes<L: Ledger>(alloc: Global, reply: &Reply, blank: Blank) -> Result<Vec<u8>, AllocError>
     requires name { blank.name ≡ L.name }
     requires parts { blank.parts ≡ L.parts }
-    requires three { 3 ≤ blank.parts }
+    requires four { 4 ≤ blank.parts }
     ensures bytes { IfOk result (λ bytes. bytes.items ≡ reply_text reply.now) }
     ensures utf8 { IfOk result (λ bytes. IsUtf8 bytes.items) }
 {
@@ -83,7 +83,7 @@ fn reply_bytes<L: Ledger>(alloc: Global, reply: &Reply, blank: Blank) -> Result<
 pub fn print_reply(alloc: Global, reply: &Reply) -> Result<String, AllocError>
     ensures { IfOk result (λ text. string_bytes text ≡ reply_text reply.now) }
 {
-    let bytes = reply_bytes::<Brand>(alloc, reply, Blank::new(3))?;
+    let bytes = reply_bytes::<Brand>(alloc, reply, Blank::new(4))?;
     match String::from_utf8(bytes) {
         Ok(text) => Ok(text),
         Err(_) => unreachable!(),

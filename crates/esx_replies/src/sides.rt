@@ -1,9 +1,8 @@
 //! What would come of some events.
 
-ghost use Rattle.std.specs.Prelude.{◌≡◌, ◌+◌, ◌++◌, ◌≤◌, ◌∷◌, [], OnOk, IsUtf8, flat_map, length, codes};
+ghost use Rattle.std.specs.Prelude.{◌≡◌, ◌+◌, ◌++◌, ◌≤◌, ◌∷◌, [], OnOk, IsUtf8, codes};
 ghost use Rattle.esx_writing.specs.Writing.{Puts, sink_faults};
-ghost use Rattle.esx_replies.specs.Texts.{sum_text};
-ghost use Rattle.esx_replies.specs.Replies.{accepted, number_head, numbered_text, tried_text, tried_texts, sides_head, before_text, after_text, sides_text};
+ghost use Rattle.esx_replies.specs.Replies.{accepted, number_head, numbered_text, tried_texts, sides_head, before_text, after_text, sides_text};
 
 use crate::answer::put_tried;
 use crate::questions::put_sum;

@@ -1,6 +1,6 @@
 //! The table of virtual machines.
 
-ghost use Rattle.std.specs.Prelude.{◌≡◌, ◌+◌, ◌++◌, OnOk, IsUtf8, flat_map, length, codes};
+ghost use Rattle.std.specs.Prelude.{◌≡◌, ◌+◌, ◌++◌, OnOk, IsUtf8, flat_map};
 ghost use Rattle.esx_writing.specs.Writing.{Puts, sink_faults};
 ghost use Rattle.esx_replies.specs.Texts.{sum_text};
 ghost use Rattle.esx_replies.specs.Replies.{table_head, row_text, table_text};

@@ -1,9 +1,8 @@
 //! The virtual machines of a scenario.
 
-ghost use Rattle.std.specs.Prelude.{◌≡◌, ◌≤◌, ◌+◌, ◌++◌, [], length, string_bytes, option_map, IfOk, IfSome, false};
-ghost use Rattle.std.specs.List.{All, list_any};
-ghost use Rattle.esx_types.specs.Ranges.{IsConfig, IsGood};
-ghost use Rattle.toml.specs.Data.{get_member};
+ghost use Rattle.std.specs.Prelude.{◌≡◌, ◌≤◌, ◌++◌, [], length, string_bytes, option_map, IfOk, IfSome, false};
+ghost use Rattle.std.specs.List.{All};
+ghost use Rattle.esx_types.specs.Ranges.{IsGood};
 ghost use Rattle.toml.specs.View.{view, table_view, items_view};
 ghost use Rattle.esx_scenario.specs.Lines.{IsWithin};
 ghost use Rattle.esx_scenario.specs.Keys.{Gives, Names, Tries};

@@ -1,7 +1,6 @@
 //! Keys of a table, and the paths under which they are reported.
 
 ghost use Rattle.std.specs.Prelude.{◌≡◌, ◌≤◌, ◌++◌, IfOk, IfSome, option_map};
-ghost use Rattle.std.specs.Option.{option_and_then};
 ghost use Rattle.toml.specs.Data.{get_member, as_table};
 ghost use Rattle.toml.specs.View.{view, table_view};
 ghost use Rattle.esx_scenario.specs.Keys.{integer_within, within, required, optional, table_at, Tries, Names};

@@ -1,6 +1,6 @@
 //! The scenario of a text.
 
-ghost use Rattle.std.specs.Prelude.{◌≡◌, Ok, IfOk, IfErr, codes, option_map};
+ghost use Rattle.std.specs.Prelude.{Ok, IfOk, IfErr, codes, option_map};
 ghost use Rattle.esx_types.specs.Ranges.{IsConfig};
 ghost use Rattle.toml.specs.View.{view, table_view};
 ghost use Rattle.esx_scenario.specs.Keys.{Gives, required};

@@ -1,6 +1,6 @@
 //! What a scenario says.
 
-ghost use Rattle.std.specs.Prelude.{◌≡◌, IfOk};
+ghost use Rattle.std.specs.Prelude.{◌≡◌};
 ghost use Rattle.esx_types.specs.Ranges.{IsConfig};
 ghost use Rattle.esx_scenario.specs.Plans.{Plan, IsPlan};
 

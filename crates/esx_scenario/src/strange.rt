@@ -1,9 +1,9 @@
 //! Keys that no scenario has.
 
-ghost use Rattle.std.specs.Prelude.{◌≡◌, ◌++◌, [], Some, option_map, string_bytes, fold, IfOk};
+ghost use Rattle.std.specs.Prelude.{◌≡◌, Some, option_map, string_bytes, fold, IfOk};
 ghost use Rattle.toml.specs.View.{table_view, items_view};
 ghost use Rattle.esx_scenario.specs.Keys.{Gives};
-ghost use Rattle.esx_scenario.specs.Strange.{least, lesser, none_strange, is_known, strange, strange_at, strange_from, strange_in, strange_vms};
+ghost use Rattle.esx_scenario.specs.Strange.{least, lesser, none_strange, is_known, strange, strange_at, strange_from, strange_in};
 
 use crate::guests::path_of_guest;
 use crate::keys::{member, table_of};

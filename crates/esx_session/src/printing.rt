@@ -213,7 +213,7 @@ fn session_bytes<L: Ledger>(
 ) -> Result<Vec<u8>, AllocError>
     requires name { blank.name ≡ L.name }
     requires parts { blank.parts ≡ L.parts }
-    requires three { 3 ≤ blank.parts }
+    requires four { 4 ≤ blank.parts }
     ensures bytes { IfOk result (λ bytes. bytes.items ≡ session_text site.now (map logged log.now)) }
     ensures utf8 { IfOk result (λ bytes. IsUtf8 bytes.items) }
 {
@@ -230,7 +230,7 @@ fn session_bytes<L: Ledger>(
 pub fn print_session(alloc: Global, site: &Config, log: &[Line]) -> Result<String, AllocError>
     ensures { IfOk result (λ text. string_bytes text ≡ session_text site.now (map logged log.now)) }
 {
-    let bytes = session_bytes::<Brand>(alloc, site, log, Blank::new(3))?;
+    let bytes = session_bytes::<Brand>(alloc, site, log, Blank::new(4))?;
     match String::from_utf8(bytes) {
         Ok(text) => Ok(text),
         Err(_) => unreachable!(),

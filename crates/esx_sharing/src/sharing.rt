@@ -4,7 +4,7 @@ ghost use Rattle.std.specs.Prelude.{◌≡◌, IfOk};
 ghost use Rattle.std.specs.List.{position_from};
 ghost use Rattle.esx_types.specs.Listings.{is_shared_under};
 ghost use Rattle.esx_changes.specs.Planned.{Plans};
-ghost use Rattle.esx_sharing.specs.Sharing.{look_at_shared, look_at_hinted, look_at_hint, look_by_key, look_in, key_in, join_changes, pair_changes, hint_changes, count_with, look_changes, look_said, looked, scan_frame, scan_row, scan_plan, HasCounts};
+ghost use Rattle.esx_sharing.specs.Sharing.{look_at_shared, look_at_hinted, look_at_hint, look_by_key, look_in, key_in, join_changes, pair_changes, hint_changes, count_with, look_changes, look_said, scan_frame, scan_row, scan_plan, HasCounts};
 
 use esx_changes::Plan;
 use esx_changes::changes::{page_at, unlisted};

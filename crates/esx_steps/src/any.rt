@@ -1,6 +1,5 @@
 //! One event, on a site as data.
 
-ghost use Rattle.std.specs.Prelude.{◌≡◌};
 ghost use Rattle.esx_types.specs.Ranges.{IsConfig};
 ghost use Rattle.esx_model.specs.Step.{step};
 ghost use Rattle.esx_model.specs.sound.Sound.{IsSound, NamesVm};

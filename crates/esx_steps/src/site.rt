@@ -1,6 +1,6 @@
 //! What a site has: its machines by number, what is free, what is reserved, and a page's change of place.
 
-ghost use Rattle.std.specs.Prelude.{◌≡◌, ◌<◌, ◌≤◌, ◌*◌, ◌^◌, ◌-◌, ℕ, length, Some, None, min, nat_lt, not, MatchOption, filter, option_map, IfOk, IfSome, ◌==◌, ◌&&◌};
+ghost use Rattle.std.specs.Prelude.{◌≡◌, ◌<◌, ◌≤◌, ◌*◌, ◌^◌, ◌-◌, length, Some, None, min, nat_lt, MatchOption, filter, IfOk, IfSome, ◌==◌, ◌&&◌};
 ghost use Rattle.esx_types.specs.declared.config.TheConstants.{VM_NUMBERS};
 ghost use Rattle.esx_model.specs.declared.scene.Vm.{Vm};
 ghost use Rattle.esx_model.specs.Site.{vm_at, is_named, is_held, least_free, free_count, least_slot, pages_at, memory_reserved, swap_reserved};

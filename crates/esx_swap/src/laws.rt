@@ -1,6 +1,6 @@
 //! Laws of trades with the table. A function here does nothing: its contract is the law.
 
-ghost use Rattle.std.specs.Prelude.{◌≡◌, ℕ, List};
+ghost use Rattle.std.specs.Prelude.{ℕ, List};
 ghost use Rattle.esx_types.specs.declared.table.SlotRow.{SlotRow};
 ghost use Rattle.esx_lists.specs.Trades.{LeadsBack, row_traded};
 

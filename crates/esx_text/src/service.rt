@@ -4,6 +4,7 @@ ghost use Rattle.std.specs.Prelude.{◌≡◌, ◌+◌, ◌-◌, ◌<◌, ◌≤
 ghost use Rattle.std.specs.Io.KnownBytes.{Keeps, Consumes, IsAtEnd};
 ghost use Rattle.esx_types.specs.Ends.{call_successes};
 ghost use Rattle.esx_model.specs.Console.{Session};
+ghost use Rattle.esx_reading.specs.Whole.{AskForPieces};
 ghost use Rattle.esx_text.specs.Lines.{Holds, HasNoFeed};
 ghost use Rattle.esx_text.specs.Answers.{Progress, Answers, Stops, StopsLast, Faults, EndsEarly, Reaches, ReadsOn, Ends, ends_found, fault_writes, read_faults, write_faults};
 
@@ -209,6 +210,7 @@ fn serve_reads<R: Source, W: Sink>(
     ensures served { Reaches result caller console.old console.new
         (R.remaining reader.old) (R.remaining reader.new) (W.contents writer.old) (W.contents writer.new) }
     ensures reads { R.calls reader.new ≤ R.calls reader.old + 2 ^ 26 }
+    ensures pieces { AskForPieces (R.calls reader.old) (R.calls reader.new) (R.asked reader.old) (R.asked reader.new) }
     ensures endless { result ≡ Ok None → R.calls reader.new ≡ R.calls reader.old + 2 ^ 26 }
     ensures found { IfOk result (λ count. R.empty_reads reader.new ≡ R.empty_reads reader.old + ends_found count) }
     ensures not_found { IsErrOf result ServeFault.Read → R.empty_reads reader.new ≡ R.empty_reads reader.old }
@@ -292,6 +294,7 @@ pub fn serve<R: Source, W: Sink>(
     // The source fails once where reading is at fault, or gives no end, and never elsewhere. There is at most one
     // read more than bytes that come.
     ensures reads { R.calls reader.new ≤ R.calls reader.old + 2 ^ 26 }
+    ensures pieces { AskForPieces (R.calls reader.old) (R.calls reader.new) (R.asked reader.old) (R.asked reader.new) }
     ensures each { ReadsOn (R.remaining reader.old) (R.remaining reader.new) (R.calls reader.old) (R.calls reader.new) }
     ensures read { IsErrOf result ServeFault.Read
         → (R.failures reader.new ≡ R.failures reader.old + 1)

@@ -1,6 +1,6 @@
 //! Commands as lines: which call a line asks for.
 
-ghost use Rattle.std.specs.Prelude.{◌≡◌, ◌∷◌, [], ◌<◌, ◌≤◌, decimal, ℕ, List, IfOk, IfErr, IsErrOf, length};
+ghost use Rattle.std.specs.Prelude.{◌≡◌, ◌∷◌, [], ◌<◌, decimal, IfOk, IfErr, IsErrOf};
 ghost use Rattle.esx_types.specs.declared.config.TheConstants.{VM_NUMBERS};
 ghost use Rattle.esx_events.specs.Names.{IsName};
 ghost use Rattle.esx_events.specs.declared.call.Call.{Call};

@@ -1,6 +1,6 @@
 //! Events as lines: which event a line asks for.
 
-ghost use Rattle.std.specs.Prelude.{◌≡◌, ◌∷◌, [], ◌<◌, decimal, List, ℕ, IfOk, IfErr, IsErrOf};
+ghost use Rattle.std.specs.Prelude.{◌≡◌, ◌∷◌, [], ◌<◌, decimal, IfOk, IfErr, IsErrOf};
 ghost use Rattle.esx_types.specs.declared.config.TheConstants.{VM_NUMBERS};
 ghost use Rattle.esx_events.specs.declared.event.Event.{Event};
 ghost use Rattle.esx_reading.specs.Faults.{Refuses};

@@ -480,7 +480,7 @@ pub fn write_command<W: Sink>(
 fn call_bytes<L: Ledger>(alloc: Global, call: &Call, blank: Blank) -> Result<Vec<u8>, AllocError>
     requires name { blank.name ≡ L.name }
     requires parts { blank.parts ≡ L.parts }
-    requires three { 3 ≤ blank.parts }
+    requires four { 4 ≤ blank.parts }
     ensures bytes { IfOk result (λ bytes. bytes.items ≡ spelling call.now) }
     ensures utf8 { IfOk result (λ bytes. IsUtf8 bytes.items) }
 {
@@ -496,7 +496,7 @@ fn call_bytes<L: Ledger>(alloc: Global, call: &Call, blank: Blank) -> Result<Vec
 pub fn print_command(alloc: Global, call: &Call) -> Result<String, AllocError>
     ensures { IfOk result (λ text. string_bytes text ≡ spelling call.now) }
 {
-    let bytes = call_bytes::<Brand>(alloc, call, Blank::new(3))?;
+    let bytes = call_bytes::<Brand>(alloc, call, Blank::new(4))?;
     match String::from_utf8(bytes) {
         Ok(text) => Ok(text),
         Err(_) => unreachable!(),

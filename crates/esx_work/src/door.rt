@@ -48,7 +48,6 @@ pub struct ConsoleDoor {
 }
 
 impl Door for ConsoleDoor {
-    ghost use Rattle.std.specs.Prelude.{◌≡◌};
     ghost use Rattle.esx_work.specs.Growth.{IsAlone, alone_self, alone_on};
 
     ghost can_submit = { λ d. Unit {0} };

@@ -122,10 +122,10 @@ fn served_counted<I: Ledger, O: Ledger>(
     requires config { IsConfig config }
     requires name_in { calls_in.name ≡ I.name }
     requires parts_in { calls_in.parts ≡ I.parts }
-    requires three_in { 3 ≤ calls_in.parts }
+    requires four_in { 4 ≤ calls_in.parts }
     requires name_out { calls_out.name ≡ O.name }
     requires parts_out { calls_out.parts ≡ O.parts }
-    requires three_out { 3 ≤ calls_out.parts }
+    requires four_out { 4 ≤ calls_out.parts }
 {
     let mut source = MemorySource::<I>::new(input, most, calls_in);
     let mut sink = MemorySink::<O>::new(Vec::new(alloc), calls_out);
@@ -141,7 +141,7 @@ fn served(
 ) -> (Result<u64, ServeFault>, Vec<u8>)
     requires { IsConfig config }
 {
-    served_counted::<Brand, Brand>(alloc, config, input, most, Blank::new(3), Blank::new(3))
+    served_counted::<Brand, Brand>(alloc, config, input, most, Blank::new(4), Blank::new(4))
 }
 
 #[test]

@@ -1,15 +1,12 @@
 //! A guest reads or writes one of its pages.
 
-ghost use Rattle.std.specs.Prelude.{◌≡◌, ◌<◌, ◌≤◌, ◌+◌, ◌^◌, length, take, drop, Some, None, Ok, OnOk, IfOk, unwrap_or};
+ghost use Rattle.std.specs.Prelude.{◌≡◌, ◌<◌, ◌+◌, ◌^◌, length, take, drop, Some, None, Ok, IfOk, unwrap_or};
 ghost use Rattle.std.specs.Option.{option_copied};
 ghost use Rattle.esx_types.specs.declared.config.TheConstants.{VM_NUMBERS};
 ghost use Rattle.esx_events.specs.declared.event.Answer.TheVariants as answers;
-ghost use Rattle.esx_formulas.specs.declared.activity.Period.{Period};
 ghost use Rattle.esx_model.specs.declared.scene.Vm.{Vm};
 ghost use Rattle.esx_model.specs.declared.scene.Place.TheVariants.{Untouched};
 ghost use Rattle.esx_model.specs.Places.{contents, is_shared};
-ghost use Rattle.esx_model.specs.Site.{vm_at};
-ghost use Rattle.esx_model.specs.Hints.{with_change};
 ghost use Rattle.esx_model.specs.sound.Sound.{IsSound};
 ghost use Rattle.esx_model.specs.event.Outcome.{first, standing};
 ghost use Rattle.esx_model.specs.event.Sampling.{counted};

@@ -3,15 +3,12 @@
 ghost use Rattle.std.specs.Prelude.{◌≡◌, ◌<◌, ◌-◌, ◌||◌, length, IfOk, OnOk, take, Ok, Some, None, unwrap_or};
 ghost use Rattle.std.specs.Option.{option_copied};
 ghost use Rattle.esx_model.specs.declared.scene.Place.TheVariants.{Untouched};
-ghost use Rattle.esx_types.specs.declared.config.TheConstants.{VM_NUMBERS};
 ghost use Rattle.esx_types.specs.declared.vm.VmState.TheVariants.{Stopping};
 ghost use Rattle.esx_model.specs.declared.scene.Vm.{Vm};
-ghost use Rattle.esx_model.specs.Site.{vm_at};
 ghost use Rattle.esx_model.specs.Places.{is_here, is_out};
 ghost use Rattle.esx_model.specs.Hints.{with_change};
 ghost use Rattle.esx_model.specs.sound.Sound.{IsSound};
-ghost use Rattle.esx_model.specs.event.Outcome.{first, standing};
-ghost use Rattle.esx_model.specs.event.Leaving.{stop, drop_page, gone, without_last, give_back};
+ghost use Rattle.esx_model.specs.event.Leaving.{stop, drop_page, gone, without_last};
 ghost use Rattle.esx_steps.specs.Gives.{Gives};
 
 use crate::site::{put, vm_of};

@@ -1,18 +1,18 @@
 //! Pages leave for the swap area, or make room for one of their own machine.
 
-ghost use Rattle.std.specs.Prelude.{◌≡◌, ◌<◌, ◌≤◌, ◌+◌, ◌%◌, length, Some, None, Ok, false, IfOk, IfSome, unwrap_or, slice_get};
+ghost use Rattle.std.specs.Prelude.{◌≡◌, ◌<◌, ◌≤◌, ◌%◌, length, Some, None, Ok, false, IfOk, unwrap_or, slice_get};
 ghost use Rattle.std.specs.Option.{option_copied};
 ghost use Rattle.std.specs.List.{list_any};
 ghost use Rattle.esx_types.specs.declared.config.TheConstants.{VM_NUMBERS};
 ghost use Rattle.esx_model.specs.declared.scene.Vm.{Vm};
 ghost use Rattle.esx_model.specs.declared.scene.Place.TheVariants.{Untouched, Here, Out};
 ghost use Rattle.esx_model.specs.Places.{is_here};
-ghost use Rattle.esx_model.specs.Site.{vm_at, place_at, here_from, resident, least_slot};
+ghost use Rattle.esx_model.specs.Site.{place_at, here_from, resident, least_slot};
 ghost use Rattle.esx_model.specs.Hints.{placed, with_change};
 ghost use Rattle.esx_model.specs.event.Balloon.{popped};
 ghost use Rattle.esx_model.specs.sound.Sound.{IsSound};
 ghost use Rattle.esx_model.specs.event.Outcome.{standing};
-ghost use Rattle.esx_model.specs.event.Paging.{victim, is_too_early, to_slot, leave_by, swap_out, has_more, is_above_min, freed_slot, trade, replace};
+ghost use Rattle.esx_model.specs.event.Paging.{victim, is_too_early, to_slot, leave_by, swap_out, is_above_min, freed_slot, replace};
 ghost use Rattle.esx_steps.specs.Gives.{Gives};
 
 use crate::event::access::contents;

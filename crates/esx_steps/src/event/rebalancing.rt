@@ -6,7 +6,6 @@ ghost use Rattle.esx_types.specs.declared.config.TheConstants.{VM_NUMBERS};
 ghost use Rattle.esx_formulas.specs.Targets.{spare};
 ghost use Rattle.esx_events.specs.declared.event.Answer.TheVariants as answers;
 ghost use Rattle.esx_model.specs.declared.scene.Vm.{Vm};
-ghost use Rattle.esx_model.specs.Site.{vm_at};
 ghost use Rattle.esx_model.specs.Hints.{with_change};
 ghost use Rattle.esx_model.specs.sound.Sound.{IsSound};
 ghost use Rattle.esx_model.specs.event.Rebalancing.{active, row_of_vm, rows_of, min_of, at_max, with_targets, need, share_out, rebalance, set_shares, set_tax};

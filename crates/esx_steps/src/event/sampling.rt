@@ -1,6 +1,6 @@
 //! Sample periods: how much of its memory a machine uses.
 
-ghost use Rattle.std.specs.Prelude.{◌≡◌, ◌<◌, ◌≤◌, ◌+◌, ◌%◌, map, length, count_by, Some, None, Ok, OnOk, IfOk, not, nat_lt, is_some};
+ghost use Rattle.std.specs.Prelude.{◌≡◌, ◌<◌, ◌≤◌, ◌%◌, map, length, Some, Ok, OnOk, IfOk, is_some};
 ghost use Rattle.esx_formulas.specs.declared.activity.Period.{Period};
 ghost use Rattle.esx_formulas.specs.Estimates.{IsEstimate};
 ghost use Rattle.esx_formulas.specs.Average.{so_far, is_touched};
@@ -8,7 +8,7 @@ ghost use Rattle.esx_model.specs.declared.scene.Vm.{Vm};
 ghost use Rattle.esx_model.specs.Site.{vm_at};
 ghost use Rattle.esx_model.specs.Hints.{with_change};
 ghost use Rattle.esx_model.specs.sound.Sound.{IsSound};
-ghost use Rattle.esx_model.specs.event.Sampling.{sample, opened_period, are_good_words, counted, with_period};
+ghost use Rattle.esx_model.specs.event.Sampling.{sample, opened_period, are_good_words, counted};
 ghost use Rattle.esx_steps.specs.Gives.{Gives};
 
 use crate::site::vm_of;

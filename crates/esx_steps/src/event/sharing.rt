@@ -1,6 +1,6 @@
 //! Pages with equal bytes come to share one frame.
 
-ghost use Rattle.std.specs.Prelude.{◌≡◌, ◌==◌, ◌^◌, ℕ, nat_le, IfSome, ◌&&◌, ◌||◌, ◌<◌, ◌≤◌, ◌+◌, not, find, filter, length, Some, None, true, Ok, OnOk, IfOk, unwrap_or, bytes_eq};
+ghost use Rattle.std.specs.Prelude.{◌≡◌, ◌==◌, ◌^◌, ℕ, nat_le, IfSome, ◌&&◌, ◌||◌, ◌<◌, not, find, filter, length, Some, None, true, Ok, OnOk, IfOk, unwrap_or};
 ghost use Rattle.std.specs.Option.{option_copied};
 ghost use Rattle.std.specs.List.{position_from};
 ghost use Rattle.esx_types.specs.declared.config.TheConstants.{VM_NUMBERS};
@@ -8,7 +8,7 @@ ghost use Rattle.esx_model.specs.declared.scene.Vm.{Vm};
 ghost use Rattle.esx_model.specs.declared.scene.Place.TheVariants.{Untouched, Here};
 ghost use Rattle.esx_model.specs.Places.{contents, is_here};
 ghost use Rattle.esx_model.specs.Site.{vm_at, vm_places, all_places, place_of, pages_at};
-ghost use Rattle.esx_model.specs.Hints.{other_hint, is_hint_of, with_hint, in_order, placed};
+ghost use Rattle.esx_model.specs.Hints.{other_hint, is_hint_of, in_order, placed};
 ghost use Rattle.esx_formulas.specs.Key.{content_key};
 ghost use Rattle.esx_model.specs.sound.Sound.{IsSound};
 ghost use Rattle.esx_model.specs.event.Sharing.{is_shared_under, shared_under, look_at_shared, look_at_hinted, look_at_hint, look_private, look, hinted, after_look, said_of, scan};

@@ -1,6 +1,6 @@
 //! A machine takes its overhead frames, one at a time.
 
-ghost use Rattle.std.specs.Prelude.{◌≡◌, ◌<◌, ◌≤◌, ◌+◌, length, Some, None, Ok, OnOk, IfOk, IfErr, not, nat_lt};
+ghost use Rattle.std.specs.Prelude.{◌≡◌, ◌<◌, ◌≤◌, ◌+◌, length, Some, Ok, OnOk, IfOk, IfErr, not, nat_lt};
 ghost use Rattle.esx_events.specs.declared.event.Answer.TheVariants as answers;
 ghost use Rattle.esx_model.specs.declared.scene.Vm.{Vm};
 ghost use Rattle.esx_model.specs.Site.{vm_at};

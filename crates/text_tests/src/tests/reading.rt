@@ -1,7 +1,13 @@
 //! Files through readers that give little at a time, fail or never end, and the texts of faults.
 
-use esx_reading::{TextFault, read_text_of};
+ghost use Rattle.std.specs.Prelude.{◌≡◌, ◌≤◌};
+
+use esx_reading::{TextFault, read_text};
+use esx_types::ReadSource;
+use std::alloc::Global;
 use std::io::{self, ErrorKind, Read};
+use std::marker::Brand;
+use std::sync::ledger::{Blank, Ledger};
 use std::test::Fail;
 
 #[test]
@@ -69,38 +75,52 @@ fn make_tape(text: &'static [u8], most: usize, left: usize, reads: u32) -> Tape 
     }
 }
 
+fn read_counted<L: Ledger>(alloc: Global, tape: Tape, blank: Blank) -> Result<String, TextFault>
+    requires name { blank.name ≡ L.name }
+    requires parts { blank.parts ≡ L.parts }
+    requires four { 4 ≤ blank.parts }
+{
+    let mut source = ReadSource::<_, L>::new(tape, blank);
+    read_text(alloc, &mut source)
+}
+
+/// The text of a tape, or why it has none.
+fn read_tape(alloc: Global, tape: Tape) -> Result<String, TextFault> {
+    read_counted::<Brand>(alloc, tape, Blank::new(4))
+}
+
 static NOUGHTS: [u8; 65536] = [48; 65536];
 
 #[test]
 fn whole(rt: HostRuntime) -> Result<(), Fail> {
     let alloc = rt.alloc();
     assert_eq!(rt;
-        read_text_of(alloc, make_tape(b"esx", 9, 6, 9))?.as_str(),
+        read_tape(alloc, make_tape(b"esx", 9, 6, 9))?.as_str(),
         "esxesx"
     );
     assert_eq!(rt;
-        read_text_of(alloc, make_tape(b"esx", 1, 2, 9))?.as_str(),
+        read_tape(alloc, make_tape(b"esx", 1, 2, 9))?.as_str(),
         "ee"
     );
     // the end is read once
     assert_eq!(rt;
-        read_text_of(alloc, make_tape(b"esx", 9, 6, 3))?.as_str(),
+        read_tape(alloc, make_tape(b"esx", 9, 6, 3))?.as_str(),
         "esxesx"
     );
     assert_eq!(rt;
-        read_text_of(alloc, make_tape(b"esx", 9, 0, 9))?.as_str(),
+        read_tape(alloc, make_tape(b"esx", 9, 0, 9))?.as_str(),
         ""
     );
     assert_eq!(rt;
-        read_text_of(alloc, make_tape(b"\xff", 9, 1, 9)),
+        read_tape(alloc, make_tape(b"\xff", 9, 1, 9)),
         Err(TextFault::NotText)
     );
     assert_eq!(rt;
-        read_text_of(alloc, make_tape(b"esx", 9, 6, 2)),
+        read_tape(alloc, make_tape(b"esx", 9, 6, 2)),
         Err(TextFault::Read)
     );
     assert_eq!(rt;
-        read_text_of(alloc, make_tape(b"esx", 9, 6, 0)),
+        read_tape(alloc, make_tape(b"esx", 9, 6, 0)),
         Err(TextFault::Read)
     );
     Ok(())
@@ -110,10 +130,10 @@ fn whole(rt: HostRuntime) -> Result<(), Fail> {
 #[test]
 fn long(rt: HostRuntime) -> Result<(), Fail> {
     let alloc = rt.alloc();
-    let text = read_text_of(alloc, make_tape(&NOUGHTS, 65536, 67108864, 4000000))?;
+    let text = read_tape(alloc, make_tape(&NOUGHTS, 65536, 67108864, 4000000))?;
     assert_eq!(rt; text.len(), 67108864);
     assert_eq!(rt;
-        read_text_of(alloc, make_tape(&NOUGHTS, 65536, 67108865, 4000000)),
+        read_tape(alloc, make_tape(&NOUGHTS, 65536, 67108865, 4000000)),
         Err(TextFault::Read)
     );
     Ok(())

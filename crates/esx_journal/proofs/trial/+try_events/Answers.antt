@@ -5,7 +5,7 @@ use Rattle.esx_events.specs.declared.event.Event.{Event}
 use Rattle.esx_events.specs.declared.event.Refusal.TheVariants.{OutOfMemory}
 use Rattle.esx_model.specs.Readings.{sum_of}
 use Rattle.esx_machine.specs.Machine as machines
-use Rattle.esx_machine.specs.Machine.{Shows, Trades, book_in}
+use Rattle.esx_machine.specs.Machine.{Trades, book_in}
 use Rattle.esx_model.specs.Epochs.{AreEpochsWithin}
 use Rattle.esx_model.proofs.Callers.{event_within}
 use Rattle.esx_journal.proofs.Runs.{can_rise}

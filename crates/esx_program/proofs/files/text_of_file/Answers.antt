@@ -5,7 +5,7 @@ use Rattle.esx_program.proofs.files.text_of_file.Goals as goal
 
 pub returns-in-Ok : goal.returns-in-Ok
 returns-in-Ok g c =
-    let state = source_state g.F.Source.remaining g.F.Source.calls g.F.Source.failures g.F.Source.empty_reads in
+    let state = source_state g.F.Source.remaining g.F.Source.calls g.F.Source.failures g.F.Source.empty_reads g.F.Source.asked in
     rw c.in-Ok.is (Ok (state c.in-Ok.file, state c.text_of_source.new.file), (refl, refl), c.text_of_source.ensures.text, c.text_of_source.ensures.fault)
 
 pub returns-in-Err : goal.returns-in-Err

@@ -15,4 +15,5 @@ invariant-loop g l = record {
   count : l.work.count ≤ 65536 * l.counter;
   flushes : g.W.Sink.flushes l.writer ≡ g.W.Sink.flushes l.initial.writer + l.counter;
   calls : g.R.Source.calls l.reader ≡ g.R.Source.calls l.initial.reader + l.counter;
+  asked : g.R.Source.asked l.reader ≡ g.R.Source.asked l.initial.reader + 65536 * l.counter;
 }

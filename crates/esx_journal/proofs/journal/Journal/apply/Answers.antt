@@ -3,7 +3,6 @@ use Rattle.std.specs.Prelude.{IsErrAnd, IsOk}
 use Rattle.esx_events.specs.declared.event.Answer.{Answer}
 use Rattle.esx_events.specs.declared.event.Refusal.{Refusal}
 use Rattle.esx_machine.specs.Machine as machines
-use Rattle.esx_machine.specs.Machine.{Trades}
 use Rattle.esx_model.specs.Tree.{Down}
 use Rattle.esx_model.specs.History.{History, do_event, done}
 use Rattle.esx_journal.specs.declared.row.Row.{Row}
