@@ -13,6 +13,7 @@ returns-in-Ok g c =
             ok = e.ok;
             fault = e.fault;
             reads = e.reads;
+            pieces = e.pieces;
             found = e.found;
             not_found = e.not_found;
             ends = e.ends;
