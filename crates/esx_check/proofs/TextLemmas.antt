@@ -7,11 +7,11 @@ use Rattle.esx_console.specs.Unlogged.{Kept, AnswersAs}
 use Rattle.esx_replies.specs.Replies.{reply_text}
 use Rattle.esx_session.specs.declared.session.Entry.{Entry}
 use Rattle.esx_session.specs.Sessions.{Reads}
-use Rattle.esx_session.specs.Reading.{Reader, Follows}
+use Rattle.esx_session.specs.Reading.{Reader, Follows, IsNextLine}
 use Rattle.esx_check.specs.declared.check.Checked.TheVariants.{Same, Differs}
 use Rattle.esx_check.specs.Again.{made, replies_again}
 use Rattle.esx_check.specs.Checks.{ChecksText, replies_told}
-use Rattle.esx_check.specs.Gates.{GoesToInText}
+use Rattle.esx_check.specs.Gates.{GoesToInText, GoesToBadLine}
 use Rattle.esx_check.proofs.AgainLemmas.{first_again, again_more, again_nothing}
 use Rattle.esx_check.proofs.CheckLemmas.{same_more, differs_here, one_longer, goes_through, goes_to_next}
 
@@ -77,3 +77,33 @@ pub goes_to_one_more : (text : List ℕ) (calls next : Reader) (console : Kept) 
 goes_to_one_more text calls next console count e so_far follows =
     let done = so_far.done ++ e ∷ [] in
     inr (so_far.site, done, (next, follows), goes_to_next so_far.site done so_far.done [] e count refl so_far.same so_far.counted)
+
+-- where the line behind the calls that were made is bad
+pub bad_behind_last : (text : List ℕ) (calls : Reader) (console : Kept) (count line : ℕ) → SoFar text calls console count → IsNextLine line calls.at → GoesToBadLine text line count
+bad_behind_last text calls console count line so_far next = inr (record {
+  site = so_far.site;
+  entries = so_far.done;
+  reader = calls;
+  follows = so_far.follows;
+  next = next;
+  checked = Same count;
+  checks = (so_far.counted, so_far.same);
+  made = refl;
+})
+
+-- where a line behind a call with another reply is
+pub bad_behind_difference : (text : List ℕ) (calls reader : Reader) (console : Kept) (count line : ℕ) (e : Entry) (so_far : SoFar text calls console count) (later : List Entry)
+    → Follows text so_far.site ((so_far.done ++ e ∷ []) ++ later) reader → IsNextLine line reader.at
+    → (reply_text (next_reply (made so_far.site so_far.done) e.call) ≡ e.reply → ⊥) → GoesToBadLine text line (count + 1)
+bad_behind_difference text calls reader console count line e so_far later follows next other =
+    let entries = (so_far.done ++ e ∷ []) ++ later in
+    inr (record {
+      site = so_far.site;
+      entries = entries;
+      reader = reader;
+      follows = follows;
+      next = next;
+      checked = Differs (count + 1);
+      checks = differs_here so_far.site entries so_far.done later e count (append_assoc so_far.done (e ∷ []) later) so_far.same other so_far.counted;
+      made = refl;
+    })

@@ -2,11 +2,12 @@
 use Rattle.std.specs.Prelude.{◌≡◌, ◌≤◌, ◌⊎◌, ℕ, List, zero, suc, ◌-◌, ◌^◌, min, length, take, Bool}
 use Rattle.esx_types.specs.declared.config.Config.{Config}
 use Rattle.esx_session.specs.declared.session.Entry.{Entry}
-use Rattle.esx_session.specs.Reading.{Reader, Follows}
+use Rattle.esx_session.specs.Sessions.{HasOpening}
+use Rattle.esx_session.specs.Reading.{Reader, Follows, IsNextLine}
 use Rattle.esx_check.specs.declared.check.Checked.{Checked}
 use Rattle.esx_check.specs.declared.check.Checked.TheVariants.{Same, Differs}
 use Rattle.esx_check.specs.Again.{replies_again}
-use Rattle.esx_check.specs.Checks.{replies_told}
+use Rattle.esx_check.specs.Checks.{Checks, replies_told}
 
 -- the turn of a call: its number, up to the greatest that a turn can be
 abbrev pub turn_of : ℕ → ℕ
@@ -29,6 +30,23 @@ BeginsWith text site entries = (reader : Reader) × Follows text site entries re
 -- the same of a text: no call was made, or the n-th of those with which it begins was the last
 abbrev pub GoesToInText : List ℕ → ℕ → Type 0
 GoesToInText text n = (n ≡ 0) ⊎ ((site : Config) × (entries : List Entry) × BeginsWith text site entries × GoesTo site entries n)
+
+-- The text begins with the opening of this site and with these calls, the line is one of the two that come next, and
+-- a check of the calls comes to this, with n of them made.
+pub record ChecksBefore (text : List ℕ) (line n : ℕ) : Type 0 where
+  pub site : Config
+  pub entries : List Entry
+  pub reader : Reader
+  pub follows : Follows text site entries reader
+  pub next : IsNextLine line reader.at
+  pub checked : Checked
+  pub checks : Checks site entries checked
+  pub made : n ≡ calls_made checked
+
+-- How many calls are made where this line of the text is bad: none if the first two lines are no opening, and else
+-- those that a check of the calls before the line makes.
+abbrev pub GoesToBadLine : List ℕ → (line : ℕ) → ℕ → Type 0
+GoesToBadLine text line n = ((n ≡ 0) × (HasOpening text → ⊥)) ⊎ ChecksBefore text line n
 
 module _ {G : Type 0} (passes : G → ℕ → Bool → G → Type 0) where
   -- it was passed for each of the calls 1 to n, once and in this order, whatever it answered

@@ -6,9 +6,9 @@ ghost use Rattle.esx_console.specs.Calls.{opened_session};
 ghost use Rattle.esx_console.specs.Unlogged.{AnswersAs};
 ghost use Rattle.esx_session.specs.declared.session.Entry.{Entry};
 ghost use Rattle.esx_session.specs.Sessions.{Reads, HasOpening, IsRefused};
-ghost use Rattle.esx_session.specs.Reading.{Follows};
+ghost use Rattle.esx_session.specs.Reading.{Follows, IsNextLine};
 ghost use Rattle.esx_check.specs.Checks.{ChecksText};
-ghost use Rattle.esx_check.specs.Gates.{calls_made, GoesToInText, PassedFor, PassedForSome};
+ghost use Rattle.esx_check.specs.Gates.{calls_made, GoesToInText, GoesToBadLine, PassedFor, PassedForSome};
 
 use crate::again::Again;
 use crate::check::Checked;
@@ -17,18 +17,22 @@ use esx_reading::TextFault;
 use esx_session::{Calls, open_calls};
 use std::alloc::Global;
 
-/// Reads the calls that are left, up to the end of the text.
+/// Reads the calls that are left, up to the end of the text. At a fault the reader stands behind each that was read.
 fn read_on(alloc: Global, calls: &mut Calls) -> Result<(), TextFault>
     ensures ok { (text : List ℕ) (site : Config) (done : List Entry) → Follows text site done calls.old
         → OnOk result ((later : List Entry) × Reads text site (done ++ later)) }
     ensures only { (text : List ℕ) (site : Config) (done : List Entry) → Follows text site done calls.old → IfErr result (λ e. IsRefused e text) }
+    ensures err { (text : List ℕ) (site : Config) (done : List Entry) → Follows text site done calls.old
+        → OnErr result ((later : List Entry) × Follows text site (done ++ later) calls.new) }
+    ensures near { (line : ℕ) → IsErrOf result (TextFault.BadLine line) → IsNextLine line calls.new.at }
 {
     while let Some(_entry) = calls.next(alloc)? {}
     Ok(())
 }
 
 /// Makes the calls of a text again as they are read, from the first on, and passes the gate before each. Where
-/// reading ends early it was passed for calls that stand in the text, and each but the last of them has its reply.
+/// reading ends early it was passed for calls that stand in the text, and each but the last of them has its reply;
+/// at a bad line for those that a check of the calls before it makes.
 fn check_as_read<G: Gate>(
     alloc: Global,
     again: &mut Again,
@@ -44,6 +48,8 @@ fn check_as_read<G: Gate>(
     ensures gate { IfOk result (λ checked. PassedFor G.passes (calls_made checked) gate.old gate.new) }
     ensures some { (text : List ℕ) (site : Config) → Follows text site [] calls.old → AnswersAs again.old.console (opened_session site)
         → OnErr result (PassedForSome G.passes (GoesToInText text) gate.old gate.new) }
+    ensures bad { (text : List ℕ) (site : Config) (line : ℕ) → Follows text site [] calls.old → AnswersAs again.old.console (opened_session site)
+        → IsErrOf result (TextFault.BadLine line) → PassedForSome G.passes (GoesToBadLine text line) gate.old gate.new }
 {
     let mut count: u64 = 0;
     while let Some(entry) = calls.next(alloc)? {
@@ -77,7 +83,8 @@ pub fn check_text(alloc: Global, text: &str) -> Result<Checked, TextFault>
 /// 2^32 - 1 with that number). What the check comes to is the same whatever the gate answers.
 ///
 /// Where memory runs out, or a line is bad, the gate was passed for the first calls of the text, for none that does
-/// not stand there, and for none behind the first that has another reply.
+/// not stand there, and for none behind the first that has another reply. Where a line is bad, these are all that a
+/// check of the calls before the line makes, so a bad line is told behind them; a bad opening is told before any.
 pub fn check_text_through<G: Gate>(
     alloc: Global,
     text: &str,
@@ -88,6 +95,7 @@ pub fn check_text_through<G: Gate>(
     ensures memory { IsErrOf result TextFault.OutOfMemory → HasOpening text.now }
     ensures gate { IfOk result (λ checked. PassedFor G.passes (calls_made checked) gate.old gate.new) }
     ensures some { OnErr result (PassedForSome G.passes (GoesToInText text.now) gate.old gate.new) }
+    ensures bad { (line : ℕ) → IsErrOf result (TextFault.BadLine line) → PassedForSome G.passes (GoesToBadLine text.now line) gate.old gate.new }
 {
     let (site, mut calls) = open_calls(text)?;
     let Ok(mut again) = Again::open(alloc, site) else {

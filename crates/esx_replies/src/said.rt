@@ -55,7 +55,7 @@ pub fn write_reply<W: Sink>(
     requires { held.old ≡ [] }
     ensures bytes { Writes (W.contents sink.old) (W.contents sink.new) (reply_text reply.now) result }
     ensures utf8 { OnOk result (IsUtf8 (reply_text reply.now)) }
-    ensures empty { OnOk result (held.new ≡ []) }
+    ensures empty { held.new ≡ [] }
     ensures failures { W.failures sink.new ≡ W.failures sink.old + sink_faults result }
     ensures flushes { W.flushes sink.new ≡ W.flushes sink.old }
 {

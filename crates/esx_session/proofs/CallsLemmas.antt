@@ -1,5 +1,5 @@
 -- The calls of a session as far as they were read, and what stops them.
-use Rattle.std.proofs.Common.{◌≡◌, ◌<◌, ◌+◌, ℕ, List, Bool, true, false, [], ◌∷◌, ◌++◌, length, arith, refl, sym, ap, ◌∙◌, append_assoc, append-nil, length-append, decimal, codes}
+use Rattle.std.proofs.Common.{◌≡◌, ◌<◌, ◌+◌, ℕ, List, Bool, true, false, Result, Err, [], ◌∷◌, ◌++◌, length, arith, refl, sym, ap, ◌∙◌, append_assoc, append-nil, length-append, decimal, codes}
 use Rattle.std.specs.List.{AllByRecursion}
 use Rattle.std.proofs.lemmas.Grind.{flat_map-append}
 use Rattle.std.proofs.lemmas.Str.Ascii.{IsAscii-from_all}
@@ -12,7 +12,7 @@ use Rattle.esx_events.specs.declared.call.Call.{Call}
 use Rattle.esx_words.specs.Commands.{spelling}
 use Rattle.esx_session.specs.declared.session.Entry.{Entry}
 use Rattle.esx_session.specs.Sessions.{ended, quoted, call_text, entry_text, end_text, IsEntry, IsEnded}
-use Rattle.esx_session.specs.Reading.{Place, HasNoFeed, QuotesNone, LeavesReply, SpellsCall, SpellsNoCall, TakesEntry, LacksEntry, LacksCalls, TellsCalls, BeginsCalls, IsStuck, StopsCalls, SettledLines, AreRead}
+use Rattle.esx_session.specs.Reading.{Place, HasNoFeed, QuotesNone, LeavesReply, SpellsCall, SpellsNoCall, TakesEntry, LacksEntry, LacksCalls, TellsCalls, BeginsCalls, IsStuck, StopsCalls, SettledLines, AreRead, IsNextLine}
 use Rattle.esx_session.proofs.QuoteLemmas.{Closes, AreAscii, NoQuote, begins_quote}
 use Rattle.esx_session.proofs.CallLemmas.{small_caller}
 use Rattle.esx_session.proofs.FeedLemmas.{AllStay, call_stays, both_stay, decimal_stays, known_stay, no_feed, first_digit}
@@ -271,3 +271,26 @@ lacks_entry (Differs k) old now next entries line is left passed feed end h = ab
 lacks_entry Read old now next entries line is left passed feed end h = absurd h
 lacks_entry Write old now next entries line is left passed feed end h = absurd h
 lacks_entry OutOfMemory old now next entries line is left passed feed end h = tt
+
+-- a bad line has one number
+one_number : {T : Type 0} (r : Result T TextFault) (m n : ℕ) → r ≡ Err (BadLine m) → r ≡ Err (BadLine n) → m ≡ n
+one_number r m n e f = cc
+
+pub first_is_next : {T : Type 0} (r : Result T TextFault) (old : Place) (passed line : ℕ) → passed ≡ old.passed
+    → r ≡ Err (BadLine (passed + 1)) → r ≡ Err (BadLine line) → IsNextLine line old
+first_is_next r old passed line at e f = let same = one_number r (passed + 1) line e f in (omega (arith, at, same), omega (arith, at, same))
+
+pub second_is_next : {T : Type 0} (r : Result T TextFault) (old next new : Place) (passed line : ℕ) → next.passed ≡ old.passed + 1 → new.passed ≡ next.passed + 1 → passed ≡ new.passed
+    → r ≡ Err (BadLine passed) → r ≡ Err (BadLine line) → IsNextLine line old
+second_is_next r old next new passed line first second at e f =
+    let same = one_number r passed line e f in (omega (arith, first, second, at, same), omega (arith, first, second, at, same))
+
+-- the line of a call, or the one behind it
+call_is_next : (old next : Place) (text : List ℕ) (line : ℕ) → next.passed ≡ old.passed + 1 → LacksEntry (BadLine line) text next → IsNextLine line old
+call_is_next old next text line passed (inl h) = (omega (arith, passed, h.0), omega (arith, passed, h.0))
+call_is_next old next text line passed (inr h) = (omega (arith, passed, h.0), omega (arith, passed, h.0))
+
+pub entry_is_next : {T : Type 0} (r : Result T TextFault) (fault : TextFault) (old next : Place) (text : List ℕ) (line : ℕ) → next.passed ≡ old.passed + 1 → LacksEntry fault text next
+    → r ≡ Err fault → r ≡ Err (BadLine line) → IsNextLine line old
+entry_is_next r fault old next text line passed h e f =
+    let same : fault ≡ BadLine line = cc in call_is_next old next text line passed (rw same at h)

@@ -38,7 +38,7 @@ pub marked_begins : (name : List ℕ) (node : ℕ) → Begins (marked_text name 
 marked_begins name node = some_begins 111 (codes "k mark " ++ (name ++ (codes " at " ++ (decimal node ++ (10 ∷ [])))))
 
 pub sign_failed : {T E : Type 0} (a c : Option (List ℕ)) (h held t : List ℕ) (r : Result T E) → IsErr r → Begins t
-    → WritesFront a c (h ++ codes "= ") → Puts a h c held (quoted t) r
+    → WritesFront a c (h ++ codes "= ") × (held ≡ []) → Puts a h c held (quoted t) r
 sign_failed a c h held t r is b w =
     puts_same a c h held (codes "= " ++ b.0) (quoted t) r (sym b.1) (first_failed a c h held (codes "= ") (codes "= ") b.0 r is refl w)
 
@@ -51,7 +51,7 @@ pub signed_utf8 : {T E : Type 0} (t : List ℕ) (r : Result T E) → is_line t �
 signed_utf8 t r line p q = utf8_same (codes "= " ++ t) (quoted t) r (sym (line_quoted t line)) (utf8_after (codes "= ") t r p q)
 
 pub both_failed : {T E : Type 0} (a c : Option (List ℕ)) (h held x y : List ℕ) (r : Result T E) → IsErr r → IsClosed x
-    → WritesFront a c (h ++ quoted x) → Puts a h c held (quoted (x ++ y)) r
+    → WritesFront a c (h ++ quoted x) × (held ≡ []) → Puts a h c held (quoted (x ++ y)) r
 both_failed a c h held x y r is p w =
     puts_same a c h held (quoted x ++ quoted y) (quoted (x ++ y)) r (sym (p y)) (first_failed a c h held (quoted x) (quoted x) (quoted y) r is refl w)
 

@@ -1,5 +1,5 @@
 -- What is read of a session, line by line.
-use Rattle.std.specs.Prelude.{ℕ, List, [], ◌∷◌, ◌++◌, ◌+◌, ◌≡◌, ◌<◌, ◌^◌, ◌⊎◌, codes, decimal, length, flat_map}
+use Rattle.std.specs.Prelude.{ℕ, List, [], ◌∷◌, ◌++◌, ◌+◌, ◌≡◌, ◌<◌, ◌≤◌, ◌^◌, ◌⊎◌, codes, decimal, length, flat_map}
 use Rattle.std.specs.List.{AllByRecursion}
 use Rattle.std.specs.Str.{IsAscii}
 use Rattle.std.specs.Str.Lines.{lines}
@@ -18,6 +18,10 @@ use Rattle.esx_session.specs.Sessions.{ended, site_words, quoted, entry_text, en
 pub record Place : Type 0 where
   pub passed : ℕ
   pub left : List (List ℕ)
+
+-- the line of this number is one of the two that come next
+abbrev pub IsNextLine : ℕ → Place → Type 0
+IsNextLine line at = (at.passed < line) × (line ≤ at.passed + 2)
 
 -- no line feed stands in the line
 abbrev pub HasNoFeed : List ℕ → Type 0

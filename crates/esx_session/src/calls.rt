@@ -6,7 +6,7 @@ ghost use Rattle.esx_types.specs.declared.config.Config.{Config};
 ghost use Rattle.esx_reading.specs.Fields.{joined};
 ghost use Rattle.esx_session.specs.declared.session.Entry.{Entry};
 ghost use Rattle.esx_session.specs.Sessions.{site_words, IsEntry, Reads, HasOpening, IsRefused};
-ghost use Rattle.esx_session.specs.Reading.{head_line, placed, TakesReply, LacksReply, TakesEntry, LacksEntry, AreRead, TellsCalls, LacksCalls, LacksHead, LacksOpening, GoesOn, BeginsReply, EntryTakesMemory, NextTakesMemory, Follows};
+ghost use Rattle.esx_session.specs.Reading.{head_line, placed, TakesReply, LacksReply, TakesEntry, LacksEntry, AreRead, TellsCalls, LacksCalls, LacksHead, LacksOpening, GoesOn, BeginsReply, EntryTakesMemory, NextTakesMemory, Follows, IsNextLine};
 
 use crate::line::{call_of, is_end};
 use crate::place::Place;
@@ -76,13 +76,15 @@ fn read_entry(alloc: Global, line: &str, place: &mut Place) -> Result<Entry, Tex
     })
 }
 
-/// The next call behind so many, with its reply. `None` at the last line, behind which nothing stands.
+/// The next call behind so many, with its reply. `None` at the last line, behind which nothing stands. A bad line is
+/// one of the next two, since an entry is the line of a call and at least one line of its reply.
 fn next_entry(alloc: Global, place: &mut Place, count: u64) -> Result<Option<Entry>, TextFault>
     ensures some { (start : Place) (done : List Entry) → AreRead start place.old done
         → IfOk result (λ next. IfSome next (λ entry. AreRead start place.new (done ++ entry ∷ []))) }
     ensures none { (start : Place) (done : List Entry) → AreRead start place.old done → count ≡ length done
         → IfOk result (λ next. IfNone next (TellsCalls start.left done)) }
     ensures only { (start : Place) (done : List Entry) → AreRead start place.old done → count ≡ length done → IfErr result (λ e. LacksCalls e start) }
+    ensures near { (line : ℕ) → IsErrOf result (TextFault.BadLine line) → IsNextLine line place.old }
     ensures memory { IsErrOf result TextFault.OutOfMemory → GoesOn count place.old.left }
     ensures wants { IsErrOf result TextFault.OutOfMemory → NextTakesMemory place.old.left }
     ensures entry { IfOk result (λ next. IfSome next IsEntry) }
@@ -164,8 +166,9 @@ pub fn open_calls<'a>(text: &'a str) -> Result<(Config, Calls<'a>), TextFault>
 impl<'a> Calls<'a> {
     /// The next call, with its reply. `None` behind the last of them, where the text ends with the number of its
     /// calls and nothing else. `BadLine` has the first line at which the text is no session, from 1 on: one past
-    /// its last line where it ends too early. `OutOfMemory` where there is none for the entry: its line has a command
-    /// that may take memory, or is that of a call with a line of a reply behind it.
+    /// its last line where it ends too early. It comes once each entry before that line was given: the line is one of
+    /// the next two. `OutOfMemory` where there is none for the entry: its line has a command that may take memory, or
+    /// is that of a call with a line of a reply behind it.
     ///
     /// The reader goes on behind the entry that it gives, and else stays where it is: after the end it says the end
     /// again, after a bad line the same line, and after want of memory it tries the same entry once more.
@@ -175,6 +178,7 @@ impl<'a> Calls<'a> {
         ensures none { (text : List ℕ) (site : Config) (done : List Entry) → Follows text site done self.old
             → IfOk result (λ next. IfNone next (Reads text site done)) }
         ensures only { (text : List ℕ) (site : Config) (done : List Entry) → Follows text site done self.old → IfErr result (λ e. IsRefused e text) }
+        ensures near { (line : ℕ) → IsErrOf result (TextFault.BadLine line) → IsNextLine line self.old.at }
         ensures memory { IsErrOf result TextFault.OutOfMemory → GoesOn self.old.count self.old.at.left }
         ensures wants { IsErrOf result TextFault.OutOfMemory → NextTakesMemory self.old.at.left }
         ensures entry { IfOk result (λ next. IfSome next IsEntry) }

@@ -196,7 +196,7 @@ pub fn write_session<W: Sink>(
     requires { held.old ≡ [] }
     ensures bytes { Writes (W.contents sink.old) (W.contents sink.new) (session_text site.now (map logged log.now)) result }
     ensures utf8 { OnOk result (IsUtf8 (session_text site.now (map logged log.now))) }
-    ensures empty { OnOk result (held.new ≡ []) }
+    ensures empty { held.new ≡ [] }
     ensures failures { W.failures sink.new ≡ W.failures sink.old + sink_faults result }
     ensures flushes { W.flushes sink.new ≡ W.flushes sink.old }
 {

@@ -468,7 +468,7 @@ pub fn write_command<W: Sink>(
     requires { held.old ≡ [] }
     ensures bytes { Writes (W.contents sink.old) (W.contents sink.new) (spelling call.now) result }
     ensures utf8 { OnOk result (IsUtf8 (spelling call.now)) }
-    ensures empty { OnOk result (held.new ≡ []) }
+    ensures empty { held.new ≡ [] }
     ensures failures { W.failures sink.new ≡ W.failures sink.old + sink_faults result }
     ensures flushes { W.flushes sink.new ≡ W.flushes sink.old }
 {

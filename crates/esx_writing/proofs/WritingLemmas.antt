@@ -48,7 +48,7 @@ took_some given n m k r is some e = let f = rw is at e in grind (arith, common_s
 pub front_of_more : (a c : Option (List ℕ)) (x y : List ℕ) → WritesFront a c x → WritesFront a c (x ++ y)
 front_of_more a c x y w = (w.0, w.1 ++ y, ap (λ v. v ++ y) w.2 ∙ append_assoc w.0 w.1 y, w.3)
 
-pub puts_error : {T E : Type 0} (a c : Option (List ℕ)) (before held text : List ℕ) (r : Result T E) → IsErr r → WritesFront a c (before ++ text) → Puts a before c held text r
+pub puts_error : {T E : Type 0} (a c : Option (List ℕ)) (before held text : List ℕ) (r : Result T E) → IsErr r → WritesFront a c (before ++ text) × (held ≡ []) → Puts a before c held text r
 puts_error a c before held text (Ok v) h w = absurd (cc)
 puts_error a c before held text (Err e) h w = w
 
@@ -57,7 +57,7 @@ pub puts_all : {T E : Type 0} (a b c : Option (List ℕ)) (before held text : Li
     → Appends a b before → held ≡ [] → Writes b c text r → Puts a before c held text r
 puts_all a b c before held text (Ok v) p n w = (before ++ text, rw n (sym (append-nil (before ++ text))), appends_more a b c before text p w)
 puts_all a b c before held text (Err e) p n w =
-    (before ++ w.0, w.1, ap (λ v. before ++ v) w.2 ∙ sym (append_assoc before w.0 w.1), appends_more a b c before w.0 p w.3)
+    ((before ++ w.0, w.1, ap (λ v. before ++ v) w.2 ∙ sym (append_assoc before w.0 w.1), appends_more a b c before w.0 p w.3), n)
 
 pub passes_nothing : (a : Option (List ℕ)) (held : List ℕ) → Passes a held a held []
 passes_nothing a held = ([], append-nil held, appends_nothing a)
@@ -73,14 +73,14 @@ passes_more a b c h k l x y p q = (
 )
 
 -- the parts before an error were passed on, and a front of what was held and the part was written
-pub passes_stop : (a b c : Option (List ℕ)) (h k text front part back : List ℕ)
-    → text ≡ front ++ (part ++ back) → Passes a h b k front → WritesFront b c (k ++ part) → WritesFront a c (h ++ text)
+pub passes_stop : {held : List ℕ} (a b c : Option (List ℕ)) (h k text front part back : List ℕ)
+    → text ≡ front ++ (part ++ back) → Passes a h b k front → WritesFront b c (k ++ part) × (held ≡ []) → WritesFront a c (h ++ text) × (held ≡ [])
 passes_stop a b c h k text front part back e p w =
     let whole : h ++ text ≡ p.0 ++ ((k ++ part) ++ back) =
     ap (λ v. h ++ v) e ∙ sym (append_assoc h front (part ++ back)) ∙ ap (λ v. v ++ (part ++ back)) p.1 ∙ append_assoc p.0 k (part ++ back)
     ∙ ap (λ v. p.0 ++ v) (sym (append_assoc k part back)) in
-    let more = front_of_more b c (k ++ part) back w in
-    (p.0 ++ more.0, more.1, whole ∙ ap (λ v. p.0 ++ v) more.2 ∙ sym (append_assoc p.0 more.0 more.1), appends_more a b c p.0 more.0 p.2 more.3)
+    let more = front_of_more b c (k ++ part) back w.0 in
+    ((p.0 ++ more.0, more.1, whole ∙ ap (λ v. p.0 ++ v) more.2 ∙ sym (append_assoc p.0 more.0 more.1), appends_more a b c p.0 more.0 p.2 more.3), w.1)
 
 -- what was held at the end is written too
 pub passes_end : (a b c : Option (List ℕ)) (held text : List ℕ) → Passes a [] b held text → Appends b c held → Appends a c text
@@ -136,9 +136,9 @@ utf8_more whole front part e p q = rw e (IsUtf8-append front part p q)
 
 -- two texts, one behind the other
 pub first_failed : {T E : Type 0} (a c : Option (List ℕ)) (h held x z y : List ℕ) (r : Result T E) → IsErr r → x ≡ z
-    → WritesFront a c (h ++ x) → Puts a h c held (z ++ y) r
+    → WritesFront a c (h ++ x) × (held ≡ []) → Puts a h c held (z ++ y) r
 first_failed a c h held x z y r is e w = puts_error a c h held (z ++ y) r is
-    (let m = front_of_more a c (h ++ x) y w in (m.0, m.1, ap (λ v. h ++ (v ++ y)) (sym e) ∙ sym (append_assoc h x y) ∙ m.2, m.3))
+    (let m = front_of_more a c (h ++ x) y w.0 in ((m.0, m.1, ap (λ v. h ++ (v ++ y)) (sym e) ∙ sym (append_assoc h x y) ∙ m.2, m.3), w.1))
 
 pub puts_after : {T E : Type 0} (a b c : Option (List ℕ)) (h k l x z y v : List ℕ) (r : Result T E) → x ≡ z → y ≡ v
     → Passes a h b k x → Puts b k c l y r → Puts a h c l (z ++ v) r

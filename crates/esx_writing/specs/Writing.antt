@@ -1,5 +1,5 @@
 -- What a writer does to a sink, and to the bytes that it holds back.
-use Rattle.std.specs.Prelude.{ℕ, List, ◌++◌, ◌≡◌, ◌-◌, length, replicate, Option, Result, Ok, Err, decimal}
+use Rattle.std.specs.Prelude.{ℕ, List, [], ◌++◌, ◌≡◌, ◌-◌, length, replicate, Option, Result, Ok, Err, decimal}
 use Rattle.std.specs.Io.KnownBytes.{Appends}
 use Rattle.hex.specs.Hex.{encode_lower}
 use Rattle.esx_writing.specs.declared.pieces.Piece.{Piece}
@@ -18,10 +18,10 @@ Writes old new text (Err e) = WritesFront old new text
 abbrev pub Passes : Option (List ℕ) → List ℕ → Option (List ℕ) → List ℕ → List ℕ → Type 0
 Passes old before new held text = (front : List ℕ) × (before ++ text ≡ front ++ held) × Appends old new front
 
--- The same, or at an error a front was written.
+-- The same, or at an error a front was written, and nothing is held.
 abbrev pub Puts : {T E : Type 0} → Option (List ℕ) → List ℕ → Option (List ℕ) → List ℕ → List ℕ → Result T E → Type 0
 Puts old before new held text (Ok done) = Passes old before new held text
-Puts old before new held text (Err e) = WritesFront old new (before ++ text)
+Puts old before new held text (Err e) = WritesFront old new (before ++ text) × (held ≡ [])
 
 -- how many writes failed, by what a writer answered
 abbrev pub sink_faults : {T E : Type 0} → Result T E → ℕ

@@ -1,6 +1,6 @@
 //! What is written, held back in a buffer of fixed size. No memory is taken on the way.
 
-ghost use Rattle.std.specs.Prelude.{◌≡◌, ◌+◌, ◌≤◌, ◌*◌, ◌++◌, [], length, decimal, IfOk, OnOk, IsUtf8};
+ghost use Rattle.std.specs.Prelude.{◌≡◌, ◌+◌, ◌≤◌, ◌*◌, ◌++◌, [], length, decimal, IfOk, IsUtf8};
 ghost use Rattle.hex.specs.Hex.{encode_lower};
 ghost use Rattle.esx_writing.specs.Writing.{Writes, Puts, sink_faults};
 
@@ -114,16 +114,16 @@ fn put_all<W: Sink>(sink: &mut W, bytes: &[u8]) -> Result<(), SinkFailed>
     Ok(())
 }
 
-/// Writes what is held.
+/// Writes what is held. Nothing is held after it, whatever came.
 pub fn write_held<W: Sink>(sink: &mut W, held: &mut AnswerBuffer) -> Result<(), SinkFailed>
     ensures bytes { Writes (W.contents sink.old) (W.contents sink.new) held.old result }
-    ensures empty { OnOk result (held.new ≡ []) }
+    ensures empty { held.new ≡ [] }
     ensures failures { W.failures sink.new ≡ W.failures sink.old + sink_faults result }
     ensures flushes { W.flushes sink.new ≡ W.flushes sink.old }
 {
-    put_all(sink, held.as_slice())?;
+    let written = put_all(sink, held.as_slice());
     held.clear();
-    Ok(())
+    written
 }
 
 /// Writes what is held, and then holds the bytes or writes them.

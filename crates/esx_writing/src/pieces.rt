@@ -155,7 +155,7 @@ pub fn write_pieces<W: Sink>(
 ) -> Result<(), SinkFailed>
     requires { held.old ≡ [] }
     ensures bytes { Writes (W.contents sink.old) (W.contents sink.new) (flat_map piece_text pieces.now) result }
-    ensures empty { OnOk result (held.new ≡ []) }
+    ensures empty { held.new ≡ [] }
     ensures failures { W.failures sink.new ≡ W.failures sink.old + sink_faults result }
     ensures flushes { W.flushes sink.new ≡ W.flushes sink.old }
 {

@@ -7,3 +7,6 @@ returns-in_err-site-clause-some g c = on_err c.from_residual.result (some_none _
 
 pub returns-in_default-clause-some : goal.returns-in_default-clause-some
 returns-in_default-clause-some g c = some_none _ _ _ (inl refl)
+
+pub returns-in_err-site-clause-bad : goal.returns-in_err-site-clause-bad
+returns-in_err-site-clause-bad g c = λ line is. some_none _ _ _ (inl (refl, c.in_err-site.ensures.none))

@@ -1,5 +1,6 @@
 use Rattle.std.proofs.Common.{◌++◌}
 use Rattle.std.proofs.lemmas.Result.{err_from_is_err_and}
+use Rattle.esx_check.proofs.GateLemmas.{on_err}
 use Rattle.esx_check.proofs.TextLemmas.{read_nothing, read_more}
 use Rattle.esx_check.proofs.text.read_on.Goals as goal
 
@@ -21,3 +22,13 @@ pub returns-clause-ok : goal.returns-clause-ok
 returns-clause-ok c = λ text site done follows.
     let on = c.loop-entry.invariant text site done follows in
     (on.later, rw c.in_default.is at (c.in_ok-_entry.ensures.none text site (done ++ on.later) on.follows))
+
+pub returns-in_err-_entry-clause-err : goal.returns-in_err-_entry-clause-err
+returns-in_err-_entry-clause-err c = λ text site done follows.
+    let on = c.loop-entry.invariant text site done follows in
+    on_err c.from_residual.result (on.later, rw c.in_err-_entry.ensures.refused on.follows)
+
+pub returns-in_err-_entry-clause-near : goal.returns-in_err-_entry-clause-near
+returns-in_err-_entry-clause-near c = λ line is.
+    let p = err_from_is_err_and c.from_residual.result c.from_residual.ensures.1 in
+    rw c.in_err-_entry.ensures.refused (c.in_err-_entry.ensures.near line (rw (p.1, p.2) at is))

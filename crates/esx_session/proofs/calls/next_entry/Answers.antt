@@ -1,7 +1,7 @@
 use Rattle.std.proofs.Common.{◌∙◌, ap, refl, length}
 use Rattle.std.proofs.lemmas.Result.{err_from_is_err_and}
 use Rattle.esx_session.specs.Reading.{Place}
-use Rattle.esx_session.proofs.CallsLemmas.{end_line, late_line, not_end, lacks_entry, ends_early, one_more}
+use Rattle.esx_session.proofs.CallsLemmas.{end_line, late_line, not_end, lacks_entry, ends_early, one_more, first_is_next, second_is_next, entry_is_next}
 use Rattle.esx_session.proofs.calls.next_entry.Goals as goal
 
 pub returns-in-None-clause-only : goal.returns-in-None-clause-only
@@ -31,3 +31,19 @@ returns-in_ok-read_entry-in-Some-2-clause-some c = λ start done is.
 pub returns-in_err-read_entry-in-Some-2-clause-memory : goal.returns-in_err-read_entry-in-Some-2-clause-memory
 returns-in_err-read_entry-in-Some-2-clause-memory c = λ wants.
     rw c.in-Some.ensures.left (not_end c.in-Some.line.now c.is_end.result c.args.count c.args.count refl c.is_end.ensures c.if-is_end.false)
+
+pub returns-in-None-clause-near : goal.returns-in-None-clause-near
+returns-in-None-clause-near c = λ line is.
+    let at = c.passed.ensures.value ∙ ap (λ (p : Place). p.passed) c.in-None.ensures.left.1 in
+    first_is_next _ c.args.place.now c.passed.result line at refl is
+
+pub returns-in-Some-next-clause-near : goal.returns-in-Some-next-clause-near
+returns-in-Some-next-clause-near c = λ line is.
+    second_is_next _ c.args.place.now c.next.new.self c.next-in-Some.new.self c.passed-in-Some-next.result line
+    c.in-Some.ensures.passed c.in-Some-next.ensures.passed c.passed-in-Some-next.ensures.value refl is
+
+pub returns-in_err-read_entry-in-Some-2-clause-near : goal.returns-in_err-read_entry-in-Some-2-clause-near
+returns-in_err-read_entry-in-Some-2-clause-near c = λ line is.
+    let p = err_from_is_err_and c.from_residual.result c.from_residual.ensures.1 in
+    entry_is_next _ c.in_err-read_entry-in-Some-2.field-0.0 c.args.place.now c.next.new.self c.in-Some.line.now line
+    c.in-Some.ensures.passed c.in_err-read_entry-in-Some-2.ensures.only refl (rw (p.1, p.2) at is)

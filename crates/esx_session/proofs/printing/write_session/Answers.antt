@@ -11,4 +11,4 @@ returns-clause-bytes g c =
 pub returns-in_err-put_session-clause-bytes : goal.returns-in_err-put_session-clause-bytes
 returns-in_err-put_session-clause-bytes g c =
     writes_error (g.W.Sink.contents c.args.sink.now) (g.W.Sink.contents c.put_session.new.sink) c.args.held.now (session_text c.args.site.now (map logged c.args.log.now))
-    c.from_residual.result c.from_residual.ensures.0 c.requires c.in_err-put_session.ensures.bytes
+    c.from_residual.result c.from_residual.ensures.0 c.requires c.in_err-put_session.ensures.bytes.0

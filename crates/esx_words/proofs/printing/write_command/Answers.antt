@@ -10,4 +10,4 @@ returns-clause-bytes g c =
 pub returns-in_err-put_command-clause-bytes : goal.returns-in_err-put_command-clause-bytes
 returns-in_err-put_command-clause-bytes g c =
     writes_error (g.W.Sink.contents c.args.sink.now) (g.W.Sink.contents c.put_command.new.sink) c.args.held.now (spelling c.args.call.now)
-    c.from_residual.result c.from_residual.ensures.0 c.requires c.in_err-put_command.ensures.bytes
+    c.from_residual.result c.from_residual.ensures.0 c.requires c.in_err-put_command.ensures.bytes.0

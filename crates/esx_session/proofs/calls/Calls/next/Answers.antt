@@ -25,3 +25,9 @@ returns-in_err-entry-clause-memory c = λ wants.
     let place = c.ahead-ahead.ensures.value ∙ ap (λ (r : Reader). r.at) c.self.view_is in
     let count = ap (λ (r : Reader). r.count) c.self.view_is in
     rw (count, place) at (c.in_err-entry.ensures.memory (rw (p.1, p.2) at wants))
+
+pub returns-in_err-entry-clause-near : goal.returns-in_err-entry-clause-near
+returns-in_err-entry-clause-near c = λ line is.
+    let p = err_from_is_err_and c.from_residual.result c.from_residual.ensures.1 in
+    let place = c.ahead-ahead.ensures.value ∙ ap (λ (r : Reader). r.at) c.self.view_is in
+    rw place at (c.in_err-entry.ensures.near line (rw (p.1, p.2) at is))
