@@ -13,6 +13,7 @@ loop-init g c = record {
   count = omega (arith, c.requires.none);
   flushes = omega arith;
   calls = omega arith;
+  asked = omega arith;
 }
 
 pub returns-in_err-send-clause-served : goal.returns-in_err-send-clause-served
@@ -132,4 +133,5 @@ loop-preserved g c =
       count = omega (arith, c.loop.invariant.count, c.in_ok-serve_bytes.ensures.count, c.split_at.ensures.front_len, c.in-Ok.ensures.bound, c.requires.room);
       flushes = omega (arith, c.loop.invariant.flushes, c.in_ok-send.ensures.flushes, c.in_ok-serve_bytes.ensures.flushes);
       calls = omega (arith, c.loop.invariant.calls, c.in-Ok.ensures.calls);
+      asked = omega (arith, c.loop.invariant.asked, c.in-Ok.ensures.asked, c.requires.room);
     }
