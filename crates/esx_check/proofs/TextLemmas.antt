@@ -78,10 +78,6 @@ goes_to_one_more text calls next console count e so_far follows =
     let done = so_far.done ++ e ∷ [] in
     inr (so_far.site, done, (next, follows), goes_to_next so_far.site done so_far.done [] e count refl so_far.same so_far.counted)
 
--- the same bad line as the fault of another call
-pub bad_line_again : {T U : Type 0} (e : TextFault) (line : ℕ) → IsErrOf {T = T} (Err e) (BadLine line) → IsErrOf {T = U} (Err e) (BadLine line)
-bad_line_again e line is = cc
-
 -- where the line behind the calls that were made is bad
 pub bad_behind_last : (text : List ℕ) (calls : Reader) (console : Kept) (count line : ℕ) → SoFar text calls console count → IsNextLine line calls.at → GoesToBadLine text line count
 bad_behind_last text calls console count line so_far next = inr (record {

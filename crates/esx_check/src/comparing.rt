@@ -1,6 +1,7 @@
 //! Texts that are compared while they are written, so that no second text is made.
 
 ghost use Rattle.std.specs.Prelude.{◌≡◌, ◌≢◌, ◌+◌, ◌<◌, ◌≤◌, ◌↔◌, ◌++◌, [], ℕ, List, Some, IsTrue, length, take, slice_get};
+ghost use Rattle.esx_types.specs.Ends.{no_calls};
 ghost use Rattle.esx_replies.specs.Replies.{reply_text};
 
 use esx_events::Reply;
@@ -66,7 +67,7 @@ impl<'a, T: Wanted, L: Ledger> Comparing<'a, T, L> {
         requires name { blank.name ≡ L.name }
         requires parts { blank.parts ≡ L.parts }
         requires four { 4 ≤ blank.parts }
-        ensures { result ≡ record { bytes = []; tally = record { calls = 0; failures = 0; noted = 0 } } }
+        ensures { result ≡ record { bytes = []; tally = no_calls } }
     {
         Comparing {
             text,

@@ -3,7 +3,7 @@ use Rattle.std.proofs.lemmas.Result.{err_from_is_err_and}
 use Rattle.esx_check.specs.Again.{made}
 use Rattle.esx_check.proofs.CheckLemmas.{is_not}
 use Rattle.esx_check.proofs.GateLemmas.{passed_none, passed_more, some_of, some_more, on_err}
-use Rattle.esx_check.proofs.TextLemmas.{nothing_so_far, one_more_so_far, all_same, one_differs, goes_to_last, goes_to_one_more, bad_line_again, bad_behind_last, bad_behind_difference}
+use Rattle.esx_check.proofs.TextLemmas.{nothing_so_far, one_more_so_far, all_same, one_differs, goes_to_last, goes_to_one_more, bad_behind_last, bad_behind_difference}
 use Rattle.esx_check.proofs.text.check_as_read.Goals as goal
 
 pub loop-entry-init : goal.loop-entry-init
@@ -81,7 +81,8 @@ pub returns-in_err-entry-clause-bad : goal.returns-in_err-entry-clause-bad
 returns-in_err-entry-clause-bad g c = λ text site line follows answers is.
     let so_far = c.loop-entry.invariant.so_far text site follows answers in
     let p = err_from_is_err_and c.from_residual.result c.from_residual.ensures.1 in
-    let near = c.in_err-entry.ensures.near line (bad_line_again _ line (rw (p.1, p.2) at is)) in
+    let bad = rw (p.1, p.2) at is in
+    let near = c.in_err-entry.ensures.near line (cc) in
     some_of _ _ _ _ _ (bad_behind_last text _ _ _ line so_far near) c.loop-entry.invariant.gate
 
 pub returns-in_err-read_on-clause-bad : goal.returns-in_err-read_on-clause-bad
@@ -90,6 +91,7 @@ returns-in_err-read_on-clause-bad g c = λ text site line follows answers is.
     let p = err_from_is_err_and c.from_residual-in_err-read_on.result c.from_residual-in_err-read_on.ensures.1 in
     let next = rw c.in-Some.is at (c.in_ok-entry.ensures.some text so_far.site so_far.done so_far.follows) in
     let on = c.in_err-read_on.ensures.err text so_far.site (so_far.done ++ c.in-Some.entry ∷ []) next in
-    let near = c.in_err-read_on.ensures.near line (bad_line_again _ line (rw (p.1, p.2) at is)) in
+    let bad = rw (p.1, p.2) at is in
+    let near = c.in_err-read_on.ensures.near line (cc) in
     let other = is_not _ _ (c.in-Ok.ensures.same (made so_far.site so_far.done) so_far.answers) c.if-not-same.true in
     some_more _ _ _ _ _ _ (bad_behind_difference text _ _ _ _ line c.in-Some.entry so_far on.0 on.1 near other) c.loop-entry.invariant.gate c.in-Ok.ensures.gate

@@ -10,3 +10,6 @@ returns-in_default-clause-some g c = some_none _ _ _ (inl refl)
 
 pub returns-in_err-site-clause-bad : goal.returns-in_err-site-clause-bad
 returns-in_err-site-clause-bad g c = λ line is. some_none _ _ _ (inl (refl, c.in_err-site.ensures.none))
+
+pub returns-clause-bad : goal.returns-clause-bad
+returns-clause-bad g c = λ line is. c.check_as_read.ensures.bad c.args.text.now c.in_ok-site.site line c.in_ok-site.ensures.ok c.in-Ok.ensures.answers is

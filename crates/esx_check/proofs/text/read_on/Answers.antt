@@ -1,7 +1,7 @@
 use Rattle.std.proofs.Common.{◌++◌}
 use Rattle.std.proofs.lemmas.Result.{err_from_is_err_and}
 use Rattle.esx_check.proofs.GateLemmas.{on_err}
-use Rattle.esx_check.proofs.TextLemmas.{read_nothing, read_more, bad_line_again}
+use Rattle.esx_check.proofs.TextLemmas.{read_nothing, read_more}
 use Rattle.esx_check.proofs.text.read_on.Goals as goal
 
 pub loop-entry-init : goal.loop-entry-init
@@ -31,4 +31,5 @@ returns-in_err-_entry-clause-err c = λ text site done follows.
 pub returns-in_err-_entry-clause-near : goal.returns-in_err-_entry-clause-near
 returns-in_err-_entry-clause-near c = λ line is.
     let p = err_from_is_err_and c.from_residual.result c.from_residual.ensures.1 in
-    rw c.in_err-_entry.ensures.refused (c.in_err-_entry.ensures.near line (bad_line_again _ line (rw (p.1, p.2) at is)))
+    let bad = rw (p.1, p.2) at is in
+    rw c.in_err-_entry.ensures.refused (c.in_err-_entry.ensures.near line (cc))
