@@ -107,10 +107,7 @@ fn whole(rt: HostRuntime) -> Result<(), Fail> {
         read_tape(alloc, make_tape(b"esx", 9, 6, 3))?.as_str(),
         "esxesx"
     );
-    assert_eq!(rt;
-        read_tape(alloc, make_tape(b"esx", 9, 0, 9))?.as_str(),
-        ""
-    );
+    assert_eq!(rt; read_tape(alloc, make_tape(b"esx", 9, 0, 9))?.as_str(), "");
     assert_eq!(rt;
         read_tape(alloc, make_tape(b"\xff", 9, 1, 9)),
         Err(TextFault::NotText)
