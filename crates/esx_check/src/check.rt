@@ -76,7 +76,7 @@ pub fn check_session_through<G: Gate>(
     check_calls(alloc, session.site, session.entries.into_vec(), gate)
 }
 
-/// Writes what a check came to as a line, over an empty buffer.
+/// Writes what a check came to as a line, over an empty buffer. Nothing is held after it, whatever came.
 pub fn write_checked<W: Sink>(
     sink: &mut W,
     held: &mut AnswerBuffer,
@@ -84,7 +84,7 @@ pub fn write_checked<W: Sink>(
 ) -> Result<(), SinkFailed>
     requires { held.old ≡ [] }
     ensures bytes { Writes (W.contents sink.old) (W.contents sink.new) (checked_text checked) result }
-    ensures empty { OnOk result (held.new ≡ []) }
+    ensures empty { held.new ≡ [] }
     ensures failures { W.failures sink.new ≡ W.failures sink.old + sink_faults result }
     ensures flushes { W.flushes sink.new ≡ W.flushes sink.old }
 {

@@ -145,6 +145,7 @@ pub fn write_endings<W: Sink>(
 ) -> Result<(), SinkFailed>
     requires { held.old ≡ [] }
     ensures bytes { Writes (W.contents sink.old) (W.contents sink.new) (flat_map ending_text endings.now) result }
+    ensures empty { held.new ≡ [] }
     ensures failures { W.failures sink.new ≡ W.failures sink.old + sink_faults result }
     ensures flushes { W.flushes sink.new ≡ W.flushes sink.old }
 {
