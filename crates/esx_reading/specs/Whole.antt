@@ -15,13 +15,16 @@ abbrev pub GivesMore : Option (List ℕ) → Option (List ℕ) → Type 0
 GivesMore old new = (bytes : List ℕ) × Consumes old new bytes × (2 ^ 26 < length bytes) × (length bytes ≤ 2 ^ 26 + 65536)
 
 -- The source gave no more bytes than a file may have, by reads of which each gave one at least: none found the end.
+-- They were fewer than a file may take.
 pub record GivesOn (old new : Option (List ℕ)) (before after : ℕ) : Type 0 where
   pub bytes : List ℕ
   pub given : Consumes old new bytes
   pub few : length bytes ≤ 2 ^ 26
   pub each : after ≤ before + length bytes
+  pub fewer : after < before + 2 ^ 26
 
--- Each of the reads between two counts of them asked for 65,536 bytes, by what all reads had asked for before and after.
+-- The reads between two counts of them asked for 65,536 bytes each, in sum. Any of them may fail or find the end, and
+-- none follows one that did, so that none can ask for less and a later one make up for it.
 abbrev pub AskForPieces : (before after asked_before asked_after : ℕ) → Type 0
 AskForPieces before after asked_before asked_after = asked_after + 65536 * before ≡ asked_before + 65536 * after
 

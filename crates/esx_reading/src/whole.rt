@@ -39,7 +39,7 @@ fn read_through<R: Source>(
     ensures not_found { OnErr result (R.empty_reads source.new ≡ R.empty_reads source.old) }
 
     // Each read gave a byte at least, but for the last where it failed or found the end. Where memory ran out
-    // no read found it.
+    // no read found it, and another one was to come.
     ensures end { IfOk result (λ v. R.calls source.new ≤ R.calls source.old + length v.items + 1) }
     ensures each { IsErrOf result TextFault.Read → (bytes : List ℕ) × Consumes (R.remaining source.old) (R.remaining source.new) bytes
         × (R.calls source.new ≤ R.calls source.old + length bytes + 1) }
@@ -48,6 +48,10 @@ fn read_through<R: Source>(
 {
     let mut bytes = Vec::new(alloc);
     for _ in 0..READS {
+        // Room comes first, so that what is read is kept.
+        if bytes.reserve(CHUNK).is_err() {
+            return Err(TextFault::OutOfMemory);
+        }
         let Ok(given) = source.read(chunk) else {
             return Err(TextFault::Read);
         };
@@ -58,9 +62,7 @@ fn read_through<R: Source>(
             return Err(TextFault::Read);
         }
         let (front, _) = chunk.split_at(given);
-        let Ok(()) = bytes.extend_from_slice(front) else {
-            return Err(TextFault::OutOfMemory);
-        };
+        bytes.extend_from_slice(front).unwrap();
     }
     Err(TextFault::Read)
 }
@@ -85,7 +87,7 @@ pub fn read_whole<R: Source>(alloc: Global, source: &mut R) -> Result<Vec<u8>, T
     ensures not_found { OnErr result (R.empty_reads source.new ≡ R.empty_reads source.old) }
 
     // Each read gave a byte at least, but for the last where it failed or found the end. Where memory ran out
-    // no read found it.
+    // no read found it, and another one was to come.
     ensures end { IfOk result (λ v. R.calls source.new ≤ R.calls source.old + length v.items + 1) }
     ensures each { IsErrOf result TextFault.Read → (bytes : List ℕ) × Consumes (R.remaining source.old) (R.remaining source.new) bytes
         × (R.calls source.new ≤ R.calls source.old + length bytes + 1) }
@@ -120,7 +122,7 @@ pub fn read_text<R: Source>(alloc: Global, source: &mut R) -> Result<String, Tex
     ensures not_found_in_memory { IsErrOf result TextFault.OutOfMemory → R.empty_reads source.new ≡ R.empty_reads source.old }
 
     // Each read gave a byte at least, but for the last where it failed or found the end. Where memory ran out
-    // no read found it.
+    // no read found it, and another one was to come.
     ensures end { IfOk result (λ s. R.calls source.new ≤ R.calls source.old + length (string_bytes s) + 1) }
     ensures each { IsErrOf result TextFault.Read → (bytes : List ℕ) × Consumes (R.remaining source.old) (R.remaining source.new) bytes
         × (R.calls source.new ≤ R.calls source.old + length bytes + 1) }

@@ -1,4 +1,4 @@
-use Rattle.std.proofs.Common.{◌≡◌, ◌++◌, ◌+◌, ◌<◌, ◌≤◌, ◌^◌, arith, inr, length, length-append, length-take, take}
+use Rattle.std.proofs.Common.{◌++◌, ◌+◌, ◌<◌, ◌≤◌, ◌^◌, arith, inr, length, length-append, length-take, take}
 use Rattle.std.proofs.KnownBytes.{Consumes-trans}
 use Rattle.esx_reading.proofs.whole.read_through.Goals as goal
 
@@ -22,17 +22,3 @@ returns-then-given-len-clause-each g c =
     let each : g.R.Source.calls c.read.new.self ≤ g.R.Source.calls c.args.source.now + length all + 1 =
     omega (arith, length-append c.loop.bytes.items front, c.in-Ok.ensures.calls, c.loop.invariant.calls, c.loop.invariant.each) in
     λ _. (all, Consumes-trans _ _ _ c.loop.bytes.items front c.loop.invariant.given c.in-Ok.ensures.bytes.0, each)
-
-pub returns-in_default-extend_from_slice-clause-memory :
-    goal.returns-in_default-extend_from_slice-clause-memory
-returns-in_default-extend_from_slice-clause-memory g c =
-    let front = take c.in-Ok.given c.read.new.buffer in
-    let all = c.loop.bytes.items ++ front in
-    let long : length all ≡ length c.loop.bytes.items + c.in-Ok.given =
-    omega (arith, length-append c.loop.bytes.items front, length-take c.in-Ok.given c.read.new.buffer, c.in-Ok.ensures.bound) in
-    λ _. record {
-      bytes = all;
-      given = Consumes-trans _ _ _ c.loop.bytes.items front c.loop.invariant.given c.in-Ok.ensures.bytes.0;
-      few = omega (arith, long, c.if-given-len.false, c.len.ensures, c.loop.invariant.few);
-      each = omega (arith, long, c.if-given-eq0.false, c.in-Ok.ensures.calls, c.loop.invariant.calls, c.loop.invariant.each);
-    }
