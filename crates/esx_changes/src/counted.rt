@@ -6,6 +6,7 @@ ghost use Rattle.esx_average.specs.Means.{Means};
 ghost use Rattle.esx_changes.specs.Counted.{is_first, is_touched_by, turned_from, period_parts, counted_parts, IsOpen, IsOpenOf};
 
 use esx_average::Averages;
+use esx_events::Boxed;
 use esx_model::{Mark, PeriodRow};
 use esx_tables::{Change, VmPart, VmTable};
 use esx_types::VmId;
@@ -123,7 +124,8 @@ fn push_open(
     }
     let touched = touched_count(page, marks);
     let averages = averages.close_period(touched, marks.len() as u32);
-    push_part(changes, vm, VmPart::Period { period: None })?;
+    let period = Boxed::new(*changes.allocator(), None)?;
+    push_part(changes, vm, VmPart::Period { period })?;
     push_part(changes, vm, VmPart::Averages { averages })
 }
 

@@ -4,6 +4,7 @@ ghost use Rattle.std.specs.Prelude.{◌≡◌, IfOk};
 
 use std::alloc::{AllocError, Global};
 use std::marker::Model;
+use std::mem;
 
 /// A value on the heap, seen as the value.
 #[derive(Debug, Drop)]
@@ -31,6 +32,14 @@ impl<T> Boxed<T> {
     {
         let Boxed { inner } = self;
         Box::into_inner(inner)
+    }
+
+    /// Trades the value with another.
+    pub fn trade(&mut self, value: &mut T)
+        ensures own { self.new ≡ value.old }
+        ensures value { value.new ≡ self.old }
+    {
+        mem::swap(&mut *self.inner, value);
     }
 
     /// Where its room came from.

@@ -2,6 +2,7 @@
 
 use crate::vm_table::VmTable;
 use esx_average::Averages;
+use esx_events::Boxed;
 use esx_frames::Mark;
 use esx_model::PeriodRow;
 use esx_types::{Bytes, FrameRow, Listing, MapRow, SlotRow, VmId, VmState};
@@ -22,8 +23,8 @@ pub enum VmPart {
     PageAt { page: u32, row: MapRow },
     Facts { facts: Facts },
     Target { target: u32 },
-    /// The open sample period, or none.
-    Period { period: Option<PeriodRow> },
+    /// The open sample period, or none. It is rare, so it stands apart and other changes stay small.
+    Period { period: Boxed<Option<PeriodRow>> },
     /// How many accesses of the open period are done.
     Done { done: u32 },
     /// Whether a sampled page of the open period was accessed, which turns round.
@@ -81,3 +82,5 @@ pub enum Change {
         tau: u32,
     },
 }
+
+const _: () = prove!(size_of::<Change>() == 40);

@@ -97,7 +97,7 @@ impl Change {
             Change::OfVm {
                 part: VmPart::Period { period },
                 ..
-            } => mark_count(period),
+            } => mark_count(period.get()),
             Change::OfVm {
                 part: VmPart::Touched { .. },
                 ..

@@ -174,7 +174,7 @@ impl VmTable {
             VmPart::PageAt { page, row } => fields.pages.trade(*page, row),
             VmPart::Facts { facts } => trade_facts(fields, facts),
             VmPart::Target { target } => mem::swap(&mut fields.target, target),
-            VmPart::Period { period } => mem::swap(&mut fields.period, period),
+            VmPart::Period { period } => period.trade(&mut fields.period),
             VmPart::Done { done } => trade_done(&mut fields.period, done),
             VmPart::Touched { mark } => turn_touched(&mut fields.period, *mark),
             VmPart::Averages { averages } => mem::swap(&mut fields.averages, averages),

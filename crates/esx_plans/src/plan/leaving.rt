@@ -8,7 +8,7 @@ ghost use Rattle.esx_plans.specs.plan.Leaving.{stop_plan, drop_plan, given_back,
 
 use esx_changes::Plan;
 use esx_changes::leaves::page_leaves;
-use esx_events::{Answer, Refusal};
+use esx_events::{Answer, Boxed, Refusal};
 use esx_tables::{Change, Facts, Record, SiteTables, VmPart, VmTable};
 use esx_types::{FrameRow, MapRow, VmId, VmState};
 use std::alloc::{AllocError, Global};
@@ -30,6 +30,7 @@ pub fn plan_stop(tables: &SiteTables, alloc: Global, vm: VmId) -> Result<Plan, R
         state: VmState::Stopping,
         ..facts
     };
+    let period = Boxed::new(alloc, None)?;
     let changes = vec![in alloc;
         Change::OfVm {
             vm,
@@ -37,7 +38,7 @@ pub fn plan_stop(tables: &SiteTables, alloc: Global, vm: VmId) -> Result<Plan, R
         },
         Change::OfVm {
             vm,
-            part: VmPart::Period { period: None }
+            part: VmPart::Period { period }
         },
     ]?;
     Ok(Plan {

@@ -5,7 +5,7 @@ ghost use Rattle.esx_changes.specs.Planned.{Plans};
 ghost use Rattle.esx_plans.specs.plan.Sampling.{drawn, opened_row, sample_plan};
 
 use esx_changes::Plan;
-use esx_events::{Answer, Refusal};
+use esx_events::{Answer, Boxed, Refusal};
 use esx_model::{Mark, PeriodRow};
 use esx_tables::{Change, Record, SiteTables, VmPart};
 use esx_types::{Rows, VmId, VmState};
@@ -73,7 +73,7 @@ pub fn plan_sample(
     }
     let period = opened(alloc, row.spec().max, length, words)?;
     let part = VmPart::Period {
-        period: Some(period),
+        period: Boxed::new(alloc, Some(period))?,
     };
     let changes = vec![in alloc; Change::OfVm { vm, part }]?;
     Ok(Plan {
