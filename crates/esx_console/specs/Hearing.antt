@@ -7,7 +7,7 @@ use Rattle.esx_events.specs.declared.call.Said.{Said}
 use Rattle.esx_events.specs.declared.call.Said.TheVariants as said
 use Rattle.esx_events.specs.declared.call.Stand.{Stand}
 use Rattle.esx_model.specs.Readings.{activity}
-use Rattle.esx_model.specs.History.{History, book_at}
+use Rattle.esx_model.specs.History.{History, book_at, do_event}
 use Rattle.esx_model.specs.Console.{outcome, after}
 use Rattle.esx_journal.specs.Journal.{Kept, Holds}
 use Rattle.esx_console.specs.declared.hearing.Heard.{Heard}
@@ -37,23 +37,23 @@ MayLackMemory (calls.Advise n page) = ⊥
 MayLackMemory calls.Stand = ⊥
 MayLackMemory calls.Marks = Unit {0}
 
--- a question for a machine's averages finds the machine
-abbrev pub FindsItsMachine : History → Call → Type 0
-FindsItsMachine h (calls.Do e) = Unit {0}
-FindsItsMachine h (calls.Undo k) = Unit {0}
-FindsItsMachine h (calls.Redo k) = Unit {0}
-FindsItsMachine h (calls.Goto n) = Unit {0}
-FindsItsMachine h (calls.Visit name) = Unit {0}
-FindsItsMachine h (calls.Mark name) = Unit {0}
-FindsItsMachine h (calls.Prune n) = Unit {0}
-FindsItsMachine h (calls.WhatIf events) = Unit {0}
-FindsItsMachine h calls.Sum = Unit {0}
-FindsItsMachine h calls.Table = Unit {0}
-FindsItsMachine h (calls.OfVm n) = IsOk (activity (book_at h) n)
-FindsItsMachine h (calls.OfPage n page) = Unit {0}
-FindsItsMachine h (calls.Advise n page) = Unit {0}
-FindsItsMachine h calls.Stand = Unit {0}
-FindsItsMachine h calls.Marks = Unit {0}
+-- A call comes to where it takes memory: an event is accepted, and a question for a machine's averages finds the machine.
+abbrev pub ComesToMemory : History → Call → Type 0
+ComesToMemory h (calls.Do e) = IsOk (do_event e h)
+ComesToMemory h (calls.Undo k) = Unit {0}
+ComesToMemory h (calls.Redo k) = Unit {0}
+ComesToMemory h (calls.Goto n) = Unit {0}
+ComesToMemory h (calls.Visit name) = Unit {0}
+ComesToMemory h (calls.Mark name) = Unit {0}
+ComesToMemory h (calls.Prune n) = Unit {0}
+ComesToMemory h (calls.WhatIf events) = Unit {0}
+ComesToMemory h calls.Sum = Unit {0}
+ComesToMemory h calls.Table = Unit {0}
+ComesToMemory h (calls.OfVm n) = IsOk (activity (book_at h) n)
+ComesToMemory h (calls.OfPage n page) = Unit {0}
+ComesToMemory h (calls.Advise n page) = Unit {0}
+ComesToMemory h calls.Stand = Unit {0}
+ComesToMemory h calls.Marks = Unit {0}
 
 -- the same for the caller and for the log
 abbrev pub twice : Said → Bool → Heard

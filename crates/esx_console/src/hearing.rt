@@ -4,7 +4,7 @@ ghost use Rattle.std.specs.Prelude.{◌≡◌, ◌+◌, ◌<◌, ◌^◌, if◌t
 ghost use Rattle.esx_model.specs.History.{History};
 ghost use Rattle.esx_events.specs.declared.call.Said.TheVariants as said;
 ghost use Rattle.esx_journal.specs.Journal.{Holds};
-ghost use Rattle.esx_console.specs.Hearing.{Hears, MayLackMemory, FindsItsMachine, twice};
+ghost use Rattle.esx_console.specs.Hearing.{Hears, MayLackMemory, ComesToMemory, twice};
 
 mod events;
 mod marks;
@@ -57,7 +57,7 @@ pub fn hear(journal: &mut Journal, alloc: Global, call: &Call) -> Result<Heard, 
     ensures ok { IfOk result (λ heard. (h : History) → Holds journal.old h → Hears journal.new h call.now heard) }
     ensures err { (h : History) → Holds journal.old h → OnErr result (journal.new ≡ journal.old) }
     ensures room { OnErr result (MayLackMemory call.now) }
-    ensures there { (h : History) → Holds journal.old h → OnErr result (FindsItsMachine h call.now) }
+    ensures there { (h : History) → Holds journal.old h → OnErr result (ComesToMemory h call.now) }
 {
     match call {
         Call::Do { event } => hear_event(journal, event),

@@ -4,7 +4,7 @@ ghost use Rattle.std.specs.Prelude.{◌≡◌, ◌≢◌, ◌+◌, ◌<◌, ◌�
 ghost use Rattle.esx_types.specs.Ranges.{IsConfig};
 ghost use Rattle.esx_model.specs.Console.{Session, history, next_reply, lined};
 ghost use Rattle.esx_console.specs.Calls.{opened_session};
-ghost use Rattle.esx_console.specs.Hearing.{MayLackMemory, FindsItsMachine};
+ghost use Rattle.esx_console.specs.Hearing.{MayLackMemory, ComesToMemory};
 ghost use Rattle.esx_console.specs.Unlogged.{AnswersAs};
 
 use crate::hearing::{counted, hear};
@@ -61,7 +61,7 @@ impl Unlogged {
         ensures few { OnOk result (self.new.jumps ≤ self.old.jumps + 1) }
         ensures err { OnErr result (self.new ≡ self.old) }
         ensures room { OnErr result (MayLackMemory call.now) }
-        ensures there { (s : Session) → AnswersAs self.old s → OnErr result (FindsItsMachine (history s) call.now) }
+        ensures there { (s : Session) → AnswersAs self.old s → OnErr result (ComesToMemory (history s) call.now) }
     {
         let heard = hear(&mut self.journal, self.alloc, call)?;
         let jumps = counted(self.jumps, heard.jumped);

@@ -1,5 +1,6 @@
 -- Changes that are small in both forms, whatever the tables.
 use Rattle.std.proofs.Common.{◌≡◌, ℕ, ◌+◌, ◌≤◌, Bool, true, false, List, [], ◌∷◌, length, refl, ap, arith, cond, Option, Some, None, Ok, Err}
+use Rattle.esx_types.specs.declared.config.TheConstants.{VM_NUMBERS}
 use Rattle.esx_lists.specs.Counts.{one}
 use Rattle.esx_types.specs.declared.config.Config.{Config}
 use Rattle.esx_types.specs.declared.table.FrameRow.{FrameRow}
@@ -26,11 +27,11 @@ pub record IsModest (c : Config) (most : ℕ) (changes : List Change) : Type 0 w
   pub rows : total (one_if is_row) changes ≤ 10
   pub marks : total marks_held changes ≤ 100
   pub turned : total marks_most changes ≤ 100
-  pub targets : total (one_if is_target) changes ≤ 32
+  pub targets : total (one_if is_target) changes ≤ VM_NUMBERS
   pub machines : total places_held changes ≤ most
 
 is_small : (c : Config) (most : ℕ) (changes : List Change) → total bytes_held changes ≤ c.page → total (one_if is_row) changes ≤ 10 → total marks_held changes ≤ 100
-    → total (one_if is_target) changes ≤ 32 → total places_held changes ≤ most → IsSmall c most changes
+    → total (one_if is_target) changes ≤ VM_NUMBERS → total places_held changes ≤ most → IsSmall c most changes
 is_small c most changes bytes rows marks targets machines =
     let b = total_is bytes_held changes in
     let r = total_is (one_if is_row) changes in

@@ -8,6 +8,7 @@ use Rattle.std.proofs.lemmas.Option.{same_Some}
 use Rattle.toml.specs.Data.{Data, string, integer, float, boolean, datetime, array, table, Items, no_items, item, Members, as_str, as_table, as_array}
 use Rattle.toml.specs.View.{view, items_view}
 use Rattle.toml.specs.declared.value.Value.{Value}
+use Rattle.esx_types.specs.declared.config.TheConstants.{VM_NUMBERS}
 use Rattle.esx_reading.specs.declared.fault.TextFault.{TextFault}
 use Rattle.esx_reading.specs.declared.fault.TextFault.TheVariants.{BadKey, OutOfMemory}
 use Rattle.esx_types.specs.declared.config.Config.{Config}
@@ -199,12 +200,12 @@ guests_other site o (boolean b) e n = rw e refl
 guests_other site o (datetime t) e n = rw e refl
 guests_other site o (table t) e n = rw e refl
 
-pub guests_unfit : (site : Config) (o : Option Data) (d : Data) (ds : Items) → o ≡ Some d → Some ds ≡ as_array d → (nat_le (count_items ds) 32 && are_tables ds) ≡ false
+pub guests_unfit : (site : Config) (o : Option Data) (d : Data) (ds : Items) → o ≡ Some d → Some ds ≡ as_array d → (nat_le (count_items ds) VM_NUMBERS && are_tables ds) ≡ false
     → guests_at site o ≡ Err (codes "vm")
 unfolding guests_at
 guests_unfit site o d ds e a f = rw (e, is_array d ds a, f) refl
 
-pub guests_fit : (site : Config) (o : Option Data) (d : Data) (ds : Items) → o ≡ Some d → Some ds ≡ as_array d → (nat_le (count_items ds) 32 && are_tables ds) ≡ true
+pub guests_fit : (site : Config) (o : Option Data) (d : Data) (ds : Items) → o ≡ Some d → Some ds ≡ as_array d → (nat_le (count_items ds) VM_NUMBERS && are_tables ds) ≡ true
     → guests_at site o ≡ guests_from site [] ds
 unfolding guests_at
 guests_fit site o d ds e a f = rw (e, is_array d ds a, f) refl
@@ -273,15 +274,15 @@ text_none o d e n = rw n at e
 pub not_leb : (a b : ℕ) → b < a → nat_le a b ≡ false
 not_leb a b h = grind arith
 
-pub many : (ds : Items) (b : Bool) → 32 < count_items ds → (nat_le (count_items ds) 32 && b) ≡ false
-many ds b h = rw (not_leb (count_items ds) 32 h) refl
+pub many : (ds : Items) (b : Bool) → VM_NUMBERS < count_items ds → (nat_le (count_items ds) VM_NUMBERS && b) ≡ false
+many ds b h = rw (not_leb (count_items ds) VM_NUMBERS h) refl
 
 pub strays : (a b : Bool) → b ≡ false → (a && b) ≡ false
 strays true b e = e
 strays false b e = refl
 
-pub all_fit : (ds : Items) → count_items ds ≤ 32 → are_tables ds ≡ true → (nat_le (count_items ds) 32 && are_tables ds) ≡ true
-all_fit ds h t = rw (le-leb (count_items ds) 32 h, t) refl
+pub all_fit : (ds : Items) → count_items ds ≤ VM_NUMBERS → are_tables ds ≡ true → (nat_le (count_items ds) VM_NUMBERS && are_tables ds) ≡ true
+all_fit ds h t = rw (le-leb (count_items ds) VM_NUMBERS h, t) refl
 
 -- a push that did not fail
 pub pushed : {A E : Type 0} {P : Type 0} (r : Result A E) → is_err r ≡ false → OnOk r P → P

@@ -2,6 +2,7 @@
 use Rattle.std.specs.Prelude.{ℕ, ◌+◌, ◌-◌, ◌&&◌, ◌++◌, ◌∷◌, [], Bool, true, nat_le, List, length, codes, decimal, Option, Some, None, is_some, Ok, Err, if◌then◌else◌}
 use Rattle.toml.specs.Data.{Data, array, table, string, Items, no_items, item, Members, get_member, as_table}
 use Rattle.esx_types.specs.declared.config.Config.{Config}
+use Rattle.esx_types.specs.declared.config.TheConstants.{VM_NUMBERS}
 use Rattle.esx_types.specs.declared.vm.VmSpec.{VmSpec}
 use Rattle.esx_scenario.specs.declared.plan.Guest.{Guest}
 use Rattle.esx_scenario.specs.declared.plan.TraceLine.{TraceLine}
@@ -31,7 +32,7 @@ new_number earlier n = if has_number earlier n then Err (codes "id") else Ok n
 
 abbrev pub number_at : List Guest → Members → Tried ℕ
 number_at earlier t = do
-  n ← required t (codes "id") 0 31
+  n ← required t (codes "id") 0 (VM_NUMBERS - 1)
   new_number earlier n
 
 abbrev pub spec_in : Members → Tried VmSpec
@@ -73,5 +74,5 @@ are_tables (item d ds) = is_some (as_table d) && are_tables ds
 -- the machines of the value at `vm`
 unfoldable pub guests_at : Config → Option Data → Tried (List Guest)
 guests_at site None = Ok []
-guests_at site (Some (array ds)) = if nat_le (count_items ds) 32 && are_tables ds then guests_from site [] ds else Err (codes "vm")
+guests_at site (Some (array ds)) = if nat_le (count_items ds) VM_NUMBERS && are_tables ds then guests_from site [] ds else Err (codes "vm")
 guests_at site (Some _) = Err (codes "vm")

@@ -2,6 +2,7 @@
 use Rattle.std.specs.Prelude.{ℕ, List, ◌≡◌, ◌==◌, ◌<◌, ◌≤◌, ◌^◌, Bool, false, length, ◌∷◌, []}
 use Rattle.std.specs.List.{All, list_any}
 use Rattle.esx_types.specs.declared.config.Config.{Config}
+use Rattle.esx_types.specs.declared.config.TheConstants.{VM_NUMBERS}
 use Rattle.esx_types.specs.Ranges.{IsConfig, IsGood}
 use Rattle.esx_scenario.specs.declared.plan.Settings.{Settings}
 use Rattle.esx_scenario.specs.declared.plan.Guest.{Guest}
@@ -40,6 +41,6 @@ AreDistinct (g ∷ gs) = (has_number gs g.vm ≡ false) × AreDistinct gs
 pub record IsPlan (p : Plan) : Type 0 where
   pub site : IsConfig p.site
   pub settings : IsSettings p.settings
-  pub few : length p.guests ≤ 32
+  pub few : length p.guests ≤ VM_NUMBERS
   pub guests : All (IsGuest p.site) p.guests
   pub distinct : AreDistinct p.guests

@@ -3,6 +3,7 @@
 ghost use Rattle.std.specs.Prelude.{◌≡◌, ◌≤◌, ◌++◌, [], length, string_bytes, option_map, IfOk, IfSome, false};
 ghost use Rattle.std.specs.List.{All};
 ghost use Rattle.esx_types.specs.Ranges.{IsGood};
+ghost use Rattle.esx_types.specs.declared.config.TheConstants.{VM_NUMBERS};
 ghost use Rattle.toml.specs.View.{view, table_view, items_view};
 ghost use Rattle.esx_scenario.specs.Lines.{IsWithin};
 ghost use Rattle.esx_scenario.specs.Keys.{Gives, Names, Tries};
@@ -13,12 +14,12 @@ use crate::keys::{bad_key, member, required_number};
 use crate::line::line_of_text;
 use crate::plan::{Guest, TraceLine};
 use esx_reading::TextFault;
-use esx_types::{Config, Rows, VmId, VmSpec};
+use esx_types::{Config, Rows, VM_NUMBERS, VmId, VmSpec};
 use std::alloc::{AllocError, Global};
 use toml::{Table, Value};
 
 /// The most virtual machines of a scenario.
-const MOST_GUESTS: usize = 32;
+const MOST_GUESTS: usize = VM_NUMBERS;
 
 /// The most lines of a trace.
 const MOST_LINES: usize = 65536;
@@ -35,7 +36,7 @@ fn number_of_guest(earlier: &[Guest], table: &Table) -> Result<VmId, &'static st
     ensures exact { Tries (number_at earlier.now (table_view table.now)) result }
     ensures own { IfOk result (λ vm. has_number earlier.now vm ≡ false) }
 {
-    let number = required_number(table, "id", 0, 31)? as u8;
+    let number = required_number(table, "id", 0, VM_NUMBERS as u64 - 1)? as u8;
     if has_guest(earlier, number) {
         return Err("id");
     }
@@ -192,7 +193,7 @@ pub fn guests_of(
     value: Option<&Value>,
 ) -> Result<Rows<Guest>, TextFault>
     ensures exact { Gives (guests_at site.now (option_map (λ v. view v.now) value.entry)) result }
-    ensures good { IfOk result (λ gs. All (IsGuest site.now) gs × AreDistinct gs × (length gs ≤ 32)) }
+    ensures good { IfOk result (λ gs. All (IsGuest site.now) gs × AreDistinct gs × (length gs ≤ VM_NUMBERS)) }
 {
     let Some(value) = value else {
         return Ok(Rows::new(alloc));

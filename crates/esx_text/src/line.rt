@@ -1,6 +1,6 @@
 //! Lines, as they are read in parts.
 
-ghost use Rattle.std.specs.Prelude.{◌≡◌, ◌++◌, ◌∷◌, [], ℕ, List, IfOk, MatchOption};
+ghost use Rattle.std.specs.Prelude.{◌≡◌, ◌++◌, ◌∷◌, [], if◌then◌else◌, ℕ, List, IfOk, MatchOption};
 ghost use Rattle.esx_text.specs.Lines.{Holds, HasNoFeed, line_of};
 
 use std::alloc::{AllocError, Global};
@@ -34,6 +34,13 @@ pub fn without_return(piece: &[u8]) -> &[u8]
             }
         }
     }
+}
+
+/// The first, or the other.
+pub fn either<'a>(first: bool, one: &'a [u8], other: &'a [u8]) -> &'a [u8]
+    ensures { result.now ≡ (if first then one.now else other.now) }
+{
+    if first { one } else { other }
 }
 
 /// What is held of a line that may go on.
@@ -83,6 +90,19 @@ impl LineBuffer {
         let (kept, _) = bytes.split_at(room);
         self.bytes.extend_from_slice(kept).unwrap();
         self.long = true;
+    }
+
+    /// Adds the piece that ends the line, unless it is all of the line and no longer than what is held of one:
+    /// such a piece is not copied. It gives whether it is one.
+    pub fn end(&mut self, piece: &[u8]) -> bool
+        ensures { (start : List ℕ) → Holds self.old start
+            → Holds (record { front = if result then piece.now else self.new.front; long = self.new.long }) (start ++ piece.now) }
+    {
+        if self.bytes.is_empty() && piece.len() <= ROOM {
+            return true;
+        }
+        self.extend(piece);
+        false
     }
 
     /// The bytes held, from the line's beginning on.

@@ -10,7 +10,7 @@ ghost use Rattle.esx_text.specs.Answers.{Progress, Answers, Stops, StopsLast, Fa
 
 use crate::answer::{Asked, answer_line};
 use crate::fault::ServeFault;
-use crate::line::{LineBuffer, split_line, without_return};
+use crate::line::{LineBuffer, either, split_line, without_return};
 use esx_console::Console;
 use esx_types::{Sink, SinkFailed, Source};
 use esx_writing::AnswerBuffer;
@@ -69,7 +69,7 @@ fn serve_line<W: Sink>(
     ensures flushes { W.flushes writer.new ≡ W.flushes writer.old }
     ensures reads { IsErrOf result ServeFault.Read → ⊥ }
 {
-    work.line.extend(piece);
+    let whole = work.line.end(piece);
     work.count += 1;
     answer_line(
         alloc,
@@ -79,7 +79,7 @@ fn serve_line<W: Sink>(
         &mut work.answer,
         &Asked {
             number: work.count,
-            kept: without_return(work.line.bytes()),
+            kept: without_return(either(whole, piece, work.line.bytes())),
             long: work.line.is_long(),
         },
     )?;

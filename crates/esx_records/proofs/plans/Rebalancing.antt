@@ -1,5 +1,6 @@
 -- New targets, the tax and shares.
 use Rattle.std.proofs.Common.{◌≡◌, ℕ, ◌+◌, ◌≤◌, List, [], ◌∷◌, length, refl, arith, Option, Some, None}
+use Rattle.esx_types.specs.declared.config.TheConstants.{VM_NUMBERS}
 use Rattle.esx_types.specs.declared.config.Config.{Config}
 use Rattle.esx_types.specs.declared.level.Level.{Level}
 use Rattle.esx_types.specs.declared.level.Level.TheVariants.{High, Soft, Hard, Low}
@@ -33,7 +34,7 @@ record Targets (c : Config) (targets : ℕ) (changes : List Change) : Type 0 whe
 no_targets : (c : Config) (n : ℕ) → Targets c n []
 no_targets c n = record { bytes = refl; pages = refl; rows = refl; marks = refl; turned = refl; targets_most = omega arith; machines = refl }
 
-targets_modest : (c : Config) (n : ℕ) (changes : List Change) → Targets c n changes → n ≤ 32 → IsModest c 0 changes
+targets_modest : (c : Config) (n : ℕ) (changes : List Change) → Targets c n changes → n ≤ VM_NUMBERS → IsModest c 0 changes
 targets_modest c n changes t few =
     let b = t.bytes in let p = t.pages in let r = t.rows in let m = t.marks in let u = t.turned in let a = t.targets_most in let v = t.machines in
     record { bytes = omega (arith, b); pages = omega (arith, p); rows = omega (arith, r); marks = omega (arith, m); turned = omega (arith, u); targets = omega (arith, a, few); machines = omega (arith, v) }

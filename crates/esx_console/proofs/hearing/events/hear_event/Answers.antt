@@ -14,6 +14,7 @@ returns-in_default c =
       ok = λ h holds. (let P : Heard → Type 0 = Hears c.apply.new.self h (calls.Do c.args.event.now) in
           subst P (sym c.refused.ensures) (hears_event_refused _ _ h c.args.event.now c.in-Err.refusal holds (c.in-Err.ensures h holds) c.in_default.not-OutOfMemory));
       err = λ h holds. tt;
+      late = λ h holds. tt;
     }
 
 pub returns-in-OutOfMemory-clause-err : goal.returns-in-OutOfMemory-clause-err
