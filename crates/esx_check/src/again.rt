@@ -9,23 +9,12 @@ ghost use Rattle.esx_replies.specs.Replies.{reply_text};
 ghost use Rattle.esx_check.specs.Gates.{turn_of};
 
 use crate::comparing::has_text;
-use esx_console::{Console, Unlogged};
+use esx_console::Unlogged;
 use esx_door::Gate;
 use esx_session::Entry;
 use esx_types::Config;
 use esx_writing::AnswerBuffer;
 use std::alloc::{AllocError, Global};
-
-/// A console at a good site, which is refused for want of memory alone.
-pub fn opened(alloc: Global, site: Config) -> Result<Console, AllocError>
-    requires { IsConfig site }
-    ensures { IfOk result (λ console. console ≡ opened_session site) }
-{
-    match Console::open(alloc, site) {
-        Ok(console) => Ok(console),
-        Err(_) => Err(AllocError),
-    }
-}
 
 /// A console that keeps no log, and a buffer for the texts of its replies.
 #[derive(Drop)]
