@@ -1,5 +1,5 @@
 -- What a replay wrote on its way, and at its end.
-use Rattle.std.proofs.Common.{◌≡◌, ℕ, List, [], ◌∷◌, ◌++◌, Option, Result, Ok, Err, sym, ◌∙◌, ap, append_assoc, append-nil, length, take, drop, None, Some}
+use Rattle.std.proofs.Common.{inr, refl, ◌≡◌, ℕ, List, [], ◌∷◌, ◌++◌, Option, Result, Ok, Err, sym, ◌∙◌, ap, append_assoc, append-nil, length, take, drop, None, Some}
 use Rattle.std.specs.List.{flat_map}
 use Rattle.std.specs.Result.{IfErr, IsErrAnd, OnOk}
 use Rattle.std.specs.Io.KnownBytes.{Appends, Keeps}
@@ -16,6 +16,7 @@ use Rattle.esx_writing.proofs.WritingLemmas.{appends_nothing, appends_more}
 use Rattle.esx_check.specs.declared.fault.OutputFault.{OutputFault}
 use Rattle.esx_check.specs.declared.fault.OutputFault.TheVariants.{Write, OutOfMemory}
 use Rattle.esx_check.specs.Again.{made}
+use Rattle.esx_check.specs.Wants.{WantsMemory}
 use Rattle.esx_check.specs.Replays.{replies_text, table_after, replay_text, ReplayStops, ReplyStops}
 use Rattle.esx_check.proofs.AgainLemmas.{made_nothing, made_more, made_follow, text_of}
 
@@ -53,26 +54,30 @@ front_of_next a b c all before next rest e p w = (
 
 stops_at : (fault : OutputFault) (site : Config) (entries done later : List Entry) (e : Entry) (a b c : Option (List ℕ))
     → entries ≡ done ++ e ∷ later → Appends a b (replies_text site done)
-    → ReplyStops fault (reply_text (next_reply (made site done) e.call)) b c → ReplayStops fault site entries a c
-stops_at Write site entries done later e a b c split p w =
+    → ReplyStops fault (reply_text (next_reply (made site done) e.call)) b c → (fault ≡ OutOfMemory → WantsMemory site done e.call) → ReplayStops fault site entries a c
+stops_at Write site entries done later e a b c split p w out =
     let more = front site (done ++ e ∷ []) later in
     let whole : replay_text site entries ≡ (replies_text site done ++ reply_text (next_reply (made site done) e.call)) ++ (more.rest ++ table_after site entries) =
     ap (λ v. v ++ table_after site entries) (ap (replies_text site) (split ∙ sym (append_assoc done (e ∷ []) later)) ∙ more.text ∙ ap (λ v. v ++ more.rest) (one_reply_more site done e))
     ∙ append_assoc (replies_text site done ++ reply_text (next_reply (made site done) e.call)) more.rest (table_after site entries) in
     front_of_next a b c _ (replies_text site done) _ _ whole p w
-stops_at OutOfMemory site entries done later e a b c split p w =
+stops_at OutOfMemory site entries done later e a b c split p w out =
     let first : take (length done) entries ≡ done = ap (take (length done)) split ∙ take-append_seam done (e ∷ later) in
-    (length done, rw first (rw append-nil at (appends_more a b c (replies_text site done) [] p w)))
+    (length done, rw first (rw append-nil at (appends_more a b c (replies_text site done) [] p w)), inr (record { done = done; later = e ∷ later; split = split; number = refl; wants = out refl }))
 
 pub stops_at_call : (fault : OutputFault) (site : Config) (entries done later : List Entry) (e : Entry) (s : Session) (a b c : Option (List ℕ))
     → entries ≡ done ++ e ∷ later → s ≡ made site done → Appends a b (replies_text site done)
-    → ReplyStops fault (reply_text (next_reply s e.call)) b c → ReplayStops fault site entries a c
-stops_at_call fault site entries done later e s a b c split is p w = stops_at fault site entries done later e a b c split p (rw is at w)
+    → ReplyStops fault (reply_text (next_reply s e.call)) b c → (fault ≡ OutOfMemory → WantsMemory site done e.call) → ReplayStops fault site entries a c
+stops_at_call fault site entries done later e s a b c split is p w out = stops_at fault site entries done later e a b c split p (rw is at w) out
 
 stops_last : (fault : OutputFault) (site : Config) (entries : List Entry) (a b c : Option (List ℕ))
     → Appends a b (replies_text site entries) → ReplyStops fault (table_after site entries) b c → ReplayStops fault site entries a c
 stops_last Write site entries a b c p w = front_of_next a b c _ (replies_text site entries) (table_after site entries) [] (sym (append-nil (replay_text site entries))) p w
-stops_last OutOfMemory site entries a b c p w = (length entries, rw take-length (rw append-nil at (appends_more a b c (replies_text site entries) [] p w)))
+stops_last OutOfMemory site entries a b c p w = (
+  length entries,
+  rw take-length (rw append-nil at (appends_more a b c (replies_text site entries) [] p w)),
+  inr (record { done = entries; later = []; split = sym (append-nil entries); number = refl; wants = record { may = tt; comes = tt } }),
+)
 
 pub stops_at_table : {T : Type 0} (r : Result T OutputFault) (site : Config) (entries done : List Entry) (s : Session) (a b c : Option (List ℕ))
     → done ≡ entries → s ≡ made site done → Appends a b (replies_text site done)

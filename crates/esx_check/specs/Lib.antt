@@ -11,4 +11,5 @@ pub mod Comparing
 pub mod Again
 pub mod Checks
 pub mod Gates
+pub mod Wants
 pub mod Replays

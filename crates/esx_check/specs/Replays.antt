@@ -1,5 +1,5 @@
 -- What is written where a session is gone through again.
-use Rattle.std.specs.Prelude.{ℕ, List, ◌++◌, [], take, flat_map, Option, Result, Ok, Err}
+use Rattle.std.specs.Prelude.{◌≡◌, ◌⊎◌, ℕ, List, ◌++◌, [], take, flat_map, Option, Result, Ok, Err}
 use Rattle.std.specs.Io.KnownBytes.{Appends}
 use Rattle.esx_types.specs.declared.config.Config.{Config}
 use Rattle.esx_events.specs.declared.call.Call.TheVariants.{Table}
@@ -10,6 +10,7 @@ use Rattle.esx_session.specs.declared.session.Entry.{Entry}
 use Rattle.esx_check.specs.declared.fault.OutputFault.{OutputFault}
 use Rattle.esx_check.specs.declared.fault.OutputFault.TheVariants.{Write, OutOfMemory}
 use Rattle.esx_check.specs.Again.{made}
+use Rattle.esx_check.specs.Wants.{NextWantsMemory}
 
 -- the replies that the calls have when they are made again, in their order
 abbrev pub replies_text : Config → List Entry → List ℕ
@@ -22,10 +23,11 @@ table_after site entries = reply_text (next_reply (made site entries) Table)
 abbrev pub replay_text : Config → List Entry → List ℕ
 replay_text site entries = replies_text site entries ++ table_after site entries
 
--- after a fault of writing a front was written; where memory ran out, the replies to the first calls, or to all
+-- After a fault of writing a front was written; where memory ran out, the replies to the first calls, or to all, and it was
+-- wanting for the next, if there were any.
 abbrev pub ReplayStops : OutputFault → Config → List Entry → Option (List ℕ) → Option (List ℕ) → Type 0
 ReplayStops Write site entries old new = WritesFront old new (replay_text site entries)
-ReplayStops OutOfMemory site entries old new = (count : ℕ) × Appends old new (replies_text site (take count entries))
+ReplayStops OutOfMemory site entries old new = (count : ℕ) × Appends old new (replies_text site (take count entries)) × ((count ≡ 0) ⊎ NextWantsMemory site entries count)
 
 -- the same of one reply
 abbrev pub ReplyStops : OutputFault → List ℕ → Option (List ℕ) → Option (List ℕ) → Type 0

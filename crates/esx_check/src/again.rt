@@ -1,10 +1,11 @@
 //! The console at which a session is gone through again.
 
-ghost use Rattle.std.specs.Prelude.{◌≡◌, ◌+◌, ◌<◌, ◌≤◌, ◌^◌, ◌↔◌, [], Bool, IfOk, OnOk, IsTrue};
+ghost use Rattle.std.specs.Prelude.{◌≡◌, ◌+◌, ◌<◌, ◌≤◌, ◌^◌, ◌↔◌, [], Bool, IfOk, OnOk, OnErr, IsTrue};
 ghost use Rattle.esx_types.specs.Ranges.{IsConfig};
-ghost use Rattle.esx_model.specs.Console.{Session, next_reply, lined};
+ghost use Rattle.esx_model.specs.Console.{Session, history, next_reply, lined};
 ghost use Rattle.esx_console.specs.Calls.{opened_session};
 ghost use Rattle.esx_console.specs.Unlogged.{AnswersAs};
+ghost use Rattle.esx_console.specs.Hearing.{MayLackMemory, ComesToMemory};
 ghost use Rattle.esx_replies.specs.Replies.{reply_text};
 ghost use Rattle.esx_check.specs.Gates.{turn_of};
 
@@ -53,6 +54,8 @@ impl Again {
         ensures few { OnOk result (self.new.console.jumps ≤ self.old.console.jumps + 1) }
         ensures empty { IfOk result (λ same. IsTrue same → self.new.held ≡ []) }
         ensures gate { (answer : Bool) × G.passes gate.old (turn_of number) answer gate.new }
+        ensures room { OnErr result (MayLackMemory entry.call) }
+        ensures there { (s : Session) → AnswersAs self.old.console s → OnErr result (ComesToMemory (history s) entry.call) }
     {
         gate.pass_through(u32::try_from(number).unwrap_or(u32::MAX));
         let reply = self.console.call(&entry.call)?;

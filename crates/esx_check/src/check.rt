@@ -4,7 +4,8 @@ ghost use Rattle.std.specs.Prelude.{◌≡◌, ◌+◌, [], OnOk, OnErr, IfOk};
 ghost use Rattle.esx_types.specs.Ranges.{IsConfig};
 ghost use Rattle.esx_writing.specs.Writing.{Writes, sink_faults};
 ghost use Rattle.esx_check.specs.Checks.{Checks, checked_text};
-ghost use Rattle.esx_check.specs.Gates.{calls_made, GoesTo, PassedFor, PassedForSome};
+ghost use Rattle.esx_check.specs.Gates.{calls_made, PassedFor, PassedForSome};
+ghost use Rattle.esx_check.specs.Wants.{RunsOut};
 
 use crate::again::Again;
 use esx_door::{Gate, Open};
@@ -33,7 +34,7 @@ fn check_calls<G: Gate>(
     requires { IsConfig site }
     ensures ok { IfOk result (Checks site entries.items) }
     ensures gate { IfOk result (λ checked. PassedFor G.passes (calls_made checked) gate.old gate.new) }
-    ensures some { OnErr result (PassedForSome G.passes (GoesTo site entries.items) gate.old gate.new) }
+    ensures some { OnErr result (PassedForSome G.passes (RunsOut site entries.items) gate.old gate.new) }
 {
     let mut again = Again::open(alloc, site)?;
     let mut count: u64 = 0;
@@ -59,7 +60,7 @@ pub fn check_session(alloc: Global, session: Session) -> Result<Checked, AllocEr
 }
 
 /// As `check_session`, and passes the gate before each call, with the number of the call as its turn (past
-/// 2^32 - 1 with that number). What the check comes to is the same whatever the gate answers.
+/// 2^32 - 1 with that number). What the check comes to is the same whatever the gate answers, where memory does not run out.
 ///
 /// Where memory runs out the gate was passed for the first calls of the session, for none that it does not have,
 /// and for none behind the first that has another reply.
@@ -71,7 +72,7 @@ pub fn check_session_through<G: Gate>(
     requires { IsConfig session.site }
     ensures ok { IfOk result (Checks session.site session.entries) }
     ensures gate { IfOk result (λ checked. PassedFor G.passes (calls_made checked) gate.old gate.new) }
-    ensures some { OnErr result (PassedForSome G.passes (GoesTo session.site session.entries) gate.old gate.new) }
+    ensures some { OnErr result (PassedForSome G.passes (RunsOut session.site session.entries) gate.old gate.new) }
 {
     check_calls(alloc, session.site, session.entries.into_vec(), gate)
 }

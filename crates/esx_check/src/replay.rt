@@ -3,9 +3,10 @@
 ghost use Rattle.std.specs.Prelude.{◌≡◌, ◌+◌, ◌<◌, ◌≤◌, ◌^◌, [], ℕ, OnOk, IfErr, IsErrOf};
 ghost use Rattle.std.specs.Io.KnownBytes.{Appends};
 ghost use Rattle.esx_types.specs.Ranges.{IsConfig};
-ghost use Rattle.esx_model.specs.Console.{next_reply, lined};
+ghost use Rattle.esx_model.specs.Console.{history, next_reply, lined};
 ghost use Rattle.esx_model.specs.Console as consoles;
 ghost use Rattle.esx_console.specs.Unlogged.{AnswersAs};
+ghost use Rattle.esx_console.specs.Hearing.{MayLackMemory, ComesToMemory};
 ghost use Rattle.esx_replies.specs.Replies.{reply_text};
 ghost use Rattle.esx_check.specs.Replays.{ReplayStops, ReplyStops, replay_text, write_faults};
 
@@ -31,6 +32,8 @@ fn write_reply_to<W: Sink>(
         → OnOk result (Appends (W.contents writer.old) (W.contents writer.new) (reply_text (next_reply s call.now))) }
     ensures fault { (s : consoles.Session) → AnswersAs again.old.console s
         → IfErr result (λ e. ReplyStops e (reply_text (next_reply s call.now)) (W.contents writer.old) (W.contents writer.new)) }
+    ensures room { IsErrOf result OutputFault.OutOfMemory → MayLackMemory call.now }
+    ensures there { (s : consoles.Session) → AnswersAs again.old.console s → IsErrOf result OutputFault.OutOfMemory → ComesToMemory (history s) call.now }
     ensures empty { OnOk result (again.new.held ≡ []) }
     ensures failures { W.failures writer.new ≡ W.failures writer.old + write_faults result }
     ensures flushes { W.flushes writer.new ≡ W.flushes writer.old }

@@ -80,7 +80,7 @@ pub fn check_text(alloc: Global, text: &str) -> Result<Checked, TextFault>
 }
 
 /// As `check_text`, and passes the gate before each call, with the number of the call as its turn (past
-/// 2^32 - 1 with that number). What the check comes to is the same whatever the gate answers.
+/// 2^32 - 1 with that number). What the check comes to is the same whatever the gate answers, where memory does not run out.
 ///
 /// Where memory runs out, or a line is bad, the gate was passed for the first calls of the text, for none that does
 /// not stand there, and for none behind the first that has another reply. Where a line is bad, these are all that a

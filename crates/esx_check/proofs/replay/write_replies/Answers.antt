@@ -1,4 +1,4 @@
-use Rattle.std.proofs.Common.{◌≡◌, ◌∷◌, [], ◌++◌, length-append, sym, ◌∙◌, ap, refl, rules, append_assoc, arith}
+use Rattle.std.proofs.Common.{inl, Err, ◌≡◌, ◌∷◌, [], ◌++◌, length-append, sym, ◌∙◌, ap, refl, rules, append_assoc, arith}
 use Rattle.std.proofs.lemmas.List.{nil_from_length}
 use Rattle.esx_check.specs.Again.{made}
 use Rattle.esx_check.proofs.AgainLemmas.{first_again, again_more}
@@ -45,7 +45,8 @@ returns-in_err-write_reply_to-clause-fault g c =
     let step : c.loop-entry.entry-iterator.rest.items ≡ e ∷ c.next.new.self.rest.items = search rules in
     handed_on c.from_residual.result c.in_err-write_reply_to.field-0.0 _ c.from_residual.ensures.1
     (stops_at_call c.in_err-write_reply_to.field-0.0 _ c.args.entries.items done c.next.new.self.rest.items e _ _ _ _
-    (so_far.split ∙ ap (λ v. done ++ v) step) refl so_far.written (c.in_err-write_reply_to.ensures.fault (made _ done) so_far.console))
+    (so_far.split ∙ ap (λ v. done ++ v) step) refl so_far.written (c.in_err-write_reply_to.ensures.fault (made _ done) so_far.console)
+    (λ is. record { may = c.in_err-write_reply_to.ensures.room (ap Err is); comes = c.in_err-write_reply_to.ensures.there (made _ done) so_far.console (ap Err is) }))
 
 pub returns-clause-ok : goal.returns-clause-ok
 returns-clause-ok g c =
@@ -62,4 +63,4 @@ returns-clause-fault g c =
     (whole_list c.args.entries.items c.loop-entry.yielded _ so_far.split none) refl so_far.written (c.write_reply_to-2.ensures.fault (made _ c.loop-entry.yielded) so_far.console)
 
 pub returns-in_default-clause-fault : goal.returns-in_default-clause-fault
-returns-in_default-clause-fault g c = (0, no_replies _ _)
+returns-in_default-clause-fault g c = (0, no_replies _ _, inl refl)

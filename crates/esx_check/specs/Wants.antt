@@ -1,0 +1,32 @@
+-- Where memory may be wanting as a session is gone through again.
+use Rattle.std.specs.Prelude.{◌≡◌, ◌⊎◌, ℕ, ◌-◌, List, [], ◌∷◌, ◌++◌, length}
+use Rattle.esx_types.specs.declared.config.Config.{Config}
+use Rattle.esx_events.specs.declared.call.Call.{Call}
+use Rattle.esx_events.specs.declared.call.Call.TheVariants.{Table}
+use Rattle.esx_model.specs.Console.{history}
+use Rattle.esx_console.specs.Hearing.{MayLackMemory, ComesToMemory}
+use Rattle.esx_session.specs.declared.session.Entry.{Entry}
+use Rattle.esx_check.specs.Again.{made}
+use Rattle.esx_check.specs.Gates.{GoesTo}
+
+-- the call that comes next: that of the first entry, or behind all of them the table
+abbrev pub next_call : List Entry → Call
+next_call [] = Table
+next_call (e ∷ es) = e.call
+
+-- The call takes memory, and behind these calls it comes to where it does.
+pub record WantsMemory (site : Config) (done : List Entry) (call : Call) : Type 0 where
+  pub may : MayLackMemory call
+  pub comes : ComesToMemory (history (made site done)) call
+
+-- behind so many of the entries the next call does
+pub record NextWantsMemory (site : Config) (entries : List Entry) (count : ℕ) : Type 0 where
+  pub done : List Entry
+  pub later : List Entry
+  pub split : entries ≡ done ++ later
+  pub number : count ≡ length done
+  pub wants : WantsMemory site done (next_call later)
+
+-- A check came to call n, or to none, and memory was wanting for it.
+abbrev pub RunsOut : Config → List Entry → ℕ → Type 0
+RunsOut site entries n = GoesTo site entries n × ((n ≡ 0) ⊎ NextWantsMemory site entries (n - 1))
