@@ -1,5 +1,5 @@
 -- What comes out of a replay through a buffer, and what is written where memory runs out.
-use Rattle.std.proofs.Common.{◌≡◌, ℕ, List, [], Option, Result, Ok, Err, refl}
+use Rattle.std.proofs.Common.{inl, ◌≡◌, ℕ, List, [], Option, Result, Ok, Err, refl}
 use Rattle.std.specs.Result.{IfErr, IsErrOf, OnOk}
 use Rattle.std.specs.Io.KnownBytes.{Appends, Keeps, append_known}
 use Rattle.esx_types.specs.declared.config.Config.{Config}
@@ -34,7 +34,7 @@ faults_of OutOfMemory = refl
 pub no_replay : (e : OutputFault) (site : Config) (entries : List Entry) (a b : Option (List ℕ)) → Keeps a b
     → (taken : Option (List ℕ)) × ReplayStops e site entries a taken × GivenOut e taken b
 no_replay Write site entries a b k = (b, ([], replay_text site entries, refl, appends_kept a a b [] (appends_nothing a) k), ([], appends_nothing b))
-no_replay OutOfMemory site entries a b k = (b, (0, appends_kept a a b _ (no_replies site a) k), refl)
+no_replay OutOfMemory site entries a b k = (b, (0, appends_kept a a b _ (no_replies site a) k, inl refl), refl)
 
 -- the same of a check
 pub no_line : (e : OutputFault) (checked : Checked) (a b : Option (List ℕ)) → Keeps a b → CheckStops e checked a b
