@@ -5,7 +5,7 @@ use Rattle.std.proofs.lemmas.List.Sums.{sum_by-cons}
 use Rattle.esx_types.specs.declared.table.MapRow.{MapRow}
 use Rattle.esx_types.specs.Pages as rows
 use Rattle.esx_model.specs.declared.book.VmRow.{VmRow}
-use Rattle.esx_model.proofs.Lists.{one}
+use Rattle.esx_model.proofs.Callers.{one}
 use Rattle.esx_changes.specs.Drawn.{drawn_page}
 
 -- as many pages as are in frames

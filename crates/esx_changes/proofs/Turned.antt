@@ -2,7 +2,7 @@
 use Rattle.std.proofs.Common.{◌≡◌, ℕ, ◌+◌, Bool, true, false, List, [], ◌∷◌, length, count_by, refl, ap, arith, cond}
 use Rattle.std.proofs.lemmas.List.Sums.{sum_by-cons}
 use Rattle.esx_model.specs.declared.book.Mark.{Mark}
-use Rattle.esx_model.proofs.Lists.{one}
+use Rattle.esx_model.proofs.Callers.{one}
 use Rattle.esx_tables.specs.declared.change.VmPart.TheVariants.{Touched}
 use Rattle.esx_changes.specs.Counted.{is_first, turned_from}
 

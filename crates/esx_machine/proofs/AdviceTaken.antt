@@ -39,9 +39,7 @@ use Rattle.esx_model.specs.Advice.{can_write, help_by, target_of, help_for, help
 use Rattle.esx_model.specs.Replay.{opening, settled, next, after_one, run_from, run}
 use Rattle.esx_model.specs.sound.Machines.{IsPlace}
 use Rattle.esx_model.specs.sound.Sound.{IsSound, NamesVm}
-use Rattle.esx_model.proofs.Callers.{passed, rows_of_sound, full_site, old_place, pages_at_is, every_run_sound}
-use Rattle.esx_model.proofs.event.Balloon.{below_max}
-use Rattle.esx_model.proofs.ReserveLaws.{Goes, passing, swap_out_goes, replace_goes}
+use Rattle.esx_model.proofs.Callers.{passed, rows_of_sound, full_site, old_place, pages_at_is, every_run_sound, below_max, Goes, passing, swap_out_goes, replace_goes}
 use Rattle.esx_machine.specs.Advising.{IsAccepted}
 
 -- Tests.

@@ -21,8 +21,7 @@ use Rattle.esx_model.specs.Show.{row_of, pages_in, frame_row}
 use Rattle.esx_model.specs.Tables.{tables_of, is_hint_in, hint_listing, listing_by, listing_row}
 use Rattle.esx_model.specs.sound.Machines.{IsPlace}
 use Rattle.esx_model.specs.sound.Sound.{IsSound}
-use Rattle.esx_model.proofs.Lists.{all_at}
-use Rattle.esx_model.proofs.Callers.{IsIn, row_here, shared_row, private_row, row_clear, listing_is, page_is_in, one_page, count_in_frame, row_in_rows}
+use Rattle.esx_model.proofs.Callers.{IsIn, row_here, shared_row, private_row, row_clear, listing_is, page_is_in, one_page, count_in_frame, row_in_rows, all_at}
 use Rattle.esx_machine.specs.Questions.{is_hinted}
 
 -- A page in a frame.

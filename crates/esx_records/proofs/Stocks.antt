@@ -18,8 +18,7 @@ use Rattle.esx_model.specs.Show.{pages_in, pages_out, is_listed, row_of, frame_r
 use Rattle.esx_model.specs.Tables.{tables_of}
 use Rattle.esx_model.specs.sound.Machines.{IsVm, IsPlace}
 use Rattle.esx_model.specs.sound.Sound.{IsSound}
-use Rattle.esx_model.proofs.Lists.{all_append, all_map}
-use Rattle.esx_model.proofs.HintsKept.{all_filter}
+use Rattle.esx_model.proofs.Callers.{all_append, all_map, all_filter}
 use Rattle.esx_tables.specs.Readings.{row_at}
 use Rattle.esx_tables.specs.Sizes.{mark_count, vm_marks}
 use Rattle.esx_changes.specs.Counted.{IsOpen, ArePeriodsOpen}

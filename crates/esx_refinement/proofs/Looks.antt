@@ -29,10 +29,7 @@ use Rattle.esx_model.specs.event.Sharing as model
 use Rattle.esx_model.specs.sound.Frames.{key_of_row}
 use Rattle.esx_model.specs.sound.Hints.{AreOrdered}
 use Rattle.esx_model.specs.sound.Sound.{IsSound}
-use Rattle.esx_model.proofs.Callers.{IsIn, page_is_in, row_here, shared_row, private_row, row_by, row_clear, listing_is, row_in_rows, one_hint, other_hint_private}
-use Rattle.esx_model.proofs.Lists.{chosen, find_passes, find_in, all_middle, some_same, eqb_same}
-use Rattle.esx_model.proofs.OnePage.{nothing_passes}
-use Rattle.esx_model.proofs.event.Sharing.{no_share, frame_below, place_within}
+use Rattle.esx_model.proofs.Callers.{IsIn, page_is_in, row_here, shared_row, private_row, row_by, row_clear, listing_is, row_in_rows, one_hint, other_hint_private, chosen, find_passes, find_in, all_middle, some_same, eqb_same, nothing_passes, no_share, frame_below, place_within}
 use Rattle.esx_sharing.specs.Sharing.{look_at_shared, look_at_hinted, look_at_hint, look_by_key, look_in}
 
 -- The one row of a table that passes a test.

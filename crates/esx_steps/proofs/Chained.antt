@@ -11,7 +11,7 @@ use Rattle.esx_model.specs.Site.{vm_at}
 use Rattle.esx_model.specs.Hints.{with_place, with_change, placed}
 use Rattle.esx_model.specs.event.Balloon.{popped}
 use Rattle.esx_model.specs.sound.Sound.{IsSound}
-use Rattle.esx_model.proofs.Lists.{some_same}
+use Rattle.esx_model.proofs.Callers.{some_same}
 use Rattle.esx_steps.specs.Numbers.{HasNumbers}
 use Rattle.esx_steps.proofs.Numbers.{numbers}
 

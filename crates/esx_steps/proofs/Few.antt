@@ -9,7 +9,7 @@ use Rattle.esx_model.specs.Places.{is_here, is_here_at, contents}
 use Rattle.esx_model.specs.Site.{vm_at, place_at, pages_at, pages_of}
 use Rattle.esx_model.specs.event.Sharing.{look, after_look}
 use Rattle.esx_model.specs.sound.Sound.{IsSound}
-use Rattle.esx_model.proofs.event.Sharing.{look_sound}
+use Rattle.esx_model.proofs.Callers.{look_sound}
 
 few_of : (f : ℕ) (o : Option Vm) → ((v : Vm) → o ≡ Some v → length v.places ≤ 65536) → pages_of f o ≤ 65536
 few_of f None h = omega arith

@@ -5,7 +5,7 @@ use Rattle.std.specs.List.{flat_map, find}
 use Rattle.std.proofs.lemmas.Grind.{flat_map-append}
 use Rattle.std.proofs.lemmas.List.{append-nil, take_more}
 use Rattle.std.proofs.lemmas.List.Folds.{find-append}
-use Rattle.esx_model.proofs.Lists.{split_at_index}
+use Rattle.esx_model.proofs.Callers.{split_at_index}
 
 -- the lists of the first elements have none, so the first one is in those of the others
 pub find_past : {A X : Type 0} (q : X → Bool) (f : A → List X) (xs ys : List A) → find q (flat_map f xs) ≡ None → find q (flat_map f (xs ++ ys)) ≡ find q (flat_map f ys)

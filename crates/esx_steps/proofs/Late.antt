@@ -13,7 +13,7 @@ use Rattle.esx_model.specs.Site.{vm_at, place_at, resident, free_count}
 use Rattle.esx_model.specs.sound.Sound.{IsSound}
 use Rattle.esx_model.specs.event.Outcome.{standing, is_running}
 use Rattle.esx_model.specs.event.Paging.{is_too_early, swap_out, is_above_min, replace}
-use Rattle.esx_model.proofs.ReserveLaws.{swap_out_goes, replace_goes}
+use Rattle.esx_model.proofs.Callers.{swap_out_goes, replace_goes}
 
 pub swap_out_late : (c : Config) (s : Site) (level : Level) (n word : ℕ) (v : Vm) → IsSound c s → vm_at s n ≡ Some v → is_too_early level (standing v) ≡ false → v.target < resident v → IsOk (swap_out c s level n word)
 swap_out_late c s level n word v sound there early above =

@@ -8,7 +8,7 @@ use Rattle.esx_formulas.specs.declared.activity.Period.{Period}
 use Rattle.esx_formulas.specs.Estimates.{IsEstimate}
 use Rattle.esx_model.specs.declared.scene.Vm.{Vm}
 use Rattle.esx_model.specs.sound.Machines.{IsVm, IsPeriod, IsPeriodOrNone, FitsState}
-use Rattle.esx_model.proofs.Lists.{some_same}
+use Rattle.esx_model.proofs.Callers.{some_same}
 use Rattle.esx_steps.specs.Numbers.{HasNumbers}
 
 few_overhead : (v : Vm) (s : VmState) → FitsState v s → length v.overhead ≤ v.spec.overhead

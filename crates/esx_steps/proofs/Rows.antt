@@ -8,7 +8,7 @@ use Rattle.esx_model.specs.declared.scene.Site.{Site}
 use Rattle.esx_model.specs.Site.{vm_at}
 use Rattle.esx_model.specs.event.Rebalancing.{row_of_vm, rows_from, rows_of, min_of}
 use Rattle.esx_model.specs.sound.Sound.{IsSound}
-use Rattle.esx_model.proofs.RowsOfSite.{rows_of_sound}
+use Rattle.esx_model.proofs.Callers.{rows_of_sound}
 
 pub rows_none : (s : Site) (i : ℕ) → i < length s.vms → vm_at s i ≡ None → rows_from min_of i (drop i s.vms) ≡ rows_from min_of (i + 1) (drop (i + 1) s.vms)
 rows_none s i h none = at_drop_more (rows_from min_of i) s.vms i None h ∙ ap (λ o. rows_from min_of i (o ∷ drop (i + 1) s.vms)) none

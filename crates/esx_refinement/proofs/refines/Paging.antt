@@ -37,8 +37,7 @@ use Rattle.esx_model.specs.event.Paging as model
 use Rattle.esx_model.specs.event.Paging.{victim, swap_out_gate, swap_out}
 use Rattle.esx_model.specs.sound.Machines.{IsPlace}
 use Rattle.esx_model.specs.sound.Sound.{IsSound}
-use Rattle.esx_model.proofs.Callers.{Sees, look_sees, drawn_is_here, old_place, slot_unused, room_slot, placed_shown}
-use Rattle.esx_model.proofs.event.Sharing.{here_past, frame_below}
+use Rattle.esx_model.proofs.Callers.{Sees, look_sees, drawn_is_here, old_place, slot_unused, room_slot, placed_shown, here_past, frame_below}
 use Rattle.esx_tables.specs.declared.change.Change.TheVariants.{OfVm}
 use Rattle.esx_tables.specs.declared.change.VmPart.TheVariants.{PageAt}
 use Rattle.esx_tables.specs.Changes.{slots_traded, traded, exchanged}

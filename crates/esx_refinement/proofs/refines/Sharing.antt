@@ -41,10 +41,7 @@ use Rattle.esx_model.specs.event.Sharing as model
 use Rattle.esx_model.specs.event.Sharing.{scan_gate}
 use Rattle.esx_model.specs.sound.Machines.{IsPlace}
 use Rattle.esx_model.specs.sound.Sound.{IsSound}
-use Rattle.esx_model.proofs.Callers.{Room, IsIn, Sees, SeesPage, beside, old_place, room_shared, room_to_share, private_alone, row_here, shared_row, apart_frames, page_is_in, vm_placed_there, placed_shown, listing_is, row_in_rows, hinted_shown, count_in_frame, look_sees, not_not}
-use Rattle.esx_model.proofs.Lists.{rows_same, rows_move}
-use Rattle.esx_model.proofs.event.Balloon.{below_max}
-use Rattle.esx_model.proofs.event.Sharing.{frame_below, here_past, place_within, share_marked}
+use Rattle.esx_model.proofs.Callers.{Room, IsIn, Sees, SeesPage, beside, old_place, room_shared, room_to_share, private_alone, row_here, shared_row, apart_frames, page_is_in, vm_placed_there, placed_shown, listing_is, row_in_rows, hinted_shown, count_in_frame, look_sees, not_not, rows_same, rows_move, below_max, frame_below, here_past, place_within, share_marked}
 use Rattle.esx_tables.specs.declared.change.Change.TheVariants.{OfVm}
 use Rattle.esx_tables.specs.declared.change.VmPart.TheVariants.{PageAt}
 use Rattle.esx_tables.specs.Changes.{traded, exchanged}

@@ -2,7 +2,7 @@ use Rattle.std.proofs.Common.{◌+◌, drop, arith, sym, ap, ◌∙◌, subst}
 use Rattle.esx_model.specs.declared.scene.Scene.{Scene}
 use Rattle.esx_model.specs.sound.Sound.{IsSound}
 use Rattle.esx_model.specs.Replay.{run, run_from, after_one}
-use Rattle.esx_model.proofs.EverySound.{opening_sound, every_event_sound}
+use Rattle.esx_model.proofs.Callers.{opening_sound, every_event_sound}
 use Rattle.esx_plain.proofs.Paths.{run_more, run_none, fault_runs}
 use Rattle.esx_plain.proofs.path.run.Goals as goal
 
