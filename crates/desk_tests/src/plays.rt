@@ -11,7 +11,7 @@ use crate::signs::first_byte;
 use esx_console::Console;
 use esx_desk::laws::whole_pass_has_a_console;
 use esx_desk::{Desk, Gate, Gauge, Pass, TryFault};
-use esx_events::{Call, Refusal, Said};
+use esx_events::{Call, Refusal, Reply, Said};
 use esx_types::Ids;
 use std::alloc::{AllocError, Global};
 use std::sync::Wait;
@@ -130,6 +130,30 @@ pub fn write_and_look<R: Threads + Wait + Sync>(
     );
     let (first, turn) = written?;
     Ok((first, turn, look))
+}
+
+/// Gives up at once.
+#[derive(Drop)]
+struct Shut;
+
+impl Gate for Shut {
+    fn pass_through(&mut self, _turn: u32) -> bool {
+        false
+    }
+}
+
+/// A call through a gate that gives up.
+pub fn write_past_a_shut_gate<R: Wait>(
+    rt: &R,
+    alloc: Global,
+    desk: &Desk,
+    pass: &mut Pass,
+) -> Result<Reply, AllocError>
+    requires { IsOf desk.now pass.old }
+    ensures { IsOf desk.now pass.new }
+{
+    let call = write(alloc, guest(0), 0, 0x2a)?;
+    desk.submit_through(rt, pass, call, &mut Shut)
 }
 
 /// The first byte of the first page, read without waiting.

@@ -1,5 +1,5 @@
 -- What a check knows on its way through a text, and at its end.
-use Rattle.std.proofs.Common.{◌≡◌, inr, ℕ, ◌+◌, List, [], ◌∷◌, ◌++◌, ◌∙◌, ap, refl, append_assoc, append-nil, length}
+use Rattle.std.proofs.Common.{◌≡◌, inr, ℕ, ◌+◌, List, [], ◌∷◌, ◌++◌, ◌∙◌, ap, refl, append_assoc, append-nil, arith, ◌-◌, length}
 use Rattle.esx_types.specs.declared.config.Config.{Config}
 use Rattle.esx_model.specs.Console.{next_reply, lined}
 use Rattle.esx_console.specs.Calls.{opened_session}
@@ -7,11 +7,12 @@ use Rattle.esx_console.specs.Unlogged.{Kept, AnswersAs}
 use Rattle.esx_replies.specs.Replies.{reply_text}
 use Rattle.esx_session.specs.declared.session.Entry.{Entry}
 use Rattle.esx_session.specs.Sessions.{Reads}
-use Rattle.esx_session.specs.Reading.{Reader, Follows, IsNextLine}
+use Rattle.esx_session.specs.Reading.{Reader, Follows}
 use Rattle.esx_check.specs.declared.check.Checked.TheVariants.{Same, Differs}
 use Rattle.esx_check.specs.Again.{made, replies_again}
 use Rattle.esx_check.specs.Checks.{ChecksText, replies_told}
-use Rattle.esx_check.specs.Gates.{GoesToInText, GoesToBadLine}
+use Rattle.esx_check.specs.Gates.{GoesToInText, ChecksBefore}
+use Rattle.esx_check.specs.Wants.{WantsMemory, CallWantsMemory}
 use Rattle.esx_check.proofs.AgainLemmas.{first_again, again_more, again_nothing}
 use Rattle.esx_check.proofs.CheckLemmas.{same_more, differs_here, one_longer, goes_through, goes_to_next}
 
@@ -78,32 +79,42 @@ goes_to_one_more text calls next console count e so_far follows =
     let done = so_far.done ++ e ∷ [] in
     inr (so_far.site, done, (next, follows), goes_to_next so_far.site done so_far.done [] e count refl so_far.same so_far.counted)
 
--- where the line behind the calls that were made is bad
-pub bad_behind_last : (text : List ℕ) (calls : Reader) (console : Kept) (count line : ℕ) → SoFar text calls console count → IsNextLine line calls.at → GoesToBadLine text line count
-bad_behind_last text calls console count line so_far next = inr (record {
+-- where a reader stops behind the calls that were made
+pub stops_behind_last : (text : List ℕ) (Stops : Reader → Type 0) (calls : Reader) (console : Kept) (count : ℕ) → SoFar text calls console count → Stops calls
+    → ChecksBefore text Stops count
+stops_behind_last text Stops calls console count so_far stops = record {
   site = so_far.site;
   entries = so_far.done;
   reader = calls;
   follows = so_far.follows;
-  next = next;
+  stops = stops;
   checked = Same count;
   checks = (so_far.counted, so_far.same);
   made = refl;
-})
+}
 
--- where a line behind a call with another reply is
-pub bad_behind_difference : (text : List ℕ) (calls reader : Reader) (console : Kept) (count line : ℕ) (e : Entry) (so_far : SoFar text calls console count) (later : List Entry)
-    → Follows text so_far.site ((so_far.done ++ e ∷ []) ++ later) reader → IsNextLine line reader.at
-    → (reply_text (next_reply (made so_far.site so_far.done) e.call) ≡ e.reply → ⊥) → GoesToBadLine text line (count + 1)
-bad_behind_difference text calls reader console count line e so_far later follows next other =
+-- where it stops behind a call with another reply
+pub stops_behind_difference : (text : List ℕ) (Stops : Reader → Type 0) (calls reader : Reader) (console : Kept) (count : ℕ) (e : Entry) (so_far : SoFar text calls console count)
+    (later : List Entry) → Follows text so_far.site ((so_far.done ++ e ∷ []) ++ later) reader → Stops reader
+    → (reply_text (next_reply (made so_far.site so_far.done) e.call) ≡ e.reply → ⊥) → ChecksBefore text Stops (count + 1)
+stops_behind_difference text Stops calls reader console count e so_far later follows stops other =
     let entries = (so_far.done ++ e ∷ []) ++ later in
-    inr (record {
+    record {
       site = so_far.site;
       entries = entries;
       reader = reader;
       follows = follows;
-      next = next;
+      stops = stops;
       checked = Differs (count + 1);
       checks = differs_here so_far.site entries so_far.done later e count (append_assoc so_far.done (e ∷ []) later) so_far.same other so_far.counted;
       made = refl;
-    })
+    }
+
+-- where the last call that was made wants memory
+pub wants_at_call : (text : List ℕ) (calls next : Reader) (console : Kept) (count : ℕ) (e : Entry) (so_far : SoFar text calls console count)
+    → Follows text so_far.site (so_far.done ++ e ∷ []) next → WantsMemory so_far.site so_far.done e.call → CallWantsMemory text (count + 1)
+wants_at_call text calls next console count e so_far follows wants =
+    let done = so_far.done ++ e ∷ [] in
+    let goes = goes_to_next so_far.site done so_far.done [] e count refl so_far.same so_far.counted in
+    let before : count + 1 - 1 ≡ length so_far.done = omega (arith, so_far.counted) in
+    (so_far.site, done, (next, follows), (goes, inr (record { done = so_far.done; later = e ∷ []; split = refl; number = before; wants = wants })))

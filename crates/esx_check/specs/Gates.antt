@@ -31,22 +31,22 @@ BeginsWith text site entries = (reader : Reader) × Follows text site entries re
 abbrev pub GoesToInText : List ℕ → ℕ → Type 0
 GoesToInText text n = (n ≡ 0) ⊎ ((site : Config) × (entries : List Entry) × BeginsWith text site entries × GoesTo site entries n)
 
--- The text begins with the opening of this site and with these calls, the line is one of the two that come next, and
--- a check of the calls comes to this, with n of them made.
-pub record ChecksBefore (text : List ℕ) (line n : ℕ) : Type 0 where
+-- The text begins with the opening of this site and with these calls, a reader behind them stops, and a check of the
+-- calls comes to this, with n of them made.
+pub record ChecksBefore (text : List ℕ) (Stops : Reader → Type 0) (n : ℕ) : Type 0 where
   pub site : Config
   pub entries : List Entry
   pub reader : Reader
   pub follows : Follows text site entries reader
-  pub next : IsNextLine line reader.at
+  pub stops : Stops reader
   pub checked : Checked
   pub checks : Checks site entries checked
   pub made : n ≡ calls_made checked
 
 -- How many calls are made where this line of the text is bad: none if the first two lines are no opening, and else
--- those that a check of the calls before the line makes.
+-- those that a check of the calls before the line makes, the line being one of the two that come next.
 abbrev pub GoesToBadLine : List ℕ → (line : ℕ) → ℕ → Type 0
-GoesToBadLine text line n = ((n ≡ 0) × (HasOpening text → ⊥)) ⊎ ChecksBefore text line n
+GoesToBadLine text line n = ((n ≡ 0) × (HasOpening text → ⊥)) ⊎ ChecksBefore text (λ reader. IsNextLine line reader.at) n
 
 module _ {G : Type 0} (passes : G → ℕ → Bool → G → Type 0) where
   -- it was passed for each of the calls 1 to n, once and in this order, whatever it answered

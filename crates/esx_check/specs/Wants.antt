@@ -6,8 +6,9 @@ use Rattle.esx_events.specs.declared.call.Call.TheVariants.{Table}
 use Rattle.esx_model.specs.Console.{history}
 use Rattle.esx_console.specs.Hearing.{MayLackMemory, ComesToMemory}
 use Rattle.esx_session.specs.declared.session.Entry.{Entry}
+use Rattle.esx_session.specs.Reading.{NextTakesMemory}
 use Rattle.esx_check.specs.Again.{made}
-use Rattle.esx_check.specs.Gates.{GoesTo}
+use Rattle.esx_check.specs.Gates.{GoesTo, BeginsWith, ChecksBefore}
 
 -- the call that comes next: that of the first entry, or behind all of them the table
 abbrev pub next_call : List Entry → Call
@@ -30,3 +31,12 @@ pub record NextWantsMemory (site : Config) (entries : List Entry) (count : ℕ) 
 -- A check came to call n, or to none, and memory was wanting for it.
 abbrev pub RunsOut : Config → List Entry → ℕ → Type 0
 RunsOut site entries n = GoesTo site entries n × ((n ≡ 0) ⊎ NextWantsMemory site entries (n - 1))
+
+-- the same of the calls with which a text begins
+abbrev pub CallWantsMemory : List ℕ → ℕ → Type 0
+CallWantsMemory text n = (site : Config) × (entries : List Entry) × BeginsWith text site entries × RunsOut site entries n
+
+-- How many calls are made where memory runs out on the way through a text: none, as the site is opened; or the last of
+-- them wants memory; or all that a check of the calls before an entry makes, and memory is wanting to read that entry.
+abbrev pub RunsOutInText : List ℕ → ℕ → Type 0
+RunsOutInText text n = (n ≡ 0) ⊎ (CallWantsMemory text n ⊎ ChecksBefore text (λ reader. NextTakesMemory reader.at.left) n)

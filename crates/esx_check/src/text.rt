@@ -6,9 +6,10 @@ ghost use Rattle.esx_console.specs.Calls.{opened_session};
 ghost use Rattle.esx_console.specs.Unlogged.{AnswersAs};
 ghost use Rattle.esx_session.specs.declared.session.Entry.{Entry};
 ghost use Rattle.esx_session.specs.Sessions.{Reads, HasOpening, IsRefused};
-ghost use Rattle.esx_session.specs.Reading.{Follows, IsNextLine};
+ghost use Rattle.esx_session.specs.Reading.{Follows, IsNextLine, NextTakesMemory};
 ghost use Rattle.esx_check.specs.Checks.{ChecksText};
 ghost use Rattle.esx_check.specs.Gates.{calls_made, GoesToInText, GoesToBadLine, PassedFor, PassedForSome};
+ghost use Rattle.esx_check.specs.Wants.{RunsOutInText};
 
 use crate::again::Again;
 use crate::check::Checked;
@@ -25,6 +26,7 @@ fn read_on(alloc: Global, calls: &mut Calls) -> Result<(), TextFault>
     ensures err { (text : List ℕ) (site : Config) (done : List Entry) → Follows text site done calls.old
         → OnErr result ((later : List Entry) × Follows text site (done ++ later) calls.new) }
     ensures near { (line : ℕ) → IsErrOf result (TextFault.BadLine line) → IsNextLine line calls.new.at }
+    ensures wants { IsErrOf result TextFault.OutOfMemory → NextTakesMemory calls.new.at.left }
 {
     while let Some(_entry) = calls.next(alloc)? {}
     Ok(())
@@ -32,7 +34,7 @@ fn read_on(alloc: Global, calls: &mut Calls) -> Result<(), TextFault>
 
 /// Makes the calls of a text again as they are read, from the first on, and passes the gate before each. Where
 /// reading ends early it was passed for calls that stand in the text, and each but the last of them has its reply;
-/// at a bad line for those that a check of the calls before it makes.
+/// at a bad line, and where memory is wanting to read on, for those that a check of the calls before it makes.
 fn check_as_read<G: Gate>(
     alloc: Global,
     again: &mut Again,
@@ -50,6 +52,8 @@ fn check_as_read<G: Gate>(
         → OnErr result (PassedForSome G.passes (GoesToInText text) gate.old gate.new) }
     ensures bad { (text : List ℕ) (site : Config) (line : ℕ) → Follows text site [] calls.old → AnswersAs again.old.console (opened_session site)
         → IsErrOf result (TextFault.BadLine line) → PassedForSome G.passes (GoesToBadLine text line) gate.old gate.new }
+    ensures wants { (text : List ℕ) (site : Config) → Follows text site [] calls.old → AnswersAs again.old.console (opened_session site)
+        → IsErrOf result TextFault.OutOfMemory → PassedForSome G.passes (RunsOutInText text) gate.old gate.new }
 {
     let mut count: u64 = 0;
     while let Some(entry) = calls.next(alloc)? {
@@ -85,6 +89,8 @@ pub fn check_text(alloc: Global, text: &str) -> Result<Checked, TextFault>
 /// Where memory runs out, or a line is bad, the gate was passed for the first calls of the text, for none that does
 /// not stand there, and for none behind the first that has another reply. Where a line is bad, these are all that a
 /// check of the calls before the line makes, so a bad line is told behind them; a bad opening is told before any.
+/// Memory runs out as the site is opened, before any call; at a call that takes memory, which is the last for which
+/// the gate was passed; or as an entry is read, behind all that a check of the calls before it makes.
 pub fn check_text_through<G: Gate>(
     alloc: Global,
     text: &str,
@@ -96,6 +102,7 @@ pub fn check_text_through<G: Gate>(
     ensures gate { IfOk result (λ checked. PassedFor G.passes (calls_made checked) gate.old gate.new) }
     ensures some { OnErr result (PassedForSome G.passes (GoesToInText text.now) gate.old gate.new) }
     ensures bad { (line : ℕ) → IsErrOf result (TextFault.BadLine line) → PassedForSome G.passes (GoesToBadLine text.now line) gate.old gate.new }
+    ensures wants { IsErrOf result TextFault.OutOfMemory → PassedForSome G.passes (RunsOutInText text.now) gate.old gate.new }
 {
     let (site, mut calls) = open_calls(text)?;
     let Ok(mut again) = Again::open(alloc, site) else {

@@ -4,10 +4,11 @@ use desk_tests::calls::OPENING;
 use desk_tests::crowd::{TURNS, share};
 use desk_tests::plays::{
     alone, closed, goes_on, parts_and_meets, read_byte, started, write_and_look,
+    write_past_a_shut_gate,
 };
 use desk_tests::replays::{callers_of, count_of, gauges_along, in_order};
 use esx_desk::Gauge;
-use esx_events::Refusal;
+use esx_events::{Refusal, Said};
 use esx_types::Level;
 use std::test::Fail;
 
@@ -47,6 +48,15 @@ fn a_gate_keeps_the_console(rt: HostRuntime) -> Result<(), Fail> {
         callers_of(rt.alloc(), console.log())?.as_slice(),
         [0, 0, 0, 1].as_slice()
     );
+    Ok(())
+}
+
+#[test]
+fn a_gate_that_gives_up_keeps_no_call_back(rt: HostRuntime) -> Result<(), Fail> {
+    let (desk, mut first, mut second) = started(&rt, rt.alloc())?;
+    let reply = write_past_a_shut_gate(&rt, rt.alloc(), &desk, &mut first)?;
+    assert!(rt; matches!(reply.said, Said::Done { .. }));
+    assert_eq!(rt; read_byte(&desk, &mut second), Some(0x2a));
     Ok(())
 }
 

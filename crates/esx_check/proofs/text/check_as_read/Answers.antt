@@ -1,9 +1,10 @@
-use Rattle.std.proofs.Common.{sym, ◌∙◌, ap, arith, ◌+◌, ◌++◌, ◌∷◌, []}
+use Rattle.std.proofs.Common.{inl, inr, sym, ◌∙◌, ap, arith, ◌+◌, ◌++◌, ◌∷◌, []}
 use Rattle.std.proofs.lemmas.Result.{err_from_is_err_and}
 use Rattle.esx_check.specs.Again.{made}
+use Rattle.esx_check.specs.Wants.{WantsMemory}
 use Rattle.esx_check.proofs.CheckLemmas.{is_not}
 use Rattle.esx_check.proofs.GateLemmas.{passed_none, passed_more, some_of, some_more, on_err}
-use Rattle.esx_check.proofs.TextLemmas.{nothing_so_far, one_more_so_far, all_same, one_differs, goes_to_last, goes_to_one_more, bad_behind_last, bad_behind_difference}
+use Rattle.esx_check.proofs.TextLemmas.{nothing_so_far, one_more_so_far, all_same, one_differs, goes_to_last, goes_to_one_more, stops_behind_last, stops_behind_difference, wants_at_call}
 use Rattle.esx_check.proofs.text.check_as_read.Goals as goal
 
 pub loop-entry-init : goal.loop-entry-init
@@ -83,7 +84,7 @@ returns-in_err-entry-clause-bad g c = λ text site line follows answers is.
     let p = err_from_is_err_and c.from_residual.result c.from_residual.ensures.1 in
     let bad = rw (p.1, p.2) at is in
     let near = c.in_err-entry.ensures.near line (cc) in
-    some_of _ _ _ _ _ (bad_behind_last text _ _ _ line so_far near) c.loop-entry.invariant.gate
+    some_of _ _ _ _ _ (inr (stops_behind_last text _ _ _ _ so_far near)) c.loop-entry.invariant.gate
 
 pub returns-in_err-read_on-clause-bad : goal.returns-in_err-read_on-clause-bad
 returns-in_err-read_on-clause-bad g c = λ text site line follows answers is.
@@ -94,4 +95,31 @@ returns-in_err-read_on-clause-bad g c = λ text site line follows answers is.
     let bad = rw (p.1, p.2) at is in
     let near = c.in_err-read_on.ensures.near line (cc) in
     let other = is_not _ _ (c.in-Ok.ensures.same (made so_far.site so_far.done) so_far.answers) c.if-not-same.true in
-    some_more _ _ _ _ _ _ (bad_behind_difference text _ _ _ _ line c.in-Some.entry so_far on.0 on.1 near other) c.loop-entry.invariant.gate c.in-Ok.ensures.gate
+    some_more _ _ _ _ _ _ (inr (stops_behind_difference text _ _ _ _ _ c.in-Some.entry so_far on.0 on.1 near other)) c.loop-entry.invariant.gate c.in-Ok.ensures.gate
+
+pub returns-in_err-entry-clause-wants : goal.returns-in_err-entry-clause-wants
+returns-in_err-entry-clause-wants g c = λ text site follows answers is.
+    let so_far = c.loop-entry.invariant.so_far text site follows answers in
+    let p = err_from_is_err_and c.from_residual.result c.from_residual.ensures.1 in
+    let out = rw (p.1, p.2) at is in
+    let wants = c.in_err-entry.ensures.wants (cc) in
+    some_of _ _ _ _ _ (inr (inr (stops_behind_last text _ _ _ _ so_far wants))) c.loop-entry.invariant.gate
+
+pub returns-in_default-has_same_reply-clause-wants : goal.returns-in_default-has_same_reply-clause-wants
+returns-in_default-has_same_reply-clause-wants g c = λ text site follows answers is.
+    let so_far = c.loop-entry.invariant.so_far text site follows answers in
+    let next = rw c.in-Some.is at (c.in_ok-entry.ensures.some text so_far.site so_far.done so_far.follows) in
+    let call = c.in_default-has_same_reply.ensures in
+    let wants : WantsMemory so_far.site so_far.done c.in-Some.entry.call = record { may = call.room (cc); comes = call.there (made so_far.site so_far.done) so_far.answers (cc) } in
+    some_more _ _ _ _ _ _ (inr (inl (wants_at_call text _ _ _ _ c.in-Some.entry so_far next wants))) c.loop-entry.invariant.gate call.gate
+
+pub returns-in_err-read_on-clause-wants : goal.returns-in_err-read_on-clause-wants
+returns-in_err-read_on-clause-wants g c = λ text site follows answers is.
+    let so_far = c.loop-entry.invariant.so_far text site follows answers in
+    let p = err_from_is_err_and c.from_residual-in_err-read_on.result c.from_residual-in_err-read_on.ensures.1 in
+    let next = rw c.in-Some.is at (c.in_ok-entry.ensures.some text so_far.site so_far.done so_far.follows) in
+    let on = c.in_err-read_on.ensures.err text so_far.site (so_far.done ++ c.in-Some.entry ∷ []) next in
+    let out = rw (p.1, p.2) at is in
+    let wants = c.in_err-read_on.ensures.wants (cc) in
+    let other = is_not _ _ (c.in-Ok.ensures.same (made so_far.site so_far.done) so_far.answers) c.if-not-same.true in
+    some_more _ _ _ _ _ _ (inr (inr (stops_behind_difference text _ _ _ _ _ c.in-Some.entry so_far on.0 on.1 wants other))) c.loop-entry.invariant.gate c.in-Ok.ensures.gate

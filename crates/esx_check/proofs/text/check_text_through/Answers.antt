@@ -13,3 +13,12 @@ returns-in_err-site-clause-bad g c = λ line is. some_none _ _ _ (inl (refl, c.i
 
 pub returns-clause-bad : goal.returns-clause-bad
 returns-clause-bad g c = λ line is. c.check_as_read.ensures.bad c.args.text.now c.in_ok-site.site line c.in_ok-site.ensures.ok c.in-Ok.ensures.answers is
+
+pub returns-in_err-site-clause-wants : goal.returns-in_err-site-clause-wants
+returns-in_err-site-clause-wants g c = λ is. some_none _ _ _ (inl refl)
+
+pub returns-in_default-clause-wants : goal.returns-in_default-clause-wants
+returns-in_default-clause-wants g c = λ is. some_none _ _ _ (inl refl)
+
+pub returns-clause-wants : goal.returns-clause-wants
+returns-clause-wants g c = λ is. c.check_as_read.ensures.wants c.args.text.now c.in_ok-site.site c.in_ok-site.ensures.ok c.in-Ok.ensures.answers is

@@ -33,3 +33,9 @@ returns-in_err-_entry-clause-near c = λ line is.
     let p = err_from_is_err_and c.from_residual.result c.from_residual.ensures.1 in
     let bad = rw (p.1, p.2) at is in
     rw c.in_err-_entry.ensures.refused (c.in_err-_entry.ensures.near line (cc))
+
+pub returns-in_err-_entry-clause-wants : goal.returns-in_err-_entry-clause-wants
+returns-in_err-_entry-clause-wants c = λ is.
+    let p = err_from_is_err_and c.from_residual.result c.from_residual.ensures.1 in
+    let out = rw (p.1, p.2) at is in
+    rw c.in_err-_entry.ensures.refused (c.in_err-_entry.ensures.wants (cc))
