@@ -1,5 +1,5 @@
 -- The lines of a text, one by one.
-use Rattle.std.proofs.Common.{◌≡◌, ◌≢◌, ◌<◌, ◌≤◌, ◌-◌, ℕ, zero, suc, List, Bool, true, false, inl, inr, [], ◌∷◌, ◌++◌, length, get_or, take, arith, refl, sym, ap, ◌∙◌, cond, lit<}
+use Rattle.std.proofs.Common.{◌≡◌, ◌≢◌, ◌<◌, ◌≤◌, ◌-◌, ℕ, zero, suc, List, Bool, true, false, inl, inr, [], ◌∷◌, ◌++◌, length, get_or, take, arith, refl, sym, ap, ◌∙◌, cond}
 use Rattle.std.specs.Prelude.{Option, None, Some, MatchOption}
 use Rattle.std.specs.Borrow.{Bor}
 use Rattle.std.specs.List.{All, AllByRecursion, slice_split, onto_first, position_or_len, before_first, after_first}
@@ -12,7 +12,6 @@ use Rattle.std.proofs.lemmas.Bool.{cases_lt}
 use Rattle.std.proofs.lemmas.Bool.Decides.{Decides-eqb, not_from_Decides}
 use Rattle.std.proofs.lemmas.List.{get_or-take}
 use Rattle.std.proofs.lemmas.List.Elements.{All-from_get_or, All-weaker, recursion_from_All}
-use Rattle.std.proofs.lemmas.Str.Pattern.{IsSplitOnceResult, split_parts}
 use Rattle.std.proofs.lemmas.List.Splits.{slice_split_at, slice_split_first, slice_split_none, slice_split-cons_yes, slice_split-cons_no, length-slice_split}
 use Rattle.std.proofs.lemmas.List.Sums.{fails_before_first}
 use Rattle.esx_reading.proofs.FieldLemmas.{no_match}
@@ -148,11 +147,3 @@ lines_of_parts_feed (x ∷ y ∷ parts) h = (stripped_part x h.0, lines_of_parts
 
 pub lines_feed : (text : List ℕ) → AllByRecursion HasNoFeed (lines text)
 lines_feed text = lines_of_parts_feed (slice_split (λ b. eqb b 10) text) (parts_feed text)
-
--- the text on both sides of the first line feed
-pub parted_at_feed : (text : List ℕ) (r : Option (Bor (List ℕ) × Bor (List ℕ))) → IsSplitOnceResult 10 text r
-    → MatchOption r (All (λ b. b ≡ 10 → ⊥) text) (λ p. All (λ b. b ≡ 10 → ⊥) p.0.now × (text ≡ p.0.now ++ 10 ∷ p.1.now))
-parted_at_feed text None h = All-from_get_or (λ b. b ≡ 10 → ⊥) text 0 (split_parts 10 text None h (lit< tt))
-parted_at_feed text (Some p) h =
-    let parts = split_parts 10 text (Some p) h (lit< tt) in
-    (All-from_get_or (λ b. b ≡ 10 → ⊥) p.0.now 0 parts.1, parts.0)

@@ -12,7 +12,8 @@ use std::marker::Model;
 fn split_at_feed<'a>(text: &'a str) -> Option<(&'a str, &'a str)>
     ensures { MatchOption result (All (λ b. b ≡ 10 → ⊥) text.now) (λ p. All (λ b. b ≡ 10 → ⊥) p.0.now × (text.now ≡ p.0.now ++ 10 ∷ p.1.now)) }
 {
-    text.split_once('\n')
+    let at = text.as_bytes().iter().position(|byte| *byte == b'\n')?;
+    Some((&text[..at], &text[at + 1..]))
 }
 
 /// Whether a text begins with the first byte of a reply's line.
