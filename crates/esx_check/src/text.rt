@@ -73,8 +73,8 @@ fn check_as_read<G: Gate>(
 /// than the one that stands with it. From there on the text is only read: a bad line behind a difference is
 /// the fault all the same.
 ///
-/// Beside the text and the tables of the site there is one entry at a time. Memory is taken behind the first two
-/// lines alone.
+/// Beside the text, the tables of the site and what undoes its events there is one entry at a time. Memory is taken
+/// behind the first two lines alone.
 pub fn check_text(alloc: Global, text: &str) -> Result<Checked, TextFault>
     ensures ok { IfOk result (ChecksText text.now) }
     ensures only { IfErr result (λ e. IsRefused e text.now) }

@@ -9,20 +9,23 @@ use mathlib.Core.Logic.{dite}
 use Rattle.atomic_table.specs.Seated.{TableId}
 use Rattle.esx_types.specs.declared.ids.Ids.{Ids}
 use Rattle.esx_types.specs.declared.config.Config.{Config}
+use Rattle.esx_events.specs.declared.call.Call.{Call}
+use Rattle.esx_events.specs.declared.call.Reply.{Reply}
 use Rattle.esx_events.specs.declared.call.Line.{Line}
 use Rattle.esx_types.specs.Ids.{has, IsLeast}
 use Rattle.esx_model.specs.Console.{Session}
 use Rattle.esx_lock.specs.Logs.{Callers, OthersOf}
+use Rattle.esx_lock.specs.declared.view.View.{View}
 use Rattle.esx_lock.specs.Passes.{LockView, Known, Meet, IsOpened, AreOpened}
-use Rattle.esx_desk.specs.Told.{IsOf}
+use Rattle.esx_desk.specs.Told.{IsOf, HadIt}
 use Rattle.esx_work.specs.declared.run.Finished.{Finished}
 use Rattle.esx_workers.specs.declared.end.End.{End}
 use Rattle.esx_workers.specs.declared.worker.Worker.{Worker}
-use Rattle.esx_workers.specs.Runs.{IsRun, Ended, Gated, IsGated, Broken, IsBroken, Stopped, StopsShort}
+use Rattle.esx_workers.specs.Runs.{IsRun, Ended, Gated, IsGated, Broken, IsBroken, Short}
 use Rattle.esx_door.specs.Own.{lines_of}
 use Rattle.esx_work.specs.Doors.{IsReady, Leads}
 use Rattle.esx_work.specs.Growth.{callers_joined}
-use Rattle.esx_work.specs.Runs.{CanRun, Ran, IsReturned, AreReturned, AreOwn, Knows, RunsOn}
+use Rattle.esx_work.specs.Runs.{CanRun, WantsMemory, Ran, IsReturned, AreReturned, AreOwn, Knows, RunsOn}
 use Rattle.esx_work.proofs.Owns.{lines_append, lines_of_others, least_same, below_others}
 
 module _ {A E : Type 0} where
@@ -30,7 +33,7 @@ module _ {A E : Type 0} where
   if_ok_map P Q f (Ok a) p = f a p
   if_ok_map P Q f (Err e) p = tt
 
-  on_err_map : (P Q : Type 0) → (P → Q) → (r : Result A E) → OnErr r P → OnErr r Q
+  pub on_err_map : (P Q : Type 0) → (P → Q) → (r : Result A E) → OnErr r P → OnErr r Q
   on_err_map P Q f (Ok a) p = tt
   on_err_map P Q f (Err e) p = f p
 
@@ -41,10 +44,24 @@ module _ {A E : Type 0} where
 went_on : (k : ℕ) (seen later seen' lines : List Line) → seen ++ later ≡ seen' → lines_of k seen' ≡ lines_of k seen ++ lines → lines ≡ lines_of k later
 went_on k seen later seen' lines grown more = sym (append_cancel_left (lines_of k seen) (lines_of k later) lines (sym (lines_append k seen later) ∙ (ap (lines_of k) grown ∙ more)))
 
+-- the caller's lines where memory was wanting for one more, and what it was wanting for
+pub record Wanting {G : Type 0} (passes : G → ℕ → Bool → G → Type 0) (g h : G) (w : Worker) (view : View) (before after : List Line) : Type 0 where
+  pub lines : List Line
+  pub more : after ≡ before ++ lines
+  pub how : WantsMemory passes g h w view lines
+
+pub wanting : {G D : Type 0} (passes : G → ℕ → Bool → G → Type 0) (made : D → Call → Reply → D → Type 0) (wanted : D → Call → D → Type 0) (g h : G) (d e : D) (w : Worker) (view : View) (before after : List Line)
+    → ((m : D) (call : Call) → wanted m call e → HadIt view) → Short passes made wanted g h d e w before after → Wanting passes g h w view before after
+wanting passes made wanted g h d e w view before after had short = record {
+  lines = short.lines;
+  more = short.more;
+  how = ⊎_elim (λ asked. inl (asked.0, asked.2)) (λ called. inr (called.0, (called.2, called.4), had called.1 called.2 called.5)) short.how;
+}
+
 -- one worker, through its door and its gate
 pub one_ran : {G : Type 0} (is_open : G → Type 0) (passes : G → ℕ → Bool → G → Type 0) (gate : G) (desk desk' : LockView) (p : Known) (f : Finished G) (k j : ℕ) (w : Worker) (turns : ℕ) → IsReady desk p k → IsReady desk' f.pass j → Leads desk desk' p f.pass
     → IfOk f.ended (λ end. Ended (is_open gate) k w turns end (lines_of k p.view.seen) (lines_of k f.pass.view.seen)) → IfOk f.ended (λ end. Gated passes gate f.gate w turns end (lines_of k p.view.seen) (lines_of k f.pass.view.seen))
-    → OnErr f.ended (Broken k w turns (lines_of k p.view.seen) (lines_of k f.pass.view.seen)) → OnErr f.ended (Stopped passes gate f.gate w (lines_of k p.view.seen) (lines_of k f.pass.view.seen)) → Ran is_open passes gate desk p w turns f
+    → OnErr f.ended (Broken k w turns (lines_of k p.view.seen) (lines_of k f.pass.view.seen)) → OnErr f.ended (Wanting passes gate f.gate w f.pass.view (lines_of k p.view.seen) (lines_of k f.pass.view.seen)) → Ran is_open passes gate desk p w turns f
 one_ran is_open passes gate desk desk' p f k j w turns ready ready' leads sent gated broken stopped =
     let later : List Line = leads.grown.0 in
     let old : List Line = lines_of k p.view.seen in
@@ -63,8 +80,8 @@ one_ran is_open passes gate desk desk' p f k j w turns ready ready' leads sent g
           (if_ok_map (λ end. Gated passes gate f.gate w turns end old new) (λ end. IsGated passes gate f.gate w turns end (lines_of k later)) (λ end s. subst (IsGated passes gate f.gate w turns end) (are s.lines s.more) s.gate) f.ended gated);
       broken = λ i least. subst (λ (c : ℕ). OnErr f.ended (IsBroken c w turns (lines_of c later))) (same i least)
           (on_err_map (Broken k w turns old new) (IsBroken k w turns (lines_of k later)) (λ s. subst (IsBroken k w turns) (are s.lines s.more) s.run) f.ended broken);
-      stopped = λ i least. subst (λ (c : ℕ). OnErr f.ended (StopsShort passes gate f.gate w (lines_of c later))) (same i least)
-          (on_err_map (Stopped passes gate f.gate w old new) (StopsShort passes gate f.gate w (lines_of k later)) (λ s. subst (StopsShort passes gate f.gate w) (are s.lines s.more) s.gate) f.ended stopped);
+      stopped = λ i least. subst (λ (c : ℕ). OnErr f.ended (WantsMemory passes gate f.gate w f.pass.view (lines_of c later))) (same i least)
+          (on_err_map (Wanting passes gate f.gate w f.pass.view old new) (WantsMemory passes gate f.gate w f.pass.view (lines_of k later)) (λ s. subst (WantsMemory passes gate f.gate w f.pass.view) (are s.lines s.more) s.how) f.ended stopped);
     }
 
 none_below : (p : Known) (i : ℕ) → ((k : ℕ) → has p.view.ids k ≡ true → k ≡ i) → (j : ℕ) → j < i → (b : Bool) → b ≡ has p.view.ids j → has p.view.ids j ≡ false
