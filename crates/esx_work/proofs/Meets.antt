@@ -55,7 +55,7 @@ pub wanting : {G D : Type 0} (passes : G → ℕ → Bool → G → Type 0) (mad
 wanting passes made wanted g h d e w view before after had short = record {
   lines = short.lines;
   more = short.more;
-  how = ⊎_elim (λ asked. inl (asked.0, asked.2)) (λ called. inr (called.0, (called.2, called.4), had called.1 called.2 called.5)) short.how;
+  how = ⊎_elim (λ asked. inl (asked.0, asked.2)) (λ called. inr (called.0, (called.1.1, called.1.3), had called.1.0 called.1.1 called.1.4)) short.how;
 }
 
 -- one worker, through its door and its gate
