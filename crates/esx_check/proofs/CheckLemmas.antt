@@ -76,10 +76,6 @@ differs_here site entries done later e count split same other is =
       rw (← point.long) (part_of (length (replies_told done)) _ _ _ _ point.told point.again (part_at_seam (replies_told done) (replies_told later) point.more e.reply reply (λ e. other (sym e)))),
     )
 
--- before the first call
-pub goes_nowhere : (site : Config) (entries : List Entry) → GoesTo site entries 0
-goes_nowhere site entries = record { within = omega arith; same = refl }
-
 -- where each call that was made has its reply
 pub goes_through : (site : Config) (done : List Entry) (count : ℕ) → replies_again site done ≡ replies_told done → count ≡ length done → GoesTo site done count
 goes_through site done count same is = record { within = omega arith; same = ap (take (count - 1)) same }

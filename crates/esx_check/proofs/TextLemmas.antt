@@ -1,5 +1,5 @@
 -- What a check knows on its way through a text, and at its end.
-use Rattle.std.proofs.Common.{◌≡◌, inr, ℕ, ◌+◌, List, [], ◌∷◌, ◌++◌, ◌∙◌, ap, refl, append_assoc, append-nil, arith, ◌-◌, length}
+use Rattle.std.proofs.Common.{◌≡◌, inr, ℕ, ◌+◌, List, [], ◌∷◌, ◌++◌, ◌∙◌, ap, refl, append_assoc, append-nil, length}
 use Rattle.esx_types.specs.declared.config.Config.{Config}
 use Rattle.esx_model.specs.Console.{next_reply, lined}
 use Rattle.esx_console.specs.Calls.{opened_session}
@@ -12,7 +12,7 @@ use Rattle.esx_check.specs.declared.check.Checked.TheVariants.{Same, Differs}
 use Rattle.esx_check.specs.Again.{made, replies_again}
 use Rattle.esx_check.specs.Checks.{ChecksText, replies_told}
 use Rattle.esx_check.specs.Gates.{GoesToInText, ChecksBefore}
-use Rattle.esx_check.specs.Wants.{WantsMemory, CallWantsMemory}
+use Rattle.esx_check.specs.Wants.{WantsMemory, NextWantsMemory, CallWantsMemory}
 use Rattle.esx_check.proofs.AgainLemmas.{first_again, again_more, again_nothing}
 use Rattle.esx_check.proofs.CheckLemmas.{same_more, differs_here, one_longer, goes_through, goes_to_next}
 
@@ -116,5 +116,5 @@ pub wants_at_call : (text : List ℕ) (calls next : Reader) (console : Kept) (co
 wants_at_call text calls next console count e so_far follows wants =
     let done = so_far.done ++ e ∷ [] in
     let goes = goes_to_next so_far.site done so_far.done [] e count refl so_far.same so_far.counted in
-    let before : count + 1 - 1 ≡ length so_far.done = omega (arith, so_far.counted) in
-    (so_far.site, done, (next, follows), (goes, inr (record { done = so_far.done; later = e ∷ []; split = refl; number = before; wants = wants })))
+    let at_call : NextWantsMemory so_far.site done count = record { done = so_far.done; later = e ∷ []; split = refl; number = so_far.counted; wants = wants } in
+    (so_far.site, done, (next, follows), (goes, (count, refl, at_call)))

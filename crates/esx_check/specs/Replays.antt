@@ -1,5 +1,5 @@
 -- What is written where a session is gone through again.
-use Rattle.std.specs.Prelude.{◌≡◌, ◌⊎◌, ℕ, List, ◌++◌, [], take, flat_map, Option, Result, Ok, Err}
+use Rattle.std.specs.Prelude.{ℕ, List, ◌++◌, [], take, flat_map, Option, Result, Ok, Err}
 use Rattle.std.specs.Io.KnownBytes.{Appends}
 use Rattle.esx_types.specs.declared.config.Config.{Config}
 use Rattle.esx_events.specs.declared.call.Call.TheVariants.{Table}
@@ -24,10 +24,10 @@ abbrev pub replay_text : Config → List Entry → List ℕ
 replay_text site entries = replies_text site entries ++ table_after site entries
 
 -- After a fault of writing a front was written; where memory ran out, the replies to the first calls, or to all, and it was
--- wanting for the next, if there were any.
+-- wanting for the next.
 abbrev pub ReplayStops : OutputFault → Config → List Entry → Option (List ℕ) → Option (List ℕ) → Type 0
 ReplayStops Write site entries old new = WritesFront old new (replay_text site entries)
-ReplayStops OutOfMemory site entries old new = (count : ℕ) × Appends old new (replies_text site (take count entries)) × ((count ≡ 0) ⊎ NextWantsMemory site entries count)
+ReplayStops OutOfMemory site entries old new = (count : ℕ) × Appends old new (replies_text site (take count entries)) × NextWantsMemory site entries count
 
 -- the same of one reply
 abbrev pub ReplyStops : OutputFault → List ℕ → Option (List ℕ) → Option (List ℕ) → Type 0

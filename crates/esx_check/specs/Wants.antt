@@ -1,5 +1,5 @@
 -- Where memory may be wanting as a session is gone through again.
-use Rattle.std.specs.Prelude.{◌≡◌, ◌⊎◌, ℕ, ◌-◌, List, [], ◌∷◌, ◌++◌, length}
+use Rattle.std.specs.Prelude.{◌≡◌, ◌⊎◌, ℕ, ◌+◌, List, [], ◌∷◌, ◌++◌, length}
 use Rattle.esx_types.specs.declared.config.Config.{Config}
 use Rattle.esx_events.specs.declared.call.Call.{Call}
 use Rattle.esx_events.specs.declared.call.Call.TheVariants.{Table}
@@ -28,15 +28,23 @@ pub record NextWantsMemory (site : Config) (entries : List Entry) (count : ℕ) 
   pub number : count ≡ length done
   pub wants : WantsMemory site done (next_call later)
 
--- A check came to call n, or to none, and memory was wanting for it.
+-- A check came to call n, and memory was wanting for it.
+abbrev pub RunsOutAt : Config → List Entry → ℕ → Type 0
+RunsOutAt site entries n = GoesTo site entries n × ((before : ℕ) × (n ≡ before + 1) × NextWantsMemory site entries before)
+
+-- The same, or it made no call, as the site was opened.
 abbrev pub RunsOut : Config → List Entry → ℕ → Type 0
-RunsOut site entries n = GoesTo site entries n × ((n ≡ 0) ⊎ NextWantsMemory site entries (n - 1))
+RunsOut site entries n = (n ≡ 0) ⊎ RunsOutAt site entries n
 
 -- the same of the calls with which a text begins
 abbrev pub CallWantsMemory : List ℕ → ℕ → Type 0
-CallWantsMemory text n = (site : Config) × (entries : List Entry) × BeginsWith text site entries × RunsOut site entries n
+CallWantsMemory text n = (site : Config) × (entries : List Entry) × BeginsWith text site entries × RunsOutAt site entries n
 
--- How many calls are made where memory runs out on the way through a text: none, as the site is opened; or the last of
--- them wants memory; or all that a check of the calls before an entry makes, and memory is wanting to read that entry.
+-- How many calls are made where memory runs out on the way through a text, at a console that is open: the last of them
+-- wants memory; or they are all that a check of the calls before an entry makes, and memory is wanting to read that entry.
+abbrev pub RunsOutAsRead : List ℕ → ℕ → Type 0
+RunsOutAsRead text n = CallWantsMemory text n ⊎ ChecksBefore text (λ reader. NextTakesMemory reader.at.left) n
+
+-- The same, or none was made, as the site was opened.
 abbrev pub RunsOutInText : List ℕ → ℕ → Type 0
-RunsOutInText text n = (n ≡ 0) ⊎ (CallWantsMemory text n ⊎ ChecksBefore text (λ reader. NextTakesMemory reader.at.left) n)
+RunsOutInText text n = (n ≡ 0) ⊎ RunsOutAsRead text n

@@ -40,22 +40,22 @@ impl Again {
     }
 
     /// Passes the gate with the number of a call, makes the call again, and tells whether its reply is the one
-    /// that stands with it. The entry is given back.
-    pub fn has_same_reply<G: Gate>(
+    /// that stands with it.
+    pub(crate) fn has_same_reply<G: Gate>(
         &mut self,
         gate: &mut G,
         number: u64,
-        entry: Entry,
+        entry: &Entry,
     ) -> Result<bool, AllocError>
         requires few { self.old.console.jumps < 2 ^ 63 }
         requires empty { self.old.held ≡ [] }
-        ensures made { OnOk result ((s : Session) → AnswersAs self.old.console s → AnswersAs self.new.console (lined s entry.caller entry.call)) }
-        ensures same { IfOk result (λ same. (s : Session) → AnswersAs self.old.console s → IsTrue same ↔ (reply_text (next_reply s entry.call) ≡ entry.reply)) }
+        ensures made { OnOk result ((s : Session) → AnswersAs self.old.console s → AnswersAs self.new.console (lined s entry.now.caller entry.now.call)) }
+        ensures same { IfOk result (λ same. (s : Session) → AnswersAs self.old.console s → IsTrue same ↔ (reply_text (next_reply s entry.now.call) ≡ entry.now.reply)) }
         ensures few { OnOk result (self.new.console.jumps ≤ self.old.console.jumps + 1) }
         ensures empty { IfOk result (λ same. IsTrue same → self.new.held ≡ []) }
         ensures gate { (answer : Bool) × G.passes gate.old (turn_of number) answer gate.new }
-        ensures room { OnErr result (MayLackMemory entry.call) }
-        ensures there { (s : Session) → AnswersAs self.old.console s → OnErr result (ComesToMemory (history s) entry.call) }
+        ensures room { OnErr result (MayLackMemory entry.now.call) }
+        ensures there { (s : Session) → AnswersAs self.old.console s → OnErr result (ComesToMemory (history s) entry.now.call) }
     {
         gate.pass_through(u32::try_from(number).unwrap_or(u32::MAX));
         let reply = self.console.call(&entry.call)?;

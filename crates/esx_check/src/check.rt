@@ -40,7 +40,7 @@ fn check_calls<G: Gate>(
     let mut count: u64 = 0;
     for entry in entries {
         count += 1;
-        if !again.has_same_reply(gate, count, entry)? {
+        if !again.has_same_reply(gate, count, &entry)? {
             return Ok(Checked::Differs(count));
         }
     }
@@ -51,7 +51,7 @@ fn check_calls<G: Gate>(
 /// another reply than the one that stands with it.
 ///
 /// No log is kept of the calls, and replies are compared as they are told, so that no second session is made.
-/// Each entry is given back once its reply was compared.
+/// Each entry is dropped once its reply was compared.
 pub fn check_session(alloc: Global, session: Session) -> Result<Checked, AllocError>
     requires { IsConfig session.site }
     ensures { IfOk result (Checks session.site session.entries) }

@@ -10,7 +10,8 @@ pub mod laws;
 mod replay;
 mod text;
 
+pub use again::Again;
 pub use check::{Checked, check_session, check_session_through, write_checked};
 pub use fault::OutputFault;
-pub use replay::replay_session;
-pub use text::{check_text, check_text_through};
+pub use replay::replay_calls;
+pub use text::{check_as_read, check_text, check_text_through};

@@ -9,7 +9,7 @@ ghost use Rattle.esx_session.specs.Sessions.{Reads, HasOpening, IsRefused};
 ghost use Rattle.esx_session.specs.Reading.{Follows, IsNextLine, NextTakesMemory};
 ghost use Rattle.esx_check.specs.Checks.{ChecksText};
 ghost use Rattle.esx_check.specs.Gates.{calls_made, GoesToInText, GoesToBadLine, PassedFor, PassedForSome};
-ghost use Rattle.esx_check.specs.Wants.{RunsOutInText};
+ghost use Rattle.esx_check.specs.Wants.{RunsOutAsRead, RunsOutInText};
 
 use crate::again::Again;
 use crate::check::Checked;
@@ -28,14 +28,21 @@ fn read_on(alloc: Global, calls: &mut Calls) -> Result<(), TextFault>
     ensures near { (line : ℕ) → IsErrOf result (TextFault.BadLine line) → IsNextLine line calls.new.at }
     ensures wants { IsErrOf result TextFault.OutOfMemory → NextTakesMemory calls.new.at.left }
 {
-    while let Some(_entry) = calls.next(alloc)? {}
+    while let Some(later) = calls.next(alloc)? {
+        calls.give_back(later.reply);
+        drop(later.call);
+    }
     Ok(())
 }
 
-/// Makes the calls of a text again as they are read, from the first on, and passes the gate before each. Where
-/// reading ends early it was passed for calls that stand in the text, and each but the last of them has its reply;
-/// at a bad line, and where memory is wanting to read on, for those that a check of the calls before it makes.
-fn check_as_read<G: Gate>(
+/// Makes the calls of a text again as they are read, from the first on, at a console that was opened at the site of
+/// the text, and passes the gate before each. The console is left as the last call left it: `check_text_through`
+/// drops it at its end, which takes as long as there is memory to give back.
+///
+/// Where reading ends early the gate was passed for calls that stand in the text, and each but the last of them has
+/// its reply; at a bad line, and where memory is wanting to read on, for those that a check of the calls before it
+/// makes.
+pub fn check_as_read<G: Gate>(
     alloc: Global,
     again: &mut Again,
     calls: &mut Calls,
@@ -53,14 +60,16 @@ fn check_as_read<G: Gate>(
     ensures bad { (text : List ℕ) (site : Config) (line : ℕ) → Follows text site [] calls.old → AnswersAs again.old.console (opened_session site)
         → IsErrOf result (TextFault.BadLine line) → PassedForSome G.passes (GoesToBadLine text line) gate.old gate.new }
     ensures wants { (text : List ℕ) (site : Config) → Follows text site [] calls.old → AnswersAs again.old.console (opened_session site)
-        → IsErrOf result TextFault.OutOfMemory → PassedForSome G.passes (RunsOutInText text) gate.old gate.new }
+        → IsErrOf result TextFault.OutOfMemory → PassedForSome G.passes (RunsOutAsRead text) gate.old gate.new }
 {
     let mut count: u64 = 0;
     while let Some(entry) = calls.next(alloc)? {
         count += 1;
-        let Ok(same) = again.has_same_reply(gate, count, entry) else {
+        let Ok(same) = again.has_same_reply(gate, count, &entry) else {
             return Err(TextFault::OutOfMemory);
         };
+        calls.give_back(entry.reply);
+        drop(entry.call);
         if !same {
             read_on(alloc, calls)?;
             return Ok(Checked::Differs(count));
@@ -73,8 +82,8 @@ fn check_as_read<G: Gate>(
 /// than the one that stands with it. From there on the text is only read: a bad line behind a difference is
 /// the fault all the same.
 ///
-/// Beside the text, the tables of the site and what undoes its events there is one entry at a time. Memory is taken
-/// behind the first two lines alone.
+/// Beside the text, the tables of the site and what undoes its events there is one entry at a time, and one reply is
+/// read in place of the last. Memory is taken behind the first two lines alone.
 pub fn check_text(alloc: Global, text: &str) -> Result<Checked, TextFault>
     ensures ok { IfOk result (ChecksText text.now) }
     ensures only { IfErr result (λ e. IsRefused e text.now) }

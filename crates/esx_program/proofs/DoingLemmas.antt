@@ -13,7 +13,7 @@ use Rattle.esx_reading.specs.declared.fault.TextFault.TheVariants as text
 use Rattle.esx_scenario.specs.Plans.{Plan}
 use Rattle.esx_session.specs.declared.session.Entry.{Entry}
 use Rattle.esx_text.specs.declared.fault.ServeFault.{ServeFault}
-use Rattle.esx_check.specs.Replays.{ReplayStops, replay_text, write_faults}
+use Rattle.esx_check.specs.Replays.{replay_text, write_faults}
 use Rattle.esx_check.specs.declared.fault.OutputFault.{OutputFault}
 use Rattle.esx_check.specs.declared.fault.OutputFault.TheVariants as output
 use Rattle.esx_program.specs.declared.running.RunFault.{RunFault}
@@ -28,7 +28,7 @@ use Rattle.esx_program.specs.Failing.{MayFail, WantsSession}
 use Rattle.esx_program.specs.Files.{HasScenario, HasSession, HasText, LacksCheck, LacksScenario, LacksSession, Opened}
 use Rattle.esx_program.specs.Given.{open_fault}
 use Rattle.esx_program.specs.Runs.{Plays, RunStops}
-use Rattle.esx_program.specs.Sessions.{GivenOut}
+use Rattle.esx_program.specs.Sessions.{GivenOut, ReplayEnds}
 use Rattle.esx_program.specs.States.{SinkState, SourceState}
 use Rattle.esx_program.specs.Status.{TellsCheck, TellsNoCheck, word_of_done}
 use Rattle.esx_program.specs.Streams.{IsServed}
@@ -172,7 +172,7 @@ run_ends read plan errors errors' out out' (Err e) here ok fault = (plan, here, 
 -- the session of a file was gone through again
 pub replay_ends : (read : Opened) (site : Config) (entries : List Entry) (out out' : SinkState) (r : Result (Unit {0}) OutputFault)
     → HasSession read site entries → OnOk r (Appends out.contents out'.contents (replay_text site entries))
-    → IfErr r (λ e. (taken : Option (List ℕ)) × ReplayStops e site entries out.contents taken × GivenOut e taken out'.contents)
+    → IfErr r (λ e. (taken : Option (List ℕ)) × ReplayEnds e site entries out.contents taken × GivenOut e taken out'.contents)
     → out'.failures ≡ out.failures + write_faults r → out'.flushes + write_faults r ≡ out.flushes + 1 → ((IsErrOf r output.Write → ⊥) → out'.waiting ≡ [])
     → EndsReplay read (replayed_as r) out out'
 replay_ends read site entries out out' (Ok done) here ok fault failures flushes sent =
@@ -183,7 +183,7 @@ replay_ends read site entries out out' (Err e) here ok fault failures flushes se
   here,
   record {
     taken = fault.0;
-    stops = fault.1;
+    ends = fault.1;
     given = fault.2;
     failures = rw (faults_of e) at failures;
     flushes = rw (faults_of e) at flushes;

@@ -9,8 +9,9 @@ use Rattle.esx_reading.specs.Whole.{AskForPieces, GivesMore, GivesOn, GivesWhole
 use Rattle.esx_scenario.specs.Plans.{Plan}
 use Rattle.esx_scenario.specs.Scenarios.{IsScenario, IsRefused as IsNoPlan}
 use Rattle.esx_session.specs.declared.session.Entry.{Entry}
+use Rattle.esx_session.specs.declared.session.Request.{Request}
 use Rattle.esx_session.specs.Reading.{GoesPastOpening}
-use Rattle.esx_session.specs.Sessions.{HasOpening, IsRefused, Reads}
+use Rattle.esx_session.specs.Sessions.{HasOpening, IsRefused, Reads, ReadsScript}
 use Rattle.esx_text.specs.Answers.{ReadsOn}
 use Rattle.esx_program.specs.Given.{open_fault}
 use Rattle.esx_program.specs.States.{SourceState}
@@ -115,6 +116,10 @@ HasScenario read plan = (text : List ℕ) × HasText read text × IsScenario tex
 -- its text is that session
 abbrev pub HasSession : Opened → Config → List Entry → Type 0
 HasSession read site entries = (text : List ℕ) × HasText read text × Reads text site entries
+
+-- its text is that of a session with these calls
+abbrev pub HasScript : Opened → Config → List Request → Type 0
+HasScript read site requests = (text : List ℕ) × HasText read text × ReadsScript text site requests
 
 -- Why none of these was read: the file could not be opened, or it is none.
 abbrev pub LacksText : Opened → TextFault → Type 0

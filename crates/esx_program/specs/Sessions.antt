@@ -1,5 +1,5 @@
 -- What is written where a session is gone through again.
-use Rattle.std.specs.Prelude.{ℕ, List, [], ◌≡◌, ◌+◌, Option}
+use Rattle.std.specs.Prelude.{ℕ, List, [], ◌≡◌, ◌⊎◌, ◌+◌, Option}
 use Rattle.std.specs.Io.KnownBytes.{Appends}
 use Rattle.esx_types.specs.declared.config.Config.{Config}
 use Rattle.esx_writing.specs.Writing.{WritesFront}
@@ -48,10 +48,14 @@ pub record IsReplayed (site : Config) (entries : List Entry) (out out' : SinkSta
   pub flushes : out'.flushes ≡ out.flushes + 1
   pub sent : out'.waiting ≡ []
 
+-- a replay stopped, or there was no memory to begin it, and nothing was written
+abbrev pub ReplayEnds : OutputFault → Config → List Entry → Option (List ℕ) → Option (List ℕ) → Type 0
+ReplayEnds e site entries old new = ReplayStops e site entries old new ⊎ ((e ≡ output.OutOfMemory) × Appends old new [])
+
 -- they were not written, or not all of them, or they could not be handed on
 pub record IsNotReplayed (e : OutputFault) (site : Config) (entries : List Entry) (out out' : SinkState) : Type 0 where
   pub taken : Option (List ℕ)
-  pub stops : ReplayStops e site entries out.contents taken
+  pub ends : ReplayEnds e site entries out.contents taken
   pub given : GivenOut e taken out'.contents
   pub failures : out'.failures ≡ out.failures + failed_writes e
   pub flushes : out'.flushes + failed_writes e ≡ out.flushes + 1

@@ -8,7 +8,7 @@ ghost use Rattle.esx_program.specs.Files.{AreLeft, IsLeft, MayBeLeft, Opened};
 ghost use Rattle.esx_program.specs.States.{sink_state, source_state};
 ghost use Rattle.esx_program.specs.Status.{TellsCheck, TellsNoCheck};
 
-use crate::files::{scenario_of_file, session_of_file, text_of_file};
+use crate::files::{scenario_of_file, script_of_file, text_of_file};
 use crate::running::{RunFault, run_to};
 use crate::session::{check_watched, replay_watched, tell_check};
 use crate::streams::serve_buffered;
@@ -175,9 +175,9 @@ fn replay_file<P: Print, F: Source, W: Sink + Drop>(
         × EndsReplay read result.ended
         (sink_state W.contents W.waiting W.failures W.flushes writer) (sink_state W.contents W.waiting W.failures W.flushes result.writer) }
 {
-    match session_of_file(alloc, opened) {
-        Ok(session) => {
-            let replayed = replay_watched(alloc, session, to, writer);
+    match script_of_file(alloc, opened) {
+        Ok(script) => {
+            let replayed = replay_watched(alloc, script, to, writer);
             let ended = replayed_as(replayed.ended);
             End {
                 ended,

@@ -3,14 +3,14 @@
 ghost use Rattle.std.specs.Prelude.{◌≡◌, ℕ, List, string_bytes, IfOk, IfErr};
 ghost use Rattle.esx_types.specs.Ranges.{IsConfig};
 ghost use Rattle.esx_scenario.specs.Scenarios.{IsScenario};
-ghost use Rattle.esx_session.specs.Sessions.{Reads};
-ghost use Rattle.esx_program.specs.Files.{Opened, IsLeft, IsNoScenario, IsNoSession, IsNoText, IsRead, HasScenario, HasSession, HasText, LacksScenario, LacksSession, LacksText};
+ghost use Rattle.esx_session.specs.Sessions.{ReadsScript};
+ghost use Rattle.esx_program.specs.Files.{Opened, IsLeft, IsNoScenario, IsNoSession, IsNoText, IsRead, HasScenario, HasScript, HasText, LacksScenario, LacksSession, LacksText};
 ghost use Rattle.esx_program.specs.Given.{open_fault};
 ghost use Rattle.esx_program.specs.States.{source_state};
 
 use esx_reading::{TextFault, read_text};
 use esx_scenario::{Scenario, parse_scenario};
-use esx_session::{Session, parse_session};
+use esx_session::{Script, parse_script};
 use esx_types::Source;
 use std::alloc::Global;
 use std::io::{self, ErrorKind};
@@ -43,16 +43,16 @@ fn scenario_of_source<F: Source>(alloc: Global, file: &mut F) -> Result<Scenario
     parse_scenario(alloc, text.as_str())
 }
 
-/// The session that a file gives.
-fn session_of_source<F: Source>(alloc: Global, file: &mut F) -> Result<Session, TextFault>
-    ensures config { IfOk result (λ session. IsConfig session.site) }
-    ensures session { IfOk result (λ session. (text : List ℕ)
+/// The site and the calls of the session that a file gives.
+fn script_of_source<F: Source>(alloc: Global, file: &mut F) -> Result<Script, TextFault>
+    ensures config { IfOk result (λ script. IsConfig script.site) }
+    ensures script { IfOk result (λ script. (text : List ℕ)
         × IsRead (source_state F.remaining F.calls F.failures F.empty_reads F.asked file.old) (source_state F.remaining F.calls F.failures F.empty_reads F.asked file.new) text
-        × Reads text session.site session.entries) }
+        × ReadsScript text script.site script.requests) }
     ensures fault { IfErr result (IsNoSession (source_state F.remaining F.calls F.failures F.empty_reads F.asked file.old) (source_state F.remaining F.calls F.failures F.empty_reads F.asked file.new)) }
 {
     let text = text_of_source(alloc, file)?;
-    parse_session(alloc, text.as_str())
+    parse_script(alloc, text.as_str())
 }
 
 /// The text in a file.
@@ -83,17 +83,17 @@ pub fn scenario_of_file<F: Source>(
     }
 }
 
-/// The session in a file.
-pub fn session_of_file<F: Source>(
+/// The site and the calls of the session in a file.
+pub fn script_of_file<F: Source>(
     alloc: Global,
     opened: &mut io::Result<F>,
-) -> Result<Session, TextFault>
-    ensures config { IfOk result (λ session. IsConfig session.site) }
-    ensures session { (read : Opened) × IsLeft (source_state F.remaining F.calls F.failures F.empty_reads F.asked) opened.old opened.new read
-        × IfOk result (λ session. HasSession read session.site session.entries) × IfErr result (LacksSession read) }
+) -> Result<Script, TextFault>
+    ensures config { IfOk result (λ script. IsConfig script.site) }
+    ensures script { (read : Opened) × IsLeft (source_state F.remaining F.calls F.failures F.empty_reads F.asked) opened.old opened.new read
+        × IfOk result (λ script. HasScript read script.site script.requests) × IfErr result (LacksSession read) }
 {
     match opened {
-        Ok(file) => session_of_source(alloc, file),
+        Ok(file) => script_of_source(alloc, file),
         Err(error) => Err(fault_of_kind(error.kind())),
     }
 }

@@ -1,30 +1,35 @@
 //! A session, gone through again.
 
-ghost use Rattle.std.specs.Prelude.{◌≡◌, ◌+◌, ◌≤◌, [], ℕ, List, Option, IfOk, IfErr, IsErrOf, OnOk};
+ghost use Rattle.std.specs.Prelude.{◌≡◌, ◌+◌, ◌≤◌, [], ℕ, List, map, Option, IfOk, IfErr, IsErrOf, OnOk};
 ghost use Rattle.std.specs.Io.KnownBytes.{Appends, Keeps};
 ghost use Rattle.esx_types.specs.Ranges.{IsConfig};
-ghost use Rattle.esx_session.specs.Sessions.{HasOpening, IsRefused};
+ghost use Rattle.esx_console.specs.Calls.{opened_session};
+ghost use Rattle.esx_console.specs.Unlogged.{AnswersAs};
+ghost use Rattle.esx_session.specs.declared.session.Entry.{Entry};
+ghost use Rattle.esx_session.specs.Sessions.{HasOpening, IsRefused, request};
 ghost use Rattle.esx_check.specs.Checks.{ChecksText, checked_text};
-ghost use Rattle.esx_check.specs.Replays.{ReplayStops, replay_text, write_faults};
+ghost use Rattle.esx_check.specs.Replays.{replay_text, write_faults};
 ghost use Rattle.esx_writing.specs.Writing.{Writes, sink_faults};
-ghost use Rattle.esx_program.specs.Sessions.{CheckStops, GivenOut, check_status, failed_writes};
+ghost use Rattle.esx_program.specs.Sessions.{CheckStops, GivenOut, ReplayEnds, check_status, failed_writes};
 
 use crate::gates::Counting;
 use crate::outgoing::{Outgoing, Waiting};
 use crate::progress::{Progress, Watched};
-use esx_check::{Checked, OutputFault, check_text_through, replay_session, write_checked};
+use esx_check::{Again, Checked, OutputFault, check_as_read, replay_calls, write_checked};
 use esx_reading::TextFault;
-use esx_session::Session;
-use esx_types::{Sink, SinkFailed};
+use esx_session::{Script, open_calls};
+use esx_types::{Config, Sink, SinkFailed};
 use esx_writing::AnswerBuffer;
-use std::alloc::Global;
+use std::alloc::{AllocError, Global};
 use std::marker::Brand;
+use std::mem;
 use std::sync::ledger::{Blank, Ledger};
 
 /// Checks the session of a text while it is read, and tells how many of its calls were made to `to`, where there
 /// is one.
 ///
-/// A bad line behind a difference is the fault all the same.
+/// A bad line behind a difference is the fault all the same. The program ends with the check, so the system takes
+/// the memory of the console back as a whole.
 pub fn check_watched<P: Print>(
     alloc: Global,
     text: &str,
@@ -34,12 +39,17 @@ pub fn check_watched<P: Print>(
     ensures fault { IfErr result (λ e. IsRefused e text.now) }
     ensures memory { IsErrOf result TextFault.OutOfMemory → HasOpening text.now }
 {
+    let (site, mut calls) = open_calls(text)?;
+    let Ok(mut again) = Again::open(alloc, site) else {
+        return Err(TextFault::OutOfMemory);
+    };
     let progress = Progress::new(to, None, "calls");
     let mut gate = Counting {
         progress: &progress,
     };
-    let checked = check_text_through(alloc, text, &mut gate);
+    let checked = check_as_read(alloc, &mut again, &mut calls, &mut gate);
     progress.end();
+    mem::forget(again);
     checked
 }
 
@@ -103,30 +113,47 @@ pub fn status_of_check(checked: Checked) -> u8
     }
 }
 
-/// Writes the replies of a session anew, and lets them wait until there are many.
+/// A console at which a session is gone through again, and room for what is written.
+fn room_for_replay(alloc: Global, site: Config) -> Result<(Again, Waiting), AllocError>
+    requires { IsConfig site }
+    ensures answers { IfOk result (λ p. AnswersAs p.0.console (opened_session site)) }
+    ensures none { IfOk result (λ p. p.0.console.jumps ≡ 0) }
+    ensures empty { IfOk result (λ p. p.0.held ≡ []) }
+    ensures waiting { IfOk result (λ p. p.1 ≡ []) }
+{
+    let again = Again::open(alloc, site)?;
+    let waiting = Waiting::new(alloc)?;
+    Ok((again, waiting))
+}
+
+/// Writes the replies of a session anew, and lets them wait until there are many. The program ends with the replay,
+/// so the system takes the memory of the console back as a whole.
 fn replay_buffered<W: Sink + Drop, L: Ledger>(
     alloc: Global,
-    session: Session,
+    script: Script,
     mut writer: W,
     blank: Blank,
 ) -> (Result<(), OutputFault>, W)
-    requires config { IsConfig session.site }
+    requires config { IsConfig script.site }
     requires name { blank.name ≡ L.name }
     requires parts { blank.parts ≡ L.parts }
     requires four { 4 ≤ blank.parts }
-    ensures ok { OnOk result.0 (Appends (W.contents writer) (W.contents result.1) (replay_text session.site session.entries)) }
-    ensures fault { IfErr result.0 (λ e. (taken : Option (List ℕ)) × ReplayStops e session.site session.entries (W.contents writer) taken
+    ensures ok { (entries : List Entry) → script.requests ≡ map request entries
+        → OnOk result.0 (Appends (W.contents writer) (W.contents result.1) (replay_text script.site entries)) }
+    ensures fault { (entries : List Entry) → script.requests ≡ map request entries
+        → IfErr result.0 (λ e. (taken : Option (List ℕ)) × ReplayEnds e script.site entries (W.contents writer) taken
         × GivenOut e taken (W.contents result.1)) }
     ensures failures { W.failures result.1 ≡ W.failures writer + write_faults result.0 }
     ensures flushes { W.flushes result.1 + write_faults result.0 ≡ W.flushes writer + 1 }
     ensures sent { (IsErrOf result.0 OutputFault.Write → ⊥) → W.waiting result.1 ≡ [] }
 {
-    let Ok(waiting) = Waiting::new(alloc) else {
+    let Ok((mut again, waiting)) = room_for_replay(alloc, script.site) else {
         let fault = give_up(&mut writer);
         return (Err(fault), writer);
     };
     let mut outgoing = Outgoing::<W, L>::new(writer, waiting, blank);
-    let replayed = replay_session(alloc, session, &mut outgoing);
+    let replayed = replay_calls(&mut again, script.requests, &mut outgoing);
+    mem::forget(again);
     (replayed, outgoing.into_sink())
 }
 
@@ -140,13 +167,15 @@ pub struct Replayed<W: Drop> {
 /// The same, and tells how many bytes were written to `to`, where there is one.
 pub fn replay_watched<P: Print, W: Sink + Drop>(
     alloc: Global,
-    session: Session,
+    script: Script,
     to: Option<&P>,
     writer: W,
 ) -> Replayed<W>
-    requires { IsConfig session.site }
-    ensures ok { OnOk result.ended (Appends (W.contents writer) (W.contents result.writer) (replay_text session.site session.entries)) }
-    ensures fault { IfErr result.ended (λ e. (taken : Option (List ℕ)) × ReplayStops e session.site session.entries (W.contents writer) taken
+    requires { IsConfig script.site }
+    ensures ok { (entries : List Entry) → script.requests ≡ map request entries
+        → OnOk result.ended (Appends (W.contents writer) (W.contents result.writer) (replay_text script.site entries)) }
+    ensures fault { (entries : List Entry) → script.requests ≡ map request entries
+        → IfErr result.ended (λ e. (taken : Option (List ℕ)) × ReplayEnds e script.site entries (W.contents writer) taken
         × GivenOut e taken (W.contents result.writer)) }
     ensures failures { W.failures result.writer ≡ W.failures writer + write_faults result.ended }
     ensures flushes { W.flushes result.writer + write_faults result.ended ≡ W.flushes writer + 1 }
@@ -154,7 +183,7 @@ pub fn replay_watched<P: Print, W: Sink + Drop>(
 {
     let progress = Progress::new(to, None, "bytes of replies");
     let watched = Watched::new(writer, &progress);
-    let (ended, watched) = replay_buffered::<_, Brand>(alloc, session, watched, Blank::new(4));
+    let (ended, watched) = replay_buffered::<_, Brand>(alloc, script, watched, Blank::new(4));
     progress.end();
     Replayed {
         ended,

@@ -15,3 +15,4 @@ pub mod CallsLemmas
 pub mod StopLemmas
 pub mod MemoryLemmas
 pub mod PrintedLemmas
+pub mod ScriptLemmas

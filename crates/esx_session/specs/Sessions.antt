@@ -1,5 +1,5 @@
 -- Sessions: what was asked of a console and answered, as a text.
-use Rattle.std.specs.Prelude.{ℕ, Bool, true, false, List, [], ◌∷◌, ◌++◌, ◌+◌, ◌≡◌, ◌<◌, ◌≤◌, ◌⊎◌, ◌==◌, codes, decimal, length, take, flat_map}
+use Rattle.std.specs.Prelude.{ℕ, Bool, true, false, List, [], ◌∷◌, ◌++◌, ◌+◌, ◌≡◌, ◌<◌, ◌≤◌, ◌⊎◌, ◌==◌, codes, decimal, length, take, map, flat_map}
 use Rattle.std.specs.List.{AllByRecursion}
 use Rattle.std.specs.Str.{IsAscii}
 use Rattle.std.specs.Str.Lines.{lines}
@@ -13,6 +13,7 @@ use Rattle.esx_reading.specs.declared.fault.TextFault.TheVariants.{BadLine, OutO
 use Rattle.esx_words.specs.Commands.{IsInRange, spelling}
 use Rattle.esx_replies.specs.Replies.{reply_text}
 use Rattle.esx_session.specs.declared.session.Entry.{Entry}
+use Rattle.esx_session.specs.declared.session.Request.{Request}
 
 -- the text of some lines, each ended by a line feed
 abbrev pub ended : List (List ℕ) → List ℕ
@@ -77,6 +78,14 @@ pub record Tells (told : List (List ℕ)) (site : Config) (entries : List Entry)
 -- A text is the session's, but for carriage returns before line feeds, and for the last line feed.
 abbrev pub Reads : List ℕ → Config → List Entry → Type 0
 Reads text = Tells (lines text)
+
+-- a call without its reply
+abbrev pub request : Entry → Request
+request e = record { caller = e.caller; call = e.call }
+
+-- the text is that of a session with these calls
+abbrev pub ReadsScript : List ℕ → Config → List Request → Type 0
+ReadsScript text site requests = (entries : List Entry) × Reads text site entries × (requests ≡ map request entries)
 
 -- some session begins with these lines
 abbrev pub Begins : List (List ℕ) → Type 0

@@ -30,13 +30,13 @@ fn add_line(reply: &mut Vec<u8>, line: &str) -> Result<(), AllocError>
     Ok(())
 }
 
-/// The lines of a reply, of which there is at least one.
-fn read_reply(alloc: Global, place: &mut Place) -> Result<Bytes, TextFault>
+/// The lines of a reply, of which there is at least one. They are read in place of what a buffer holds.
+fn read_reply(place: &mut Place, mut reply: Vec<u8>) -> Result<Bytes, TextFault>
     ensures ok { IfOk result (TakesReply place.old place.new) }
     ensures only { IfErr result (λ e. LacksReply e place.old) }
     ensures memory { IsErrOf result TextFault.OutOfMemory → BeginsReply place.old.left }
 {
-    let mut reply = Vec::new(alloc);
+    reply.clear();
     while let Some(line) = place.next_reply() {
         let Ok(()) = add_line(&mut reply, line) else {
             return Err(TextFault::OutOfMemory);
@@ -58,8 +58,13 @@ fn at_line(fault: TextFault, number: u64) -> TextFault
     }
 }
 
-/// A call, of which the first line was passed, and its reply.
-fn read_entry(alloc: Global, line: &str, place: &mut Place) -> Result<Entry, TextFault>
+/// A call, of which the first line was passed, and its reply, which is read into a buffer.
+fn read_entry(
+    alloc: Global,
+    line: &str,
+    place: &mut Place,
+    buffer: Vec<u8>,
+) -> Result<Entry, TextFault>
     ensures ok { IfOk result (TakesEntry line.now place.old place.new) }
     ensures only { IfErr result (λ e. LacksEntry e line.now place.old) }
     ensures memory { IsErrOf result TextFault.OutOfMemory → EntryTakesMemory line.now place.old.left }
@@ -68,7 +73,7 @@ fn read_entry(alloc: Global, line: &str, place: &mut Place) -> Result<Entry, Tex
         Ok(found) => found,
         Err(fault) => return Err(at_line(fault, place.passed())),
     };
-    let reply = read_reply(alloc, place)?;
+    let reply = read_reply(place, buffer)?;
     Ok(Entry {
         caller,
         call,
@@ -78,7 +83,12 @@ fn read_entry(alloc: Global, line: &str, place: &mut Place) -> Result<Entry, Tex
 
 /// The next call behind so many, with its reply. `None` at the last line, behind which nothing stands. A bad line is
 /// one of the next two, since an entry is the line of a call and at least one line of its reply.
-fn next_entry(alloc: Global, place: &mut Place, count: u64) -> Result<Option<Entry>, TextFault>
+fn next_entry(
+    alloc: Global,
+    place: &mut Place,
+    count: u64,
+    buffer: Vec<u8>,
+) -> Result<Option<Entry>, TextFault>
     ensures some { (start : Place) (done : List Entry) → AreRead start place.old done
         → IfOk result (λ next. IfSome next (λ entry. AreRead start place.new (done ++ entry ∷ []))) }
     ensures none { (start : Place) (done : List Entry) → AreRead start place.old done → count ≡ length done
@@ -97,7 +107,7 @@ fn next_entry(alloc: Global, place: &mut Place, count: u64) -> Result<Option<Ent
             None => Ok(None),
             Some(_) => Err(TextFault::BadLine(place.passed())),
         },
-        Some(line) => Ok(Some(read_entry(alloc, line, place)?)),
+        Some(line) => Ok(Some(read_entry(alloc, line, place, buffer)?)),
     }
 }
 
@@ -135,6 +145,7 @@ fn read_opening(place: &mut Place) -> Result<Config, TextFault>
 pub struct Calls<'a> {
     place: Place<'a>,
     count: u64,
+    buffer: Option<Vec<u8>>,
 }
 
 impl<'a> Model for Calls<'a> {
@@ -160,7 +171,12 @@ pub fn open_calls<'a>(text: &'a str) -> Result<(Config, Calls<'a>), TextFault>
 {
     let mut place = Place::start(text);
     let site = read_opening(&mut place)?;
-    Ok((site, Calls { place, count: 0 }))
+    let calls = Calls {
+        place,
+        count: 0,
+        buffer: None,
+    };
+    Ok((site, calls))
 }
 
 impl<'a> Calls<'a> {
@@ -189,11 +205,20 @@ impl<'a> Calls<'a> {
         ensures refused { OnErr result (self.new ≡ self.old) }
     {
         let mut ahead = self.place.ahead();
-        let Some(entry) = next_entry(alloc, &mut ahead, self.count)? else {
+        let buffer = self.buffer.take().unwrap_or(Vec::new(alloc));
+        let Some(entry) = next_entry(alloc, &mut ahead, self.count, buffer)? else {
             return Ok(None);
         };
         self.place = ahead;
         self.count += 1;
         Ok(Some(entry))
+    }
+
+    /// Takes the bytes of a reply that is done with, so that the next reply is read into them and takes no memory
+    /// of its own where it is no longer.
+    pub fn give_back(&mut self, reply: Bytes)
+        ensures { self.new ≡ self.old }
+    {
+        self.buffer = Some(reply.into_vec());
     }
 }

@@ -12,6 +12,6 @@ pub mod session;
 mod site;
 
 pub use calls::{Calls, open_calls};
-pub use parse::parse_session;
+pub use parse::{parse_script, parse_session};
 pub use printing::{print_session, put_session, write_session};
-pub use session::{Entry, Session};
+pub use session::{Entry, Request, Script, Session};

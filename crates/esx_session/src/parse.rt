@@ -1,11 +1,11 @@
 //! Sessions as they are read.
 
 ghost use Rattle.std.specs.Prelude.{IfOk, IfErr, IsErrOf};
-ghost use Rattle.esx_session.specs.Sessions.{Reads, HasOpening, IsRefused};
+ghost use Rattle.esx_session.specs.Sessions.{Reads, ReadsScript, HasOpening, IsRefused};
 ghost use Rattle.esx_session.specs.Reading.{GoesPastOpening};
 
 use crate::calls::open_calls;
-use crate::session::Session;
+use crate::session::{Request, Script, Session};
 use esx_reading::TextFault;
 use esx_types::Rows;
 use std::alloc::Global;
@@ -27,4 +27,27 @@ pub fn parse_session(alloc: Global, text: &str) -> Result<Session, TextFault>
         };
     }
     Ok(Session { site, entries })
+}
+
+/// The site and the calls of the session of a text, without their replies. Each reply is read in place of the last.
+/// It is refused, and finds no memory, as `parse_session`.
+pub fn parse_script(alloc: Global, text: &str) -> Result<Script, TextFault>
+    ensures ok { IfOk result (λ script. ReadsScript text.now script.site script.requests) }
+    ensures only { IfErr result (λ e. IsRefused e text.now) }
+    ensures memory { IsErrOf result TextFault.OutOfMemory → HasOpening text.now }
+    ensures third { IsErrOf result TextFault.OutOfMemory → GoesPastOpening text.now }
+{
+    let (site, mut calls) = open_calls(text)?;
+    let mut requests = Rows::new(alloc);
+    while let Some(entry) = calls.next(alloc)? {
+        calls.give_back(entry.reply);
+        let request = Request {
+            caller: entry.caller,
+            call: entry.call,
+        };
+        let Ok(()) = requests.push(request) else {
+            return Err(TextFault::OutOfMemory);
+        };
+    }
+    Ok(Script { site, requests })
 }

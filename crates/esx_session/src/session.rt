@@ -12,6 +12,20 @@ pub struct Entry {
     pub reply: Bytes,
 }
 
+/// A call of a session without its reply: who made it, and the call.
+#[derive(Debug, Drop)]
+pub struct Request {
+    pub caller: u16,
+    pub call: Call,
+}
+
+/// The site that a console was opened with, and the calls that were made of it without their replies, in their order.
+#[derive(Debug, Drop)]
+pub struct Script {
+    pub site: Config,
+    pub requests: Rows<Request>,
+}
+
 /// The site that a console was opened with, and the calls that were made of it, in their order.
 #[derive(Debug, Drop)]
 pub struct Session {

@@ -6,7 +6,7 @@ use esx_events::{
     Answer, Boxed, Call, Event, Line, Name, NameRow, Refusal, Reply, Said, Sides, Stand,
 };
 use esx_reading::TextFault;
-use esx_session::{Calls, open_calls, parse_session, print_session};
+use esx_session::{Calls, open_calls, parse_script, parse_session, print_session};
 use esx_types::{Config, Rows, VmId};
 use esx_words::parse_command;
 use std::alloc::Global;
@@ -162,8 +162,9 @@ const TEXTS: [(&str, &str, &str, u64); 24] = [
     (OPENING, CALLS, "end 2\n0 sum\n= ok\nend 3\n", 9),
 ];
 
-fn bad_line(alloc: Global, text: &str) -> u64 {
-    match parse_session(alloc, text) {
+/// The line of a fault; 0 where there is none.
+fn line_of<T: Drop>(read: Result<T, TextFault>) -> u64 {
+    match read {
         Ok(_) => 0,
         Err(TextFault::BadLine(line)) => line,
         Err(_) => u64::MAX,
@@ -175,7 +176,8 @@ fn lines(rt: HostRuntime) -> Result<(), Fail> {
     let alloc = rt.alloc();
     for (site, calls, end, line) in &TEXTS {
         let text = format!(in alloc; "{site}{calls}{end}")?;
-        assert_eq!(rt; bad_line(alloc, &text), *line);
+        assert_eq!(rt; line_of(parse_session(alloc, &text)), *line);
+        assert_eq!(rt; line_of(parse_script(alloc, &text)), *line);
     }
     Ok(())
 }
@@ -201,5 +203,43 @@ fn session(rt: HostRuntime) -> Result<(), Fail> {
         entry.reply.as_slice(),
         b"ok frame 0 overhead 1/1 running\n\n".as_slice()
     );
+    Ok(())
+}
+
+/// The site and the calls are the same where the replies are left out.
+#[test]
+fn script(rt: HostRuntime) -> Result<(), Fail> {
+    let alloc = rt.alloc();
+    let text = format!(in alloc; "{OPENING}{CALLS}end 2\n")?;
+    let script = parse_script(alloc, &text)?;
+    assert_eq!(rt; script.site.slots, 8);
+    assert_eq!(rt; script.requests.len(), 2);
+    let request = &script.requests.as_slice()[1];
+    assert_eq!(rt; request.caller, 63);
+    assert!(rt;
+        matches!(
+            &request.call,
+            Call::Do {
+                event: Event::Start { .. }
+            }
+        )
+    );
+    Ok(())
+}
+
+/// A reply that is read into the bytes of the last one has nothing of it, be it shorter or longer.
+#[test]
+fn replies_given_back(rt: HostRuntime) -> Result<(), Fail> {
+    let alloc = rt.alloc();
+    let session = parse_session(alloc, SESSION)?;
+    let (_, mut calls) = open_calls(SESSION)?;
+    for told in session.entries.as_slice() {
+        let Some(entry) = calls.next(alloc)? else {
+            panic!(rt; "a call is missing");
+        };
+        assert!(rt; entry.reply.as_slice() == told.reply.as_slice());
+        calls.give_back(entry.reply);
+    }
+    assert!(rt; matches!(calls.next(alloc), Ok(None)));
     Ok(())
 }

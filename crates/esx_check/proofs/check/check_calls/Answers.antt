@@ -1,9 +1,9 @@
-use Rattle.std.proofs.Common.{inl, inr, length, ◌-◌, ◌≡◌, ◌∷◌, [], ◌++◌, sym, ◌∙◌, ap, refl, rules, append_assoc, ◌+◌, arith}
+use Rattle.std.proofs.Common.{inl, inr, ◌≡◌, ◌∷◌, [], ◌++◌, sym, ◌∙◌, ap, refl, rules, append_assoc, ◌+◌, arith}
 use Rattle.esx_check.specs.Again.{made}
 use Rattle.esx_check.specs.Wants.{NextWantsMemory}
 use Rattle.esx_check.proofs.AgainLemmas.{first_again, again_more, again_nothing}
 use Rattle.esx_check.proofs.GateLemmas.{passed_none, passed_more, some_none, some_more, on_err}
-use Rattle.esx_check.proofs.CheckLemmas.{same_more, differs_here, is_not, one_longer, goes_nowhere, goes_to_next}
+use Rattle.esx_check.proofs.CheckLemmas.{same_more, differs_here, is_not, one_longer, goes_to_next}
 use Rattle.esx_check.proofs.check.check_calls.Goals as goal
 
 pub loop-entry-init : goal.loop-entry-init
@@ -49,7 +49,7 @@ returns-then-not-branch-clause-ok g c =
     (is_not _ _ (is.same (made _ done) so_far.console) c.if-not-branch.true) so_far.count
 
 pub returns-in_err-again-clause-some : goal.returns-in_err-again-clause-some
-returns-in_err-again-clause-some g c = on_err c.from_residual.result (some_none _ _ _ (goes_nowhere _ _, inl refl))
+returns-in_err-again-clause-some g c = on_err c.from_residual.result (some_none _ _ _ (inl refl))
 
 pub returns-in_err-has_same_reply-clause-some : goal.returns-in_err-has_same_reply-clause-some
 returns-in_err-has_same_reply-clause-some g c =
@@ -59,15 +59,14 @@ returns-in_err-has_same_reply-clause-some g c =
     let step : c.loop-entry.entry-iterator.rest.items ≡ e ∷ c.next.new.self.rest.items = search rules in
     let goes = goes_to_next _ c.args.entries.items done c.next.new.self.rest.items e c.loop-entry.count (so_far.split ∙ ap (λ v. done ++ v) step) so_far.same so_far.count in
     let split = so_far.split ∙ ap (λ v. done ++ v) step in
-    let less : c.loop-entry.count + 1 - 1 ≡ length done = omega (arith, so_far.count) in
-    let wants : NextWantsMemory c.args.site c.args.entries.items (c.loop-entry.count + 1 - 1) = record {
+    let wants : NextWantsMemory c.args.site c.args.entries.items c.loop-entry.count = record {
       done = done;
       later = e ∷ c.next.new.self.rest.items;
       split = split;
-      number = less;
+      number = so_far.count;
       wants = record { may = c.in_err-has_same_reply.ensures.room; comes = c.in_err-has_same_reply.ensures.there (made _ done) so_far.console };
     } in
-    on_err c.from_residual-in_err-has_same_reply.result (some_more _ _ _ _ _ _ (goes, inr wants) so_far.gate c.in_err-has_same_reply.ensures.gate)
+    on_err c.from_residual-in_err-has_same_reply.result (some_more _ _ _ _ _ _ (inr (goes, (c.loop-entry.count, refl, wants))) so_far.gate c.in_err-has_same_reply.ensures.gate)
 
 pub returns-then-not-branch-clause-gate : goal.returns-then-not-branch-clause-gate
 returns-then-not-branch-clause-gate g c = passed_more _ _ _ _ _ c.loop-entry.invariant.gate c.in_ok-has_same_reply.ensures.gate

@@ -1,5 +1,6 @@
 use Rattle.std.proofs.Common.{inl, inr, sym, ◌∙◌, ap, arith, ◌+◌, ◌++◌, ◌∷◌, []}
 use Rattle.std.proofs.lemmas.Result.{err_from_is_err_and}
+use Rattle.esx_session.specs.Reading.{Follows}
 use Rattle.esx_check.specs.Again.{made}
 use Rattle.esx_check.specs.Wants.{WantsMemory}
 use Rattle.esx_check.proofs.CheckLemmas.{is_not}
@@ -23,9 +24,9 @@ loop-entry-preserved g c =
     record {
       so_far = λ text site follows answers.
           let so_far = c.loop-entry.invariant.so_far text site follows answers in
-          one_more_so_far text _ _ _ _ _ c.in-Some.entry so_far (rw c.in-Some.is at (entry.some text so_far.site so_far.done so_far.follows))
+          one_more_so_far text _ _ _ _ _ c.in-Some.entry so_far (rw c.give_back.ensures (rw c.in-Some.is at (entry.some text so_far.site so_far.done so_far.follows)))
           (is.made (made so_far.site so_far.done) so_far.answers) ((is.same (made so_far.site so_far.done) so_far.answers).0 c.if-not-same.false);
-      count = ap (λ n. n + 1) c.loop-entry.invariant.count ∙ sym (rw c.in-Some.is at entry.count);
+      count = rw c.give_back.ensures (ap (λ n. n + 1) c.loop-entry.invariant.count ∙ sym (rw c.in-Some.is at entry.count));
       few = omega arith;
       held = is.empty c.if-not-same.false;
       gate = passed_more _ _ _ _ _ c.loop-entry.invariant.gate is.gate;
@@ -41,13 +42,15 @@ pub returns-in_err-read_on-clause-only : goal.returns-in_err-read_on-clause-only
 returns-in_err-read_on-clause-only g c = λ text site follows answers.
     let so_far = c.loop-entry.invariant.so_far text site follows answers in
     let p = err_from_is_err_and c.from_residual-in_err-read_on.result c.from_residual-in_err-read_on.ensures.1 in
-    let next = rw c.in-Some.is at (c.in_ok-entry.ensures.some text so_far.site so_far.done so_far.follows) in
+    let next : Follows text so_far.site (so_far.done ++ c.in-Some.entry ∷ []) c.give_back.new.self =
+    rw c.give_back.ensures (rw c.in-Some.is at (c.in_ok-entry.ensures.some text so_far.site so_far.done so_far.follows)) in
     rw (p.1, p.2) (c.in_err-read_on.ensures.only text so_far.site (so_far.done ++ c.in-Some.entry ∷ []) next)
 
 pub returns-then-not-same-clause-ok : goal.returns-then-not-same-clause-ok
 returns-then-not-same-clause-ok g c = λ text site follows answers.
     let so_far = c.loop-entry.invariant.so_far text site follows answers in
-    let next = rw c.in-Some.is at (c.in_ok-entry.ensures.some text so_far.site so_far.done so_far.follows) in
+    let next : Follows text so_far.site (so_far.done ++ c.in-Some.entry ∷ []) c.give_back.new.self =
+    rw c.give_back.ensures (rw c.in-Some.is at (c.in_ok-entry.ensures.some text so_far.site so_far.done so_far.follows)) in
     let on = c.in_ok-read_on.ensures.ok text so_far.site (so_far.done ++ c.in-Some.entry ∷ []) next in
     one_differs text _ _ _ c.in-Some.entry so_far on.0 on.1
     (is_not _ _ (c.in-Ok.ensures.same (made so_far.site so_far.done) so_far.answers) c.if-not-same.true)
@@ -71,7 +74,8 @@ returns-in_default-has_same_reply-clause-some g c = λ text site follows answers
 pub returns-in_err-read_on-clause-some : goal.returns-in_err-read_on-clause-some
 returns-in_err-read_on-clause-some g c = λ text site follows answers.
     let so_far = c.loop-entry.invariant.so_far text site follows answers in
-    let next = rw c.in-Some.is at (c.in_ok-entry.ensures.some text so_far.site so_far.done so_far.follows) in
+    let next : Follows text so_far.site (so_far.done ++ c.in-Some.entry ∷ []) c.give_back.new.self =
+    rw c.give_back.ensures (rw c.in-Some.is at (c.in_ok-entry.ensures.some text so_far.site so_far.done so_far.follows)) in
     on_err c.from_residual-in_err-read_on.result
     (some_more _ _ _ _ _ _ (goes_to_one_more text _ _ _ _ c.in-Some.entry so_far next) c.loop-entry.invariant.gate c.in-Ok.ensures.gate)
 
@@ -90,7 +94,8 @@ pub returns-in_err-read_on-clause-bad : goal.returns-in_err-read_on-clause-bad
 returns-in_err-read_on-clause-bad g c = λ text site line follows answers is.
     let so_far = c.loop-entry.invariant.so_far text site follows answers in
     let p = err_from_is_err_and c.from_residual-in_err-read_on.result c.from_residual-in_err-read_on.ensures.1 in
-    let next = rw c.in-Some.is at (c.in_ok-entry.ensures.some text so_far.site so_far.done so_far.follows) in
+    let next : Follows text so_far.site (so_far.done ++ c.in-Some.entry ∷ []) c.give_back.new.self =
+    rw c.give_back.ensures (rw c.in-Some.is at (c.in_ok-entry.ensures.some text so_far.site so_far.done so_far.follows)) in
     let on = c.in_err-read_on.ensures.err text so_far.site (so_far.done ++ c.in-Some.entry ∷ []) next in
     let bad = rw (p.1, p.2) at is in
     let near = c.in_err-read_on.ensures.near line (cc) in
@@ -103,7 +108,7 @@ returns-in_err-entry-clause-wants g c = λ text site follows answers is.
     let p = err_from_is_err_and c.from_residual.result c.from_residual.ensures.1 in
     let out = rw (p.1, p.2) at is in
     let wants = c.in_err-entry.ensures.wants (cc) in
-    some_of _ _ _ _ _ (inr (inr (stops_behind_last text _ _ _ _ so_far wants))) c.loop-entry.invariant.gate
+    some_of _ _ _ _ _ (inr (stops_behind_last text _ _ _ _ so_far wants)) c.loop-entry.invariant.gate
 
 pub returns-in_default-has_same_reply-clause-wants : goal.returns-in_default-has_same_reply-clause-wants
 returns-in_default-has_same_reply-clause-wants g c = λ text site follows answers is.
@@ -111,15 +116,16 @@ returns-in_default-has_same_reply-clause-wants g c = λ text site follows answer
     let next = rw c.in-Some.is at (c.in_ok-entry.ensures.some text so_far.site so_far.done so_far.follows) in
     let call = c.in_default-has_same_reply.ensures in
     let wants : WantsMemory so_far.site so_far.done c.in-Some.entry.call = record { may = call.room; comes = call.there (made so_far.site so_far.done) so_far.answers } in
-    some_more _ _ _ _ _ _ (inr (inl (wants_at_call text _ _ _ _ c.in-Some.entry so_far next wants))) c.loop-entry.invariant.gate call.gate
+    some_more _ _ _ _ _ _ (inl (wants_at_call text _ _ _ _ c.in-Some.entry so_far next wants)) c.loop-entry.invariant.gate call.gate
 
 pub returns-in_err-read_on-clause-wants : goal.returns-in_err-read_on-clause-wants
 returns-in_err-read_on-clause-wants g c = λ text site follows answers is.
     let so_far = c.loop-entry.invariant.so_far text site follows answers in
     let p = err_from_is_err_and c.from_residual-in_err-read_on.result c.from_residual-in_err-read_on.ensures.1 in
-    let next = rw c.in-Some.is at (c.in_ok-entry.ensures.some text so_far.site so_far.done so_far.follows) in
+    let next : Follows text so_far.site (so_far.done ++ c.in-Some.entry ∷ []) c.give_back.new.self =
+    rw c.give_back.ensures (rw c.in-Some.is at (c.in_ok-entry.ensures.some text so_far.site so_far.done so_far.follows)) in
     let on = c.in_err-read_on.ensures.err text so_far.site (so_far.done ++ c.in-Some.entry ∷ []) next in
     let out = rw (p.1, p.2) at is in
     let wants = c.in_err-read_on.ensures.wants (cc) in
     let other = is_not _ _ (c.in-Ok.ensures.same (made so_far.site so_far.done) so_far.answers) c.if-not-same.true in
-    some_more _ _ _ _ _ _ (inr (inr (stops_behind_difference text _ _ _ _ _ c.in-Some.entry so_far on.0 on.1 wants other))) c.loop-entry.invariant.gate c.in-Ok.ensures.gate
+    some_more _ _ _ _ _ _ (inr (stops_behind_difference text _ _ _ _ _ c.in-Some.entry so_far on.0 on.1 wants other)) c.loop-entry.invariant.gate c.in-Ok.ensures.gate

@@ -1,4 +1,4 @@
-use Rattle.std.proofs.Common.{inl, refl}
+use Rattle.std.proofs.Common.{inl, inr, refl}
 use Rattle.esx_check.proofs.GateLemmas.{some_none, on_err}
 use Rattle.esx_check.proofs.text.check_text_through.Goals as goal
 
@@ -21,4 +21,6 @@ pub returns-in_default-clause-wants : goal.returns-in_default-clause-wants
 returns-in_default-clause-wants g c = λ is. some_none _ _ _ (inl refl)
 
 pub returns-clause-wants : goal.returns-clause-wants
-returns-clause-wants g c = λ is. c.check_as_read.ensures.wants c.args.text.now c.in_ok-site.site c.in_ok-site.ensures.ok c.in-Ok.ensures.answers is
+returns-clause-wants g c = λ is.
+    let ran = c.check_as_read.ensures.wants c.args.text.now c.in_ok-site.site c.in_ok-site.ensures.ok c.in-Ok.ensures.answers is in
+    (ran.0, inr ran.1, ran.2)

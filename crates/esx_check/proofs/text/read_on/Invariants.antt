@@ -5,8 +5,8 @@ use Rattle.esx_session.specs.Reading.{Follows}
 use Rattle.esx_check.proofs.TextLemmas.{ReadOn}
 use Rattle.esx_check.proofs.text.read_on.Given as goal
 
-abbrev pub invariant-loop-entry : goal.invariant-loop-entry
-invariant-loop-entry l = (text : List ℕ) (site : Config) (done : List Entry) → Follows text site done l.initial.calls → ReadOn text site done l.calls
+abbrev pub invariant-loop-later : goal.invariant-loop-later
+invariant-loop-later l = (text : List ℕ) (site : Config) (done : List Entry) → Follows text site done l.initial.calls → ReadOn text site done l.calls
 
-abbrev pub decreases-loop-entry : goal.decreases-loop-entry
-decreases-loop-entry l = length l.calls.at.left
+abbrev pub decreases-loop-later : goal.decreases-loop-later
+decreases-loop-later l = length l.calls.at.left

@@ -9,8 +9,8 @@ returns-in-None-clause-only c = λ start done is count.
     let at = c.passed.ensures.value ∙ ap (λ (p : Place). p.passed) c.in-None.ensures.left.1 in
     rw at (ends_early start c.args.place.now done is c.in-None.ensures.left.0)
 
-pub returns-in-Some-next-clause-only : goal.returns-in-Some-next-clause-only
-returns-in-Some-next-clause-only c = λ start done is count.
+pub returns-in-Some-clause-only : goal.returns-in-Some-clause-only
+returns-in-Some-clause-only c = λ start done is count.
     let end = c.if-is_end.ensures.0 refl ∙ ap end_line count in
     rw c.passed-in-Some-next.ensures.value (late_line start c.args.place.now c.next.new.self c.next-in-Some.new.self done c.in-Some.line.now c.in-Some-next.field-0.now
     is c.in-Some.ensures.left c.in-Some.ensures.passed end c.in-Some-next.ensures.left c.in-Some-next.ensures.passed)
@@ -23,8 +23,8 @@ returns-in_err-read_entry-in-Some-2-clause-only c = λ start done is count.
     (not_end c.in-Some.line.now c.is_end.result c.args.count (length done) count c.is_end.ensures c.if-is_end.false)
     c.in_err-read_entry-in-Some-2.ensures.only)
 
-pub returns-in_ok-read_entry-in-Some-2-clause-some : goal.returns-in_ok-read_entry-in-Some-2-clause-some
-returns-in_ok-read_entry-in-Some-2-clause-some c = λ start done is.
+pub returns-clause-some : goal.returns-clause-some
+returns-clause-some c = λ start done is.
     one_more start c.args.place.now c.next.new.self c.read_entry.new.place done c.in-Some.line.now c.in_ok-read_entry-in-Some-2.field-0 is
     c.in-Some.ensures.left c.in-Some.ensures.passed c.in_ok-read_entry-in-Some-2.ensures.ok
 
@@ -37,8 +37,8 @@ returns-in-None-clause-near c = λ line is.
     let at = c.passed.ensures.value ∙ ap (λ (p : Place). p.passed) c.in-None.ensures.left.1 in
     first_is_next _ c.args.place.now c.passed.result line at refl is
 
-pub returns-in-Some-next-clause-near : goal.returns-in-Some-next-clause-near
-returns-in-Some-next-clause-near c = λ line is.
+pub returns-in-Some-clause-near : goal.returns-in-Some-clause-near
+returns-in-Some-clause-near c = λ line is.
     second_is_next _ c.args.place.now c.next.new.self c.next-in-Some.new.self c.passed-in-Some-next.result line
     c.in-Some.ensures.passed c.in-Some-next.ensures.passed c.passed-in-Some-next.ensures.value refl is
 
