@@ -37,10 +37,10 @@ pub fn parse_script(alloc: Global, text: &str) -> Result<Script, TextFault>
     ensures memory { IsErrOf result TextFault.OutOfMemory → HasOpening text.now }
     ensures third { IsErrOf result TextFault.OutOfMemory → GoesPastOpening text.now }
 {
-    let (site, mut calls) = open_calls(text)?;
+    let (site, mut entries) = open_calls(text)?;
     let mut requests = Rows::new(alloc);
-    while let Some(entry) = calls.next(alloc)? {
-        calls.give_back(entry.reply);
+    while let Some(entry) = entries.next(alloc)? {
+        entries.give_back(entry.reply);
         let request = Request {
             caller: entry.caller,
             call: entry.call,

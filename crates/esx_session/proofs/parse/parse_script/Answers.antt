@@ -28,7 +28,7 @@ returns-in_err-entry-clause-third c = λ wants.
     let p = err_from_is_err_and c.from_residual-in_err-entry.result c.from_residual-in_err-entry.ensures.1 in
     let wants_entry = rw (p.1, p.2) at wants in
     let so_far = c.loop-requests.invariant in
-    goes_past c.args.text.now c.in_ok-site.site so_far.done c.loop-requests.calls so_far.follows (c.in_err-entry.ensures.wants (cc))
+    goes_past c.args.text.now c.in_ok-site.site so_far.done c.loop-requests.entries so_far.follows (c.in_err-entry.ensures.wants (cc))
 
 pub returns-in_default-push-clause-third : goal.returns-in_default-push-clause-third
 returns-in_default-push-clause-third c = λ wants.
