@@ -76,7 +76,8 @@ fn write_replies<W: Sink>(
 /// Makes the calls of a session again, in their order, at a console that was opened at the site of the session, and
 /// writes the reply to each, and then the table. It compares nothing. Who made a call changes no reply.
 ///
-/// What was written is handed on at the end, also where memory ran out. The console is left as the last call left it.
+/// What was written is handed on at the end, also where memory ran out. The console is done with then, and left to
+/// the caller.
 pub fn replay_calls<W: Sink>(
     again: &mut Again,
     requests: Rows<Request>,

@@ -36,8 +36,8 @@ fn read_on(alloc: Global, calls: &mut Calls) -> Result<(), TextFault>
 }
 
 /// Makes the calls of a text again as they are read, from the first on, at a console that was opened at the site of
-/// the text, and passes the gate before each. The console is left as the last call left it: `check_text_through`
-/// drops it at its end, which takes as long as there is memory to give back.
+/// the text, and passes the gate before each. The console is done with then, and left to the caller: to drop it takes
+/// as long as there is memory to give back.
 ///
 /// Where reading ends early the gate was passed for calls that stand in the text, and each but the last of them has
 /// its reply; at a bad line, and where memory is wanting to read on, for those that a check of the calls before it
