@@ -6,13 +6,14 @@ ghost use Rattle.std.specs.Str.Lines.{lines};
 ghost use Rattle.esx_session.specs.Reading.{HasNoFeed, Quotes, LeavesReply};
 
 use crate::line::reply_of;
+use memchr::memchr;
 use std::marker::Model;
 
 /// The text before the first line feed, and the text behind it.
 fn split_at_feed<'a>(text: &'a str) -> Option<(&'a str, &'a str)>
     ensures { MatchOption result (All (λ b. b ≡ 10 → ⊥) text.now) (λ p. All (λ b. b ≡ 10 → ⊥) p.0.now × (text.now ≡ p.0.now ++ 10 ∷ p.1.now)) }
 {
-    let at = text.as_bytes().iter().position(|byte| *byte == b'\n')?;
+    let at = memchr(b'\n', text.as_bytes())?;
     Some((&text[..at], &text[at + 1..]))
 }
 
