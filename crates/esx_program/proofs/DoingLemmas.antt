@@ -1,6 +1,6 @@
 -- What is done with a file and with streams, by the word that asks for it.
 use Rattle.std.proofs.Common.{◌≡◌, ◌⊎◌, ◌+◌, ℕ, List, [], Option, Some, None, Result, Ok, Err, refl, inl, inr, arith}
-use Rattle.std.specs.Prelude.{codes, IsSome, IsUtf8}
+use Rattle.std.specs.Prelude.{codes, IsSome}
 use Rattle.std.specs.Result.{IfOk, IfErr, IsErrOf, OnOk}
 use Rattle.std.specs.IoError.{error_kind}
 use Rattle.std.specs.Io.KnownBytes.{Appends}
@@ -130,7 +130,7 @@ module _ (unread left : SourceState) (errors errors' out out' : SinkState) where
   does_fail (Check file) (Err (Run e)) d = absurd d.0
 
 -- the text of a file was checked
-module _ (read : Opened) (out out' : SinkState) (bytes : List ℕ) (here : HasText read bytes) (utf8 : IsUtf8 bytes) where
+module _ (read : Opened) (out out' : SinkState) (bytes : List ℕ) (here : HasText read bytes) where
   checked_done : (done : Done) → TellsCheck bytes done out out' → EndsCheck read (Ok done) out out'
   checked_done Served t = absurd t
   checked_done Ran t = absurd t
@@ -141,12 +141,12 @@ module _ (read : Opened) (out out' : SinkState) (bytes : List ℕ) (here : HasTe
   not_checked Words t = absurd t
   not_checked (Text text.NotToml) t = absurd t.0
   not_checked (Text (text.BadKey path)) t = absurd t.0
-  not_checked (Text (text.BadLine k)) t = (text_refused read bytes (text.BadLine k) here utf8 t.0 (λ h. cc), t.1)
+  not_checked (Text (text.BadLine k)) t = (text_refused read bytes (text.BadLine k) here t.0 (λ h. cc), t.1)
   not_checked (Text text.NotText) t = absurd t.0
   not_checked (Text (text.Differs k)) t = absurd t.0
   not_checked (Text text.Read) t = absurd t.0
   not_checked (Text text.Write) t = absurd t.0
-  not_checked (Text text.OutOfMemory) t = (text_refused read bytes text.OutOfMemory here utf8 tt (λ h. t.0), t.1)
+  not_checked (Text text.OutOfMemory) t = (text_refused read bytes text.OutOfMemory here tt (λ h. t.0), t.1)
   not_checked (Serve e) t = absurd t
   not_checked (Output e) t = (bytes, here, t.0, t.1, t.2)
   not_checked (Run e) t = absurd t

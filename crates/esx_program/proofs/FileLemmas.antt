@@ -9,7 +9,7 @@ use Rattle.esx_reading.specs.Whole.{GivesMore, GivesOn, GivesWhole, IsOfText}
 use Rattle.esx_scenario.specs.Scenarios.{IsRefused as IsNoPlan}
 use Rattle.esx_session.specs.Reading.{GoesPastOpening}
 use Rattle.esx_session.specs.Sessions.{HasOpening, IsRefused}
-use Rattle.esx_program.specs.Files.{FailsToRead, HasText, IsNoCheck, IsNoScenario, IsNoSession, IsNoText, IsRead, LacksCheck, LacksText, Opened, ReadsPieces}
+use Rattle.esx_program.specs.Files.{FailsToRead, HasText, IsNoCheck, IsNoScenario, IsNoSession, IsNoText, IsTextRead, LacksCheck, LacksText, Opened, ReadsPieces}
 use Rattle.esx_program.specs.States.{SourceState}
 
 module _ (old new : SourceState) (pieces : ReadsPieces old new) where
@@ -57,9 +57,9 @@ module _ (old new : SourceState) (pieces : ReadsPieces old new) where
   -- a text that was read
   pub is_text : {T : Type 0} (r : Result T TextFault) (bytes : T → List ℕ) → IfOk r (λ v. GivesWhole old.remaining new.remaining (bytes v))
       → IfOk r (λ v. new.calls ≤ old.calls + length (bytes v) + 1) → ((IsErrOf r Read → ⊥) → new.failures ≡ old.failures)
-      → OnOk r (new.empty_reads ≡ old.empty_reads + 1) → IfOk r (λ v. IsRead old new (bytes v))
-  is_text (Ok v) bytes given calls same found = record { given = given; failures = same (λ h. cc); calls = calls; found = found; pieces = pieces }
-  is_text (Err e) bytes given calls same found = tt
+      → OnOk r (new.empty_reads ≡ old.empty_reads + 1) → ((v : T) → IsUtf8 (bytes v)) → IfOk r (λ v. IsTextRead old new (bytes v))
+  is_text (Ok v) bytes given calls same found utf8 = (record { given = given; failures = same (λ h. cc); calls = calls; found = found; pieces = pieces }, utf8 v)
+  is_text (Err e) bytes given calls same found utf8 = tt
 
 module _ (old new : SourceState) where
   -- it has no scenario either
@@ -96,7 +96,7 @@ module _ (old new : SourceState) where
   no_check_unread OutOfMemory n = inl n
 
   -- a text that was refused
-  module _ (text : List ℕ) (given : IsRead old new text) (utf8 : IsUtf8 text) where
+  module _ (text : List ℕ) (given : IsTextRead old new text) where
     no_plan_of : (e : TextFault) → IsNoPlan text e → IsNoScenario old new e
     no_plan_of NotToml n = (text, given, n)
     no_plan_of (BadKey path) n = (text, given, n)
@@ -105,7 +105,7 @@ module _ (old new : SourceState) where
     no_plan_of (Differs k) n = n
     no_plan_of Read n = absurd n
     no_plan_of Write n = n
-    no_plan_of OutOfMemory n = inr (text, given, utf8)
+    no_plan_of OutOfMemory n = inr (text, given)
 
     pub no_scenario : {T : Type 0} (r : Result T TextFault) → IfErr r (IsNoPlan text) → IfErr r (IsNoScenario old new)
     no_scenario (Ok v) n = tt
@@ -119,7 +119,7 @@ module _ (old new : SourceState) where
     no_session_of (Differs k) n past = n
     no_session_of Read n past = absurd n
     no_session_of Write n past = n
-    no_session_of OutOfMemory n past = inr (text, given, utf8, past refl)
+    no_session_of OutOfMemory n past = inr (text, given, past refl)
 
     pub no_session : {T : Type 0} (r : Result T TextFault) → IfErr r (λ e. IsRefused e text) → (IsErrOf r OutOfMemory → GoesPastOpening text)
         → IfErr r (IsNoSession old new)
@@ -134,7 +134,7 @@ module _ (old new : SourceState) where
     no_check_of (Differs k) n opening = n
     no_check_of Read n opening = absurd n
     no_check_of Write n opening = n
-    no_check_of OutOfMemory n opening = inr (text, given, utf8, opening refl)
+    no_check_of OutOfMemory n opening = inr (text, given, opening refl)
 
 -- a file that has no text is not checked
 pub no_text_no_check : (read : Opened) (e : TextFault) → LacksText read e → LacksCheck read e
@@ -142,7 +142,6 @@ no_text_no_check (Ok states) e n = no_check_unread states.0 states.1 e n
 no_text_no_check (Err error) e n = n
 
 -- a file whose text was refused where it was checked
-pub text_refused : (read : Opened) (text : List ℕ) (e : TextFault) → HasText read text → IsUtf8 text → IsRefused e text → (e ≡ OutOfMemory → HasOpening text)
-    → LacksCheck read e
-text_refused (Ok states) text e here utf8 n opening = no_check_of states.0 states.1 text here utf8 e n opening
-text_refused (Err error) text e here utf8 n opening = absurd here
+pub text_refused : (read : Opened) (text : List ℕ) (e : TextFault) → HasText read text → IsRefused e text → (e ≡ OutOfMemory → HasOpening text) → LacksCheck read e
+text_refused (Ok states) text e here n opening = no_check_of states.0 states.1 text here e n opening
+text_refused (Err error) text e here n opening = absurd here

@@ -30,6 +30,10 @@ pub record IsRead (old new : SourceState) (bytes : List ℕ) : Type 0 where
   pub found : new.empty_reads ≡ old.empty_reads + 1
   pub pieces : ReadsPieces old new
 
+-- the same of bytes that are a text
+abbrev pub IsTextRead : SourceState → SourceState → List ℕ → Type 0
+IsTextRead old new text = IsRead old new text × IsUtf8 text
+
 -- A read failed, or none of 2^26 found the end, or there were more bytes than a file may have. No read found the end.
 pub record FailsToRead (old new : SourceState) : Type 0 where
   pub cause : (new.failures ≡ old.failures + 1)
@@ -54,21 +58,21 @@ IsNoText old new _ = ⊥
 
 -- The same, or its bytes are a text that is refused so, where a scenario is wanted. Memory may also run out over a text.
 abbrev pub IsNoScenario : SourceState → SourceState → TextFault → Type 0
-IsNoScenario old new NotToml = (text : List ℕ) × IsRead old new text × IsNoPlan text NotToml
-IsNoScenario old new (BadKey path) = (text : List ℕ) × IsRead old new text × IsNoPlan text (BadKey path)
-IsNoScenario old new OutOfMemory = StopsWithin old new ⊎ ((text : List ℕ) × IsRead old new text × IsUtf8 text)
+IsNoScenario old new NotToml = (text : List ℕ) × IsTextRead old new text × IsNoPlan text NotToml
+IsNoScenario old new (BadKey path) = (text : List ℕ) × IsTextRead old new text × IsNoPlan text (BadKey path)
+IsNoScenario old new OutOfMemory = StopsWithin old new ⊎ ((text : List ℕ) × IsTextRead old new text)
 IsNoScenario old new e = IsNoText old new e
 
 -- The same, where a session is wanted. Memory may also run out over a text whose first two lines are those of a session, where what stands behind them may take memory.
 abbrev pub IsNoSession : SourceState → SourceState → TextFault → Type 0
-IsNoSession old new (BadLine n) = (text : List ℕ) × IsRead old new text × IsRefused (BadLine n) text
-IsNoSession old new OutOfMemory = StopsWithin old new ⊎ ((text : List ℕ) × IsRead old new text × IsUtf8 text × GoesPastOpening text)
+IsNoSession old new (BadLine n) = (text : List ℕ) × IsTextRead old new text × IsRefused (BadLine n) text
+IsNoSession old new OutOfMemory = StopsWithin old new ⊎ ((text : List ℕ) × IsTextRead old new text × GoesPastOpening text)
 IsNoSession old new e = IsNoText old new e
 
 -- The same, where a session is checked. Memory may also run out over a text whose first two lines are those of a session: they open a console.
 abbrev pub IsNoCheck : SourceState → SourceState → TextFault → Type 0
-IsNoCheck old new (BadLine n) = (text : List ℕ) × IsRead old new text × IsRefused (BadLine n) text
-IsNoCheck old new OutOfMemory = StopsWithin old new ⊎ ((text : List ℕ) × IsRead old new text × IsUtf8 text × HasOpening text)
+IsNoCheck old new (BadLine n) = (text : List ℕ) × IsTextRead old new text × IsRefused (BadLine n) text
+IsNoCheck old new OutOfMemory = StopsWithin old new ⊎ ((text : List ℕ) × IsTextRead old new text × HasOpening text)
 IsNoCheck old new e = IsNoText old new e
 
 -- a file as it was opened and as it was left, or why it was not opened
@@ -106,7 +110,7 @@ IsSame remaining given opened other = ⊥
 
 -- the file has this text, and was read to its end
 abbrev pub HasText : Opened → List ℕ → Type 0
-HasText (Ok states) text = IsRead states.0 states.1 text
+HasText (Ok states) text = IsTextRead states.0 states.1 text
 HasText (Err e) text = ⊥
 
 -- its text is that scenario

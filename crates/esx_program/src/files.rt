@@ -4,7 +4,7 @@ ghost use Rattle.std.specs.Prelude.{◌≡◌, ℕ, List, string_bytes, IfOk, If
 ghost use Rattle.esx_types.specs.Ranges.{IsConfig};
 ghost use Rattle.esx_scenario.specs.Scenarios.{IsScenario};
 ghost use Rattle.esx_session.specs.Sessions.{ReadsScript};
-ghost use Rattle.esx_program.specs.Files.{Opened, IsLeft, IsNoScenario, IsNoSession, IsNoText, IsRead, HasScenario, HasScript, HasText, LacksScenario, LacksSession, LacksText};
+ghost use Rattle.esx_program.specs.Files.{Opened, IsLeft, IsNoScenario, IsNoSession, IsNoText, IsTextRead, HasScenario, HasScript, HasText, LacksScenario, LacksSession, LacksText};
 ghost use Rattle.esx_program.specs.Given.{open_fault};
 ghost use Rattle.esx_program.specs.States.{source_state};
 
@@ -27,7 +27,7 @@ fn fault_of_kind(kind: ErrorKind) -> TextFault
 
 /// The text that a file gives.
 fn text_of_source<F: Source>(alloc: Global, file: &mut F) -> Result<String, TextFault>
-    ensures text { IfOk result (λ s. IsRead (source_state F.remaining F.calls F.failures F.empty_reads F.asked file.old) (source_state F.remaining F.calls F.failures F.empty_reads F.asked file.new) (string_bytes s)) }
+    ensures text { IfOk result (λ s. IsTextRead (source_state F.remaining F.calls F.failures F.empty_reads F.asked file.old) (source_state F.remaining F.calls F.failures F.empty_reads F.asked file.new) (string_bytes s)) }
     ensures fault { IfErr result (IsNoText (source_state F.remaining F.calls F.failures F.empty_reads F.asked file.old) (source_state F.remaining F.calls F.failures F.empty_reads F.asked file.new)) }
 {
     read_text(alloc, file)
@@ -36,7 +36,7 @@ fn text_of_source<F: Source>(alloc: Global, file: &mut F) -> Result<String, Text
 /// The scenario that a file gives.
 fn scenario_of_source<F: Source>(alloc: Global, file: &mut F) -> Result<Scenario, TextFault>
     ensures scenario { IfOk result (λ plan. (text : List ℕ)
-        × IsRead (source_state F.remaining F.calls F.failures F.empty_reads F.asked file.old) (source_state F.remaining F.calls F.failures F.empty_reads F.asked file.new) text × IsScenario text plan) }
+        × IsTextRead (source_state F.remaining F.calls F.failures F.empty_reads F.asked file.old) (source_state F.remaining F.calls F.failures F.empty_reads F.asked file.new) text × IsScenario text plan) }
     ensures fault { IfErr result (IsNoScenario (source_state F.remaining F.calls F.failures F.empty_reads F.asked file.old) (source_state F.remaining F.calls F.failures F.empty_reads F.asked file.new)) }
 {
     let text = text_of_source(alloc, file)?;
@@ -47,7 +47,7 @@ fn scenario_of_source<F: Source>(alloc: Global, file: &mut F) -> Result<Scenario
 fn script_of_source<F: Source>(alloc: Global, file: &mut F) -> Result<Script, TextFault>
     ensures config { IfOk result (λ script. IsConfig script.site) }
     ensures script { IfOk result (λ script. (text : List ℕ)
-        × IsRead (source_state F.remaining F.calls F.failures F.empty_reads F.asked file.old) (source_state F.remaining F.calls F.failures F.empty_reads F.asked file.new) text
+        × IsTextRead (source_state F.remaining F.calls F.failures F.empty_reads F.asked file.old) (source_state F.remaining F.calls F.failures F.empty_reads F.asked file.new) text
         × ReadsScript text script.site script.requests) }
     ensures fault { IfErr result (IsNoSession (source_state F.remaining F.calls F.failures F.empty_reads F.asked file.old) (source_state F.remaining F.calls F.failures F.empty_reads F.asked file.new)) }
 {

@@ -1,6 +1,4 @@
 use Rattle.std.proofs.Common.{refl}
-use Rattle.std.specs.Prelude.{IsUtf8}
-use Rattle.std.proofs.lemmas.Str.{IsUtf8-string_bytes}
 use Rattle.esx_program.specs.Files.{HasText}
 use Rattle.esx_program.proofs.DoingLemmas.{file_checked}
 use Rattle.esx_program.proofs.FileLemmas.{no_text_no_check}
@@ -10,8 +8,7 @@ pub returns-in-Ok : goal.returns-in-Ok
 returns-in-Ok g c =
     let read = c.in-Ok.ensures in
     let here : HasText read.0 c.as_str.result.now = rw c.as_str.ensures.value read.2 in
-    let utf8 : IsUtf8 c.as_str.result.now = rw c.as_str.ensures.value (IsUtf8-string_bytes c.in-Ok.text) in
-    (read.0, read.1, file_checked read.0 _ _ c.as_str.result.now here utf8 c.check_to.result.ended c.check_to.ensures.told c.check_to.ensures.failure)
+    (read.0, read.1, file_checked read.0 _ _ c.as_str.result.now here c.check_to.result.ended c.check_to.ensures.told c.check_to.ensures.failure)
 
 pub returns-in-Err : goal.returns-in-Err
 returns-in-Err g c = let none = c.in-Err.ensures in (none.0, none.1, (no_text_no_check none.0 c.in-Err.fault none.3, refl))
