@@ -45,21 +45,21 @@ fn read_on(alloc: Global, calls: &mut Calls) -> Result<(), TextFault>
 pub fn check_as_read<G: Gate>(
     alloc: Global,
     again: &mut Again,
-    calls: &mut Calls,
+    mut calls: Calls,
     gate: &mut G,
 ) -> Result<Checked, TextFault>
-    requires none { (calls.old.count ≡ 0) × (again.old.console.jumps ≡ 0) }
+    requires none { (calls.count ≡ 0) × (again.old.console.jumps ≡ 0) }
     requires empty { again.old.held ≡ [] }
-    ensures ok { (text : List ℕ) (site : Config) → Follows text site [] calls.old → AnswersAs again.old.console (opened_session site)
+    ensures ok { (text : List ℕ) (site : Config) → Follows text site [] calls.entry → AnswersAs again.old.console (opened_session site)
         → IfOk result (ChecksText text) }
-    ensures only { (text : List ℕ) (site : Config) → Follows text site [] calls.old → AnswersAs again.old.console (opened_session site)
+    ensures only { (text : List ℕ) (site : Config) → Follows text site [] calls.entry → AnswersAs again.old.console (opened_session site)
         → IfErr result (λ e. IsRefused e text) }
     ensures gate { IfOk result (λ checked. PassedFor G.passes (calls_made checked) gate.old gate.new) }
-    ensures some { (text : List ℕ) (site : Config) → Follows text site [] calls.old → AnswersAs again.old.console (opened_session site)
+    ensures some { (text : List ℕ) (site : Config) → Follows text site [] calls.entry → AnswersAs again.old.console (opened_session site)
         → OnErr result (PassedForSome G.passes (GoesToInText text) gate.old gate.new) }
-    ensures bad { (text : List ℕ) (site : Config) (line : ℕ) → Follows text site [] calls.old → AnswersAs again.old.console (opened_session site)
+    ensures bad { (text : List ℕ) (site : Config) (line : ℕ) → Follows text site [] calls.entry → AnswersAs again.old.console (opened_session site)
         → IsErrOf result (TextFault.BadLine line) → PassedForSome G.passes (GoesToBadLine text line) gate.old gate.new }
-    ensures wants { (text : List ℕ) (site : Config) → Follows text site [] calls.old → AnswersAs again.old.console (opened_session site)
+    ensures wants { (text : List ℕ) (site : Config) → Follows text site [] calls.entry → AnswersAs again.old.console (opened_session site)
         → IsErrOf result TextFault.OutOfMemory → PassedForSome G.passes (RunsOutAsRead text) gate.old gate.new }
 {
     let mut count: u64 = 0;
@@ -71,7 +71,7 @@ pub fn check_as_read<G: Gate>(
         calls.give_back(entry.reply);
         drop(entry.call);
         if !same {
-            read_on(alloc, calls)?;
+            read_on(alloc, &mut calls)?;
             return Ok(Checked::Differs(count));
         }
     }
@@ -113,9 +113,9 @@ pub fn check_text_through<G: Gate>(
     ensures bad { (line : ℕ) → IsErrOf result (TextFault.BadLine line) → PassedForSome G.passes (GoesToBadLine text.now line) gate.old gate.new }
     ensures wants { IsErrOf result TextFault.OutOfMemory → PassedForSome G.passes (RunsOutInText text.now) gate.old gate.new }
 {
-    let (site, mut calls) = open_calls(text)?;
+    let (site, calls) = open_calls(text)?;
     let Ok(mut again) = Again::open(alloc, site) else {
         return Err(TextFault::OutOfMemory);
     };
-    check_as_read(alloc, &mut again, &mut calls, gate)
+    check_as_read(alloc, &mut again, calls, gate)
 }

@@ -39,7 +39,7 @@ pub fn check_watched<P: Print>(
     ensures fault { IfErr result (λ e. IsRefused e text.now) }
     ensures memory { IsErrOf result TextFault.OutOfMemory → HasOpening text.now }
 {
-    let (site, mut calls) = open_calls(text)?;
+    let (site, calls) = open_calls(text)?;
     let Ok(mut again) = Again::open(alloc, site) else {
         return Err(TextFault::OutOfMemory);
     };
@@ -47,7 +47,7 @@ pub fn check_watched<P: Print>(
     let mut gate = Counting {
         progress: &progress,
     };
-    let checked = check_as_read(alloc, &mut again, &mut calls, &mut gate);
+    let checked = check_as_read(alloc, &mut again, calls, &mut gate);
     progress.end();
     mem::forget(again);
     checked

@@ -8,8 +8,8 @@ use Rattle.esx_check.proofs.GateLemmas.{passed_none, passed_more, some_of, some_
 use Rattle.esx_check.proofs.TextLemmas.{nothing_so_far, one_more_so_far, all_same, one_differs, goes_to_last, goes_to_one_more, stops_behind_last, stops_behind_difference, wants_at_call}
 use Rattle.esx_check.proofs.text.check_as_read.Goals as goal
 
-pub loop-entry-init : goal.loop-entry-init
-loop-entry-init g c = record {
+pub loop-calls-init : goal.loop-calls-init
+loop-calls-init g c = record {
   so_far = λ text site follows answers. nothing_so_far text site _ _ follows answers;
   count = sym c.requires.none.0;
   few = omega (arith, c.requires.none.1);
@@ -17,30 +17,30 @@ loop-entry-init g c = record {
   gate = passed_none _ _;
 }
 
-pub loop-entry-preserved : goal.loop-entry-preserved
-loop-entry-preserved g c =
+pub loop-calls-preserved : goal.loop-calls-preserved
+loop-calls-preserved g c =
     let is = c.in-Ok.ensures in
     let entry = c.in_ok-entry.ensures in
     record {
       so_far = λ text site follows answers.
-          let so_far = c.loop-entry.invariant.so_far text site follows answers in
+          let so_far = c.loop-calls.invariant.so_far text site follows answers in
           one_more_so_far text _ _ _ _ _ c.in-Some.entry so_far (rw c.give_back.ensures (rw c.in-Some.is at (entry.some text so_far.site so_far.done so_far.follows)))
           (is.made (made so_far.site so_far.done) so_far.answers) ((is.same (made so_far.site so_far.done) so_far.answers).0 c.if-not-same.false);
-      count = rw c.give_back.ensures (ap (λ n. n + 1) c.loop-entry.invariant.count ∙ sym (rw c.in-Some.is at entry.count));
+      count = rw c.give_back.ensures (ap (λ n. n + 1) c.loop-calls.invariant.count ∙ sym (rw c.in-Some.is at entry.count));
       few = omega arith;
       held = is.empty c.if-not-same.false;
-      gate = passed_more _ _ _ _ _ c.loop-entry.invariant.gate is.gate;
+      gate = passed_more _ _ _ _ _ c.loop-calls.invariant.gate is.gate;
     }
 
 pub returns-in_err-entry-clause-only : goal.returns-in_err-entry-clause-only
 returns-in_err-entry-clause-only g c = λ text site follows answers.
-    let so_far = c.loop-entry.invariant.so_far text site follows answers in
+    let so_far = c.loop-calls.invariant.so_far text site follows answers in
     let p = err_from_is_err_and c.from_residual.result c.from_residual.ensures.1 in
     rw (p.1, p.2) (c.in_err-entry.ensures.only text so_far.site so_far.done so_far.follows)
 
 pub returns-in_err-read_on-clause-only : goal.returns-in_err-read_on-clause-only
 returns-in_err-read_on-clause-only g c = λ text site follows answers.
-    let so_far = c.loop-entry.invariant.so_far text site follows answers in
+    let so_far = c.loop-calls.invariant.so_far text site follows answers in
     let p = err_from_is_err_and c.from_residual-in_err-read_on.result c.from_residual-in_err-read_on.ensures.1 in
     let next : Follows text so_far.site (so_far.done ++ c.in-Some.entry ∷ []) c.give_back.new.self =
     rw c.give_back.ensures (rw c.in-Some.is at (c.in_ok-entry.ensures.some text so_far.site so_far.done so_far.follows)) in
@@ -48,7 +48,7 @@ returns-in_err-read_on-clause-only g c = λ text site follows answers.
 
 pub returns-then-not-same-clause-ok : goal.returns-then-not-same-clause-ok
 returns-then-not-same-clause-ok g c = λ text site follows answers.
-    let so_far = c.loop-entry.invariant.so_far text site follows answers in
+    let so_far = c.loop-calls.invariant.so_far text site follows answers in
     let next : Follows text so_far.site (so_far.done ++ c.in-Some.entry ∷ []) c.give_back.new.self =
     rw c.give_back.ensures (rw c.in-Some.is at (c.in_ok-entry.ensures.some text so_far.site so_far.done so_far.follows)) in
     let on = c.in_ok-read_on.ensures.ok text so_far.site (so_far.done ++ c.in-Some.entry ∷ []) next in
@@ -57,42 +57,42 @@ returns-then-not-same-clause-ok g c = λ text site follows answers.
 
 pub returns-clause-ok : goal.returns-clause-ok
 returns-clause-ok g c = λ text site follows answers.
-    let so_far = c.loop-entry.invariant.so_far text site follows answers in
+    let so_far = c.loop-calls.invariant.so_far text site follows answers in
     all_same text _ _ _ so_far (rw c.in_default.is at (c.in_ok-entry.ensures.none text so_far.site so_far.done so_far.follows))
 
 pub returns-in_err-entry-clause-some : goal.returns-in_err-entry-clause-some
 returns-in_err-entry-clause-some g c = λ text site follows answers.
-    let so_far = c.loop-entry.invariant.so_far text site follows answers in
-    on_err c.from_residual.result (some_of _ _ _ _ _ (goes_to_last text _ _ _ so_far) c.loop-entry.invariant.gate)
+    let so_far = c.loop-calls.invariant.so_far text site follows answers in
+    on_err c.from_residual.result (some_of _ _ _ _ _ (goes_to_last text _ _ _ so_far) c.loop-calls.invariant.gate)
 
 pub returns-in_default-has_same_reply-clause-some : goal.returns-in_default-has_same_reply-clause-some
 returns-in_default-has_same_reply-clause-some g c = λ text site follows answers.
-    let so_far = c.loop-entry.invariant.so_far text site follows answers in
+    let so_far = c.loop-calls.invariant.so_far text site follows answers in
     let next = rw c.in-Some.is at (c.in_ok-entry.ensures.some text so_far.site so_far.done so_far.follows) in
-    some_more _ _ _ _ _ _ (goes_to_one_more text _ _ _ _ c.in-Some.entry so_far next) c.loop-entry.invariant.gate c.in_default-has_same_reply.ensures.gate
+    some_more _ _ _ _ _ _ (goes_to_one_more text _ _ _ _ c.in-Some.entry so_far next) c.loop-calls.invariant.gate c.in_default-has_same_reply.ensures.gate
 
 pub returns-in_err-read_on-clause-some : goal.returns-in_err-read_on-clause-some
 returns-in_err-read_on-clause-some g c = λ text site follows answers.
-    let so_far = c.loop-entry.invariant.so_far text site follows answers in
+    let so_far = c.loop-calls.invariant.so_far text site follows answers in
     let next : Follows text so_far.site (so_far.done ++ c.in-Some.entry ∷ []) c.give_back.new.self =
     rw c.give_back.ensures (rw c.in-Some.is at (c.in_ok-entry.ensures.some text so_far.site so_far.done so_far.follows)) in
     on_err c.from_residual-in_err-read_on.result
-    (some_more _ _ _ _ _ _ (goes_to_one_more text _ _ _ _ c.in-Some.entry so_far next) c.loop-entry.invariant.gate c.in-Ok.ensures.gate)
+    (some_more _ _ _ _ _ _ (goes_to_one_more text _ _ _ _ c.in-Some.entry so_far next) c.loop-calls.invariant.gate c.in-Ok.ensures.gate)
 
 pub returns-then-not-same-clause-gate : goal.returns-then-not-same-clause-gate
-returns-then-not-same-clause-gate g c = passed_more _ _ _ _ _ c.loop-entry.invariant.gate c.in-Ok.ensures.gate
+returns-then-not-same-clause-gate g c = passed_more _ _ _ _ _ c.loop-calls.invariant.gate c.in-Ok.ensures.gate
 
 pub returns-in_err-entry-clause-bad : goal.returns-in_err-entry-clause-bad
 returns-in_err-entry-clause-bad g c = λ text site line follows answers is.
-    let so_far = c.loop-entry.invariant.so_far text site follows answers in
+    let so_far = c.loop-calls.invariant.so_far text site follows answers in
     let p = err_from_is_err_and c.from_residual.result c.from_residual.ensures.1 in
     let bad = rw (p.1, p.2) at is in
     let near = c.in_err-entry.ensures.near line (cc) in
-    some_of _ _ _ _ _ (inr (stops_behind_last text _ _ _ _ so_far near)) c.loop-entry.invariant.gate
+    some_of _ _ _ _ _ (inr (stops_behind_last text _ _ _ _ so_far near)) c.loop-calls.invariant.gate
 
 pub returns-in_err-read_on-clause-bad : goal.returns-in_err-read_on-clause-bad
 returns-in_err-read_on-clause-bad g c = λ text site line follows answers is.
-    let so_far = c.loop-entry.invariant.so_far text site follows answers in
+    let so_far = c.loop-calls.invariant.so_far text site follows answers in
     let p = err_from_is_err_and c.from_residual-in_err-read_on.result c.from_residual-in_err-read_on.ensures.1 in
     let next : Follows text so_far.site (so_far.done ++ c.in-Some.entry ∷ []) c.give_back.new.self =
     rw c.give_back.ensures (rw c.in-Some.is at (c.in_ok-entry.ensures.some text so_far.site so_far.done so_far.follows)) in
@@ -100,27 +100,27 @@ returns-in_err-read_on-clause-bad g c = λ text site line follows answers is.
     let bad = rw (p.1, p.2) at is in
     let near = c.in_err-read_on.ensures.near line (cc) in
     let other = is_not _ _ (c.in-Ok.ensures.same (made so_far.site so_far.done) so_far.answers) c.if-not-same.true in
-    some_more _ _ _ _ _ _ (inr (stops_behind_difference text _ _ _ _ _ c.in-Some.entry so_far on.0 on.1 near other)) c.loop-entry.invariant.gate c.in-Ok.ensures.gate
+    some_more _ _ _ _ _ _ (inr (stops_behind_difference text _ _ _ _ _ c.in-Some.entry so_far on.0 on.1 near other)) c.loop-calls.invariant.gate c.in-Ok.ensures.gate
 
 pub returns-in_err-entry-clause-wants : goal.returns-in_err-entry-clause-wants
 returns-in_err-entry-clause-wants g c = λ text site follows answers is.
-    let so_far = c.loop-entry.invariant.so_far text site follows answers in
+    let so_far = c.loop-calls.invariant.so_far text site follows answers in
     let p = err_from_is_err_and c.from_residual.result c.from_residual.ensures.1 in
     let out = rw (p.1, p.2) at is in
     let wants = c.in_err-entry.ensures.wants (cc) in
-    some_of _ _ _ _ _ (inr (stops_behind_last text _ _ _ _ so_far wants)) c.loop-entry.invariant.gate
+    some_of _ _ _ _ _ (inr (stops_behind_last text _ _ _ _ so_far wants)) c.loop-calls.invariant.gate
 
 pub returns-in_default-has_same_reply-clause-wants : goal.returns-in_default-has_same_reply-clause-wants
 returns-in_default-has_same_reply-clause-wants g c = λ text site follows answers is.
-    let so_far = c.loop-entry.invariant.so_far text site follows answers in
+    let so_far = c.loop-calls.invariant.so_far text site follows answers in
     let next = rw c.in-Some.is at (c.in_ok-entry.ensures.some text so_far.site so_far.done so_far.follows) in
     let call = c.in_default-has_same_reply.ensures in
     let wants : WantsMemory so_far.site so_far.done c.in-Some.entry.call = record { may = call.room; comes = call.there (made so_far.site so_far.done) so_far.answers } in
-    some_more _ _ _ _ _ _ (inl (wants_at_call text _ _ _ _ c.in-Some.entry so_far next wants)) c.loop-entry.invariant.gate call.gate
+    some_more _ _ _ _ _ _ (inl (wants_at_call text _ _ _ _ c.in-Some.entry so_far next wants)) c.loop-calls.invariant.gate call.gate
 
 pub returns-in_err-read_on-clause-wants : goal.returns-in_err-read_on-clause-wants
 returns-in_err-read_on-clause-wants g c = λ text site follows answers is.
-    let so_far = c.loop-entry.invariant.so_far text site follows answers in
+    let so_far = c.loop-calls.invariant.so_far text site follows answers in
     let p = err_from_is_err_and c.from_residual-in_err-read_on.result c.from_residual-in_err-read_on.ensures.1 in
     let next : Follows text so_far.site (so_far.done ++ c.in-Some.entry ∷ []) c.give_back.new.self =
     rw c.give_back.ensures (rw c.in-Some.is at (c.in_ok-entry.ensures.some text so_far.site so_far.done so_far.follows)) in
@@ -128,4 +128,4 @@ returns-in_err-read_on-clause-wants g c = λ text site follows answers is.
     let out = rw (p.1, p.2) at is in
     let wants = c.in_err-read_on.ensures.wants (cc) in
     let other = is_not _ _ (c.in-Ok.ensures.same (made so_far.site so_far.done) so_far.answers) c.if-not-same.true in
-    some_more _ _ _ _ _ _ (inr (stops_behind_difference text _ _ _ _ _ c.in-Some.entry so_far on.0 on.1 wants other)) c.loop-entry.invariant.gate c.in-Ok.ensures.gate
+    some_more _ _ _ _ _ _ (inr (stops_behind_difference text _ _ _ _ _ c.in-Some.entry so_far on.0 on.1 wants other)) c.loop-calls.invariant.gate c.in-Ok.ensures.gate

@@ -7,14 +7,14 @@ use Rattle.esx_check.specs.Gates.{PassedFor}
 use Rattle.esx_check.proofs.TextLemmas.{SoFar}
 use Rattle.esx_check.proofs.text.check_as_read.Given as goal
 
-abbrev pub invariant-loop-entry : goal.invariant-loop-entry
-invariant-loop-entry g l = record {
-  so_far : (text : List ℕ) (site : Config) → Follows text site [] l.initial.calls → AnswersAs l.initial.again.console (opened_session site) → SoFar text l.calls l.again.console l.count;
+abbrev pub invariant-loop-calls : goal.invariant-loop-calls
+invariant-loop-calls g l = record {
+  so_far : (text : List ℕ) (site : Config) → Follows text site [] l.fn.calls → AnswersAs l.initial.again.console (opened_session site) → SoFar text l.calls l.again.console l.count;
   count : l.count ≡ l.calls.count;
   few : l.again.console.jumps ≤ l.count;
   held : l.again.held ≡ [];
   gate : PassedFor g.G.Gate.passes l.count l.initial.gate l.gate;
 }
 
-abbrev pub decreases-loop-entry : goal.decreases-loop-entry
-decreases-loop-entry g l = length l.calls.at.left
+abbrev pub decreases-loop-calls : goal.decreases-loop-calls
+decreases-loop-calls g l = length l.calls.at.left
