@@ -1,14 +1,17 @@
 //! The table: its rows, an index of the free ones, and the counts.
 
-ghost use Rattle.std.specs.Prelude.{◌≡◌, ◌≢◌, ◌+◌, ◌^◌, ◌<◌, ◌≤◌, IfOk, IfErr, OnErr, IsTrue, Some, None, length, option_copied, replicate, slice_get, slice_index_or, slice_set};
+ghost use Rattle.std.specs.Prelude.{◌≡◌, ◌≢◌, ◌+◌, ◌^◌, ◌<◌, ◌≤◌, IfOk, IfErr, IfSome, OnErr, IsTrue, Some, None, length, option_copied, replicate, slice_get, slice_index_or, slice_set};
 ghost use Rattle.esx_types.specs.declared.table.FrameRow.{FrameRow};
 ghost use Rattle.esx_types.specs.declared.table.FrameRow.TheVariants.{Free};
 ghost use Rattle.esx_types.specs.Frames.{frame_at, least_frame, bytes_of, holds_bytes, ref_count, with_count};
+ghost use Rattle.esx_formulas.specs.Key.{content_key};
 ghost use Rattle.esx_frames.specs.Counts.{counts_of};
 ghost use Rattle.esx_frames.specs.Marks.{bytes_traded_at, mark_traded_at, slot_traded_at};
 
 use crate::counts::Counts;
+use crate::known::KnownKeys;
 use crate::marks::{Mark, trade_bytes, trade_mark, trade_slot};
+use esx_formulas::content_key;
 use esx_index::FreeIndex;
 use esx_types::{Bytes, FrameRow, SlotRow};
 use std::alloc::{AllocError, Global};
@@ -16,24 +19,26 @@ use std::marker::Model;
 
 /// The machine's frames, seen as the list of their rows; a frame's number is its place.
 ///
-/// No call after `new` takes memory, and each looks at a few words whatever the number of frames.
+/// No call after `new` takes memory but `learn_key`, which goes on without it. Each other call looks at a few words
+/// whatever the number of frames.
 #[derive(Drop)]
 pub struct FrameTable {
     rows: Vec<FrameRow>,
     free: FreeIndex,
     counts: Counts,
+    known: KnownKeys,
 }
 
 impl Model for FrameTable {
     ghost use Rattle.std.specs.Prelude.{List};
     ghost use Rattle.esx_types.specs.declared.table.FrameRow.{FrameRow};
-    ghost use Rattle.esx_frames.specs.Table.{IsTable};
+    ghost use Rattle.esx_frames.specs.Known.{IsKeyed};
 
     ghost Value = { List FrameRow };
 
     ghost view = { λ a. a.rows.items };
 
-    ghost invariant = { λ a. IsTable a.rows.items a.free a.counts };
+    ghost invariant = { λ a. IsKeyed a.rows.items a.free a.counts a.known.words.items };
 }
 
 impl FrameTable {
@@ -50,7 +55,12 @@ impl FrameTable {
             shared: 0,
             free: frames,
         };
-        Ok(FrameTable { rows, free, counts })
+        Ok(FrameTable {
+            rows,
+            free,
+            counts,
+            known: KnownKeys::new(alloc),
+        })
     }
 
     /// How many frames there are.
@@ -84,6 +94,30 @@ impl FrameTable {
             FrameRow::Private { bytes } => bytes.as_slice(),
             FrameRow::Shared { bytes, .. } => bytes.as_slice(),
             FrameRow::Free | FrameRow::Overhead => unreachable!(),
+        }
+    }
+
+    /// The key of the page in a frame, where it is kept.
+    pub fn known_key(&self, mpn: u32) -> Option<u64>
+        ensures { IfSome result (λ key. key ≡ content_key (bytes_of (frame_at self.now mpn))) }
+    {
+        self.known.get(mpn)
+    }
+
+    /// Keeps the key of a private page until its bytes change. It may take memory; where that is refused the key is not
+    /// kept.
+    pub fn learn_key(&mut self, mpn: u32)
+        ensures { self.new ≡ self.old }
+    {
+        if self.known.get(mpn).is_some() {
+            return;
+        }
+        let at = mpn as usize;
+        if let Some(FrameRow::Private { bytes }) = self.rows.get(at) {
+            if self.known.make_room(mpn) {
+                let key = content_key(bytes.as_slice());
+                self.known.learn(mpn, key);
+            }
         }
     }
 
@@ -135,6 +169,7 @@ impl FrameTable {
         if free != self.rows[at].is_free() {
             self.free.set(at, free);
         }
+        self.known.forget(mpn);
         std::mem::swap(&mut self.rows[at], row);
     }
 
@@ -155,6 +190,7 @@ impl FrameTable {
         ensures bytes { bytes.new ≡ (bytes_traded_at mpn offset self.old bytes.old).1 }
     {
         if mpn < self.len() {
+            self.known.forget(mpn);
             trade_bytes(&mut self.rows[mpn as usize], offset as usize, bytes);
         }
     }
@@ -288,6 +324,55 @@ mod tests {
         assert_eq!(rt; table.counts().free, 2);
         assert_eq!(rt; table.rows().len(), 2);
         assert!(rt; table.get(2).is_none());
+        Ok(())
+    }
+
+    #[test]
+    fn keys_are_those_of_the_bytes(rt: HostRuntime) -> Result<(), Fail> {
+        let mut table = FrameTable::new(rt.alloc(), 8, 16)?;
+        for seed in 0..8u8 {
+            let mpn = u32::from(7 - seed);
+            let bytes = Bytes::from_vec(vec![in rt.alloc(); 31 * seed; 16]?);
+            table.trade(mpn, &mut FrameRow::Private { bytes });
+            table.learn_key(mpn);
+            assert_eq!(rt; table.known_key(mpn), Some(content_key(&[31 * seed; 16])));
+        }
+        assert_eq!(rt; table.known_key(8), None);
+        Ok(())
+    }
+
+    #[test]
+    fn keeps_a_key_until_the_bytes_change(rt: HostRuntime) -> Result<(), Fail> {
+        let mut table = FrameTable::new(rt.alloc(), 3, 4)?;
+        let bytes = Bytes::from_vec(vec![in rt.alloc(); 7; 4]?);
+        table.trade(1, &mut FrameRow::Private { bytes });
+        assert_eq!(rt; table.known_key(1), None);
+        table.learn_key(1);
+        assert_eq!(rt; table.known_key(1), Some(content_key(&[7; 4])));
+        assert_eq!(rt; table.known_key(0), None);
+
+        let mut mark = Mark::Shared { count: 2 };
+        table.trade_mark(1, &mut mark);
+        assert_eq!(rt; table.known_key(1), Some(content_key(&[7; 4])));
+        table.trade_mark(1, &mut mark);
+
+        let mut bytes = Bytes::from_vec(vec![in rt.alloc(); 9; 1]?);
+        table.trade_bytes(1, 3, &mut bytes);
+        assert_eq!(rt; table.known_key(1), None);
+        table.learn_key(1);
+        assert_eq!(rt; table.known_key(1), Some(content_key(&[7, 7, 7, 9])));
+
+        let bytes = Bytes::from_vec(vec![in rt.alloc(); 3; 4]?);
+        table.trade_slot(1, &mut SlotRow::Held { bytes });
+        assert_eq!(rt; table.known_key(1), None);
+        table.learn_key(1);
+        assert_eq!(rt; table.known_key(1), Some(content_key(&[3; 4])));
+
+        table.trade(1, &mut FrameRow::Free);
+        table.learn_key(1);
+        assert_eq!(rt; table.known_key(1), None);
+        table.learn_key(3);
+        assert_eq!(rt; table.known_key(3), None);
         Ok(())
     }
 }

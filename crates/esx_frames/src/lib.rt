@@ -3,6 +3,7 @@
 
 mod counts;
 mod frames;
+mod known;
 pub mod laws;
 mod marks;
 

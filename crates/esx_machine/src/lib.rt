@@ -3,6 +3,7 @@
 
 mod advice;
 pub mod laws;
+mod learning;
 pub mod machine;
 mod reading;
 mod table;

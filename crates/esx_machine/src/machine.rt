@@ -1,6 +1,7 @@
 //! The machine, and the records of its events.
 
 use crate::advice::advise;
+use crate::learning::learn;
 use crate::reading::{activity, page_state};
 use crate::table::table_of;
 use esx_events::{Activity, Answer, Event, Help, PageState, Refusal, Sum, TableRow};
@@ -100,6 +101,7 @@ impl Machine {
         ensures event { (scene : Scene) → Shows self.old scene → Applies result self.old self.new (next self.old.config scene event.now) }
         ensures exchanges { IfOk result (λ r. Exchanges self.old self.new event.now r.1) }
     {
+        self.learn(event);
         let plan = match plan_event(&self.tables, self.alloc, &self.config, self.level, event) {
             Ok(plan) => plan,
             Err(refusal) => return Err(refusal),
@@ -110,6 +112,13 @@ impl Machine {
         let free = self.tables.counts().free;
         self.level = Thresholds::of(self.config).next(level, free);
         Ok((plan.answer, Record { level, changes }))
+    }
+
+    /// Keeps the key of the page that a scan is going to look for.
+    fn learn(&mut self, event: &Event)
+        ensures { self.new ≡ self.old }
+    {
+        learn(&mut self.tables, event);
     }
 
     /// Trades the record's changes and level with the machine's tables and level.

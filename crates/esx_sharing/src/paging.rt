@@ -1,13 +1,14 @@
 //! Pages leave for the swap area.
 
 ghost use Rattle.std.specs.Prelude.{◌≡◌, IfOk};
+ghost use Rattle.esx_types.specs.Frames.{frame_at};
 ghost use Rattle.esx_types.specs.Slots.{least_slot};
 ghost use Rattle.esx_model.specs.event.Paging.{is_too_early};
 ghost use Rattle.esx_changes.specs.Planned.{Plans};
 ghost use Rattle.esx_sharing.specs.Sharing.{HasCounts};
 ghost use Rattle.esx_sharing.specs.Paging.{move_changes, copy_changes, last_changes, out_changes, to_slot, leave_frame, leave_row, swap_out_plan};
 
-use crate::sharing::{look_by_row, look_changes};
+use crate::sharing::{look_by_frame, look_changes};
 use esx_changes::Plan;
 use esx_changes::changes::{page_at, unlisted};
 use esx_changes::drawn::drawn_page;
@@ -137,6 +138,23 @@ fn to_slot(
     })
 }
 
+/// The same of a page by its frame.
+#[tactic(auto, using(esx_changes::proofs::Rows::past_frames))]
+fn frame_to_slot(
+    tables: &SiteTables,
+    alloc: Global,
+    vm: VmId,
+    page: u32,
+    frame: u32,
+) -> Result<Plan, Refusal>
+    ensures { Plans result (to_slot vm page frame (frame_at tables.now.frames frame) (least_slot tables.now.slots)) }
+{
+    match tables.frame(frame) {
+        Some(row) => to_slot(tables, alloc, vm, page, frame, row),
+        None => to_slot(tables, alloc, vm, page, frame, &FrameRow::Free),
+    }
+}
+
 /// A page that can be shared is shared; any other goes to a slot.
 fn leave_frame(
     tables: &SiteTables,
@@ -144,12 +162,11 @@ fn leave_frame(
     vm: VmId,
     page: u32,
     frame: u32,
-    row: &FrameRow,
 ) -> Result<Plan, Refusal>
     requires { HasCounts tables.now }
-    ensures { Plans result (leave_frame tables.now vm page frame row.now) }
+    ensures { Plans result (leave_frame tables.now vm page frame (frame_at tables.now.frames frame)) }
 {
-    let found = look_by_row(tables, vm, page, row);
+    let found = look_by_frame(tables, vm, page, frame);
     match found.look {
         Look::SharedFrame { frame: other } | Look::OtherPage { frame: other, .. } => {
             let changes = look_changes(tables, alloc, vm, page, frame, &found)?;
@@ -159,13 +176,12 @@ fn leave_frame(
             })
         }
         Look::Already | Look::Changed | Look::OtherBytes | Look::Nothing => {
-            to_slot(tables, alloc, vm, page, frame, row)
+            frame_to_slot(tables, alloc, vm, page, frame)
         }
     }
 }
 
 /// The same of a page by its row.
-#[tactic(auto, using(esx_changes::proofs::Rows::past_frames))]
 fn leave_row(
     tables: &SiteTables,
     alloc: Global,
@@ -179,10 +195,7 @@ fn leave_row(
     let MapRow::Here { frame } = at else {
         return Err(Refusal::AtTarget);
     };
-    match tables.frame(frame) {
-        Some(row) => leave_frame(tables, alloc, vm, page, frame, row),
-        None => leave_frame(tables, alloc, vm, page, frame, &FrameRow::Free),
-    }
+    leave_frame(tables, alloc, vm, page, frame)
 }
 
 /// A page that the word draws is paged out, where its machine has more than its target.

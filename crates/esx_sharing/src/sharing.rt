@@ -2,7 +2,9 @@
 
 ghost use Rattle.std.specs.Prelude.{◌≡◌, IfOk};
 ghost use Rattle.std.specs.List.{position_from};
+ghost use Rattle.esx_types.specs.Frames.{bytes_of, frame_at};
 ghost use Rattle.esx_types.specs.Listings.{is_shared_under};
+ghost use Rattle.esx_formulas.specs.Key.{content_key};
 ghost use Rattle.esx_changes.specs.Planned.{Plans};
 ghost use Rattle.esx_sharing.specs.Sharing.{look_at_shared, look_at_hinted, look_at_hint, look_by_key, look_in, key_in, join_changes, pair_changes, hint_changes, count_with, look_changes, look_said, scan_frame, scan_row, scan_plan, HasCounts};
 
@@ -36,15 +38,15 @@ fn look_at_shared(bytes: &[u8], others: &[u8], frame: u32) -> Look
 
 /// At a frame whose page is the hint under that key: equal bytes need no second key.
 fn look_at_hinted(
+    tables: &SiteTables,
     vm: VmId,
     page: u32,
     bytes: &[u8],
     key: u64,
-    others: &[u8],
     frame: u32,
     listing: Listing,
 ) -> Look
-    ensures { result ≡ look_at_hinted vm page bytes.now key others.now frame listing }
+    ensures { result ≡ look_at_hinted vm page bytes.now key (bytes_of (frame_at tables.now.frames frame)) frame listing }
 {
     let Listing::Hinted {
         vm: other,
@@ -54,6 +56,7 @@ fn look_at_hinted(
     else {
         return Look::Nothing;
     };
+    let others = tables.bytes(frame);
     if other.number() == vm.number() && its == page {
         Look::Nothing
     } else if bytes == others {
@@ -62,7 +65,7 @@ fn look_at_hinted(
             page: its,
             frame,
         }
-    } else if content_key(others) == key {
+    } else if tables.key(frame) == key {
         Look::OtherBytes
     } else {
         Look::Changed
@@ -82,9 +85,8 @@ fn look_at_hint(
     match hinted {
         None => Look::Nothing,
         Some(frame) => {
-            let others = tables.bytes(frame);
             let listing = tables.listing(frame);
-            look_at_hinted(vm, page, bytes, key, others, frame, listing)
+            look_at_hinted(tables, vm, page, bytes, key, frame, listing)
         }
     }
 }
@@ -99,6 +101,27 @@ fn look_by_key(tables: &SiteTables, vm: VmId, page: u32, bytes: &[u8], key: u64)
     }
 }
 
+/// What a look finds for a private page of these bytes, by their key.
+fn look_for(tables: &SiteTables, vm: VmId, page: u32, bytes: &[u8], key: u64) -> Found
+    requires { key ≡ content_key bytes.now }
+    ensures look { result.look ≡ look_in tables.now vm page (FrameRow.Private bytes.now) }
+    ensures key { result.key ≡ key_in (FrameRow.Private bytes.now) }
+{
+    let look = look_by_key(tables, vm, page, bytes, key);
+    Found { look, key }
+}
+
+/// Of a page that is not private.
+fn already() -> Found
+    ensures look { result.look ≡ Look.Already }
+    ensures key { result.key ≡ 0 }
+{
+    Found {
+        look: Look::Already,
+        key: 0,
+    }
+}
+
 /// What a look at a page finds, by the row of its frame. Only a private page is looked for; its bytes are hashed once.
 #[tactic(auto, unfolding(crate::specs::Sharing::look_in))]
 pub fn look_by_row(tables: &SiteTables, vm: VmId, page: u32, row: &FrameRow) -> Found
@@ -108,14 +131,36 @@ pub fn look_by_row(tables: &SiteTables, vm: VmId, page: u32, row: &FrameRow) -> 
     match row {
         FrameRow::Private { bytes } => {
             let bytes = bytes.as_slice();
-            let key = content_key(bytes);
-            let look = look_by_key(tables, vm, page, bytes, key);
-            Found { look, key }
+            look_for(tables, vm, page, bytes, content_key(bytes))
         }
-        FrameRow::Free | FrameRow::Overhead | FrameRow::Shared { .. } => Found {
-            look: Look::Already,
-            key: 0,
-        },
+        FrameRow::Free | FrameRow::Overhead | FrameRow::Shared { .. } => already(),
+    }
+}
+
+/// The same, where the row is that of this frame: its key is hashed only where it is not kept.
+#[tactic(auto, unfolding(crate::specs::Sharing::look_in))]
+fn look_in_row(tables: &SiteTables, vm: VmId, page: u32, frame: u32, row: &FrameRow) -> Found
+    requires { row.now ≡ frame_at tables.now.frames frame }
+    ensures look { result.look ≡ look_in tables.now vm page row.now }
+    ensures key { result.key ≡ key_in row.now }
+{
+    match row {
+        FrameRow::Private { bytes } => {
+            look_for(tables, vm, page, bytes.as_slice(), tables.key(frame))
+        }
+        FrameRow::Free | FrameRow::Overhead | FrameRow::Shared { .. } => already(),
+    }
+}
+
+/// What a look at a page finds, by its frame. Its bytes are hashed only where their key is not kept.
+#[tactic(auto, using(esx_changes::proofs::Rows::past_frames))]
+pub fn look_by_frame(tables: &SiteTables, vm: VmId, page: u32, frame: u32) -> Found
+    ensures look { result.look ≡ look_in tables.now vm page (frame_at tables.now.frames frame) }
+    ensures key { result.key ≡ key_in (frame_at tables.now.frames frame) }
+{
+    match tables.frame(frame) {
+        Some(row) => look_in_row(tables, vm, page, frame, row),
+        None => look_in_row(tables, vm, page, frame, &FrameRow::Free),
     }
 }
 
@@ -245,19 +290,18 @@ fn look_said(tables: &SiteTables, look: Look) -> Scanned
     }
 }
 
-/// A page is looked for, and shared or remembered, by the row of its frame.
+/// A page is looked for, and shared or remembered, by its frame.
 fn scan_frame(
     tables: &SiteTables,
     alloc: Global,
     vm: VmId,
     page: u32,
     frame: u32,
-    row: &FrameRow,
 ) -> Result<Plan, Refusal>
     requires { HasCounts tables.now }
-    ensures { Plans result (scan_frame tables.now vm page frame row.now) }
+    ensures { Plans result (scan_frame tables.now vm page frame (frame_at tables.now.frames frame)) }
 {
-    let found = look_by_row(tables, vm, page, row);
+    let found = look_by_frame(tables, vm, page, frame);
     let changes = look_changes(tables, alloc, vm, page, frame, &found)?;
     Ok(Plan {
         answer: Answer::Looked {
@@ -268,7 +312,6 @@ fn scan_frame(
 }
 
 /// The same of a page by its row.
-#[tactic(auto, using(esx_changes::proofs::Rows::past_frames))]
 fn scan_row(
     tables: &SiteTables,
     alloc: Global,
@@ -282,10 +325,7 @@ fn scan_row(
     let MapRow::Here { frame } = at else {
         return Err(Refusal::NotResident);
     };
-    match tables.frame(frame) {
-        Some(row) => scan_frame(tables, alloc, vm, page, frame, row),
-        None => scan_frame(tables, alloc, vm, page, frame, &FrameRow::Free),
-    }
+    scan_frame(tables, alloc, vm, page, frame)
 }
 
 /// Another page with the bytes of a page is looked for, to share one frame with it.

@@ -6,12 +6,14 @@ ghost use Rattle.esx_types.specs.declared.config.TheConstants.{VM_NUMBERS};
 ghost use Rattle.esx_types.specs.Frames.{frame_at, least_frame, bytes_of};
 ghost use Rattle.esx_types.specs.Slots.{slot_at, least_slot, held_bytes};
 ghost use Rattle.esx_types.specs.Listings.{listing_at, is_shared_under, is_hinted_under};
+ghost use Rattle.esx_formulas.specs.Key.{content_key};
 ghost use Rattle.esx_frames.specs.Counts.{counts_of};
 ghost use Rattle.esx_model.specs.Replay.{opening};
 ghost use Rattle.esx_model.specs.Tables.{tables_of};
 ghost use Rattle.esx_tables.specs.Readings.{row_at, empty_tables};
 
 use crate::vm_table::VmTable;
+use esx_formulas::content_key;
 use esx_frames::{Counts, FrameTable};
 use esx_keys::Listings;
 use esx_swap::Slots;
@@ -21,8 +23,8 @@ use std::marker::Model;
 
 /// Every table of a site, and the idle memory tax.
 ///
-/// No change takes memory. A reading of one row, of a count or of the least free frame or slot takes the
-/// same time whatever the size of the site.
+/// No change takes memory but `learn_key`, which goes on without it. A reading of one row, of a count or of the
+/// least free frame or slot takes the same time whatever the size of the site.
 #[derive(Drop)]
 pub struct SiteTables {
     pub(crate) frames: FrameTable,
@@ -135,6 +137,24 @@ impl SiteTables {
             Some(row) => bytes_of(row),
             None => &[],
         }
+    }
+
+    /// The key of the bytes in a frame. It is not worked out anew where it is kept.
+    pub fn key(&self, frame: u32) -> u64
+        ensures { result ≡ content_key (bytes_of (frame_at self.now.frames frame)) }
+    {
+        match self.frames.known_key(frame) {
+            Some(key) => key,
+            None => content_key(self.bytes(frame)),
+        }
+    }
+
+    /// Keeps the key of a private page until its bytes change. It may take memory; where that is refused the key is not
+    /// kept.
+    pub fn learn_key(&mut self, frame: u32)
+        ensures { self.new ≡ self.old }
+    {
+        self.frames.learn_key(frame);
     }
 
     /// The row of a slot; none past the end.

@@ -2,9 +2,10 @@ use Rattle.std.proofs.Common.{◌≡◌, ◌<◌, length, ap, sym, refl, ◌∙�
 use Rattle.std.proofs.Math.Seq.{map-set_same}
 use Rattle.std.proofs.lemmas.List.{get_or_read}
 use Rattle.esx_types.specs.declared.table.FrameRow.TheVariants.{Free}
-use Rattle.esx_types.specs.Frames.{is_free, frame_at}
+use Rattle.esx_types.specs.Frames.{is_free, frame_at, bytes_of}
 use Rattle.esx_frames.specs.Counts.{with_row, without_row}
 use Rattle.esx_frames.proofs.RowLemmas.{count_fits, table_set, mark_free}
+use Rattle.esx_frames.proofs.KnownLemmas.{knows_alike, mark_bytes}
 use Rattle.esx_frames.proofs.frames.FrameTable.trade_mark.Goals as goal
 
 pub add-requires : goal.add-requires
@@ -13,7 +14,7 @@ add-requires c =
     let h : c.args.mpn < length rows = omega (arith, ap length c.self.view_is) in
     let was = get_or_read rows c.args.mpn _ h c.index.ensures Free in
     let now = c.index-then-at-len.ensures ∙ get_or-set_same rows c.args.mpn c.trade_mark.new.row _ h in
-    rw (now, c.remove.ensures, c.self.invariant.counts, was) (count_fits rows c.args.mpn c.trade_mark.new.row h c.self.invariant.fits)
+    rw (now, c.remove.ensures, c.self.invariant.table.counts, was) (count_fits rows c.args.mpn c.trade_mark.new.row h c.self.invariant.table.fits)
 
 pub invariant_of-self : goal.invariant_of-self
 invariant_of-self c =
@@ -24,4 +25,8 @@ invariant_of-self c =
     let now = c.index-then-at-len.ensures ∙ get_or-set_same rows c.args.mpn c.trade_mark.new.row _ h in
     let counts : c.add.new.self ≡ with_row (without_row c.self.inside.counts (frame_at rows c.args.mpn)) c.trade_mark.new.row = rw (c.add.ensures, c.remove.ensures, was, now) refl in
     let same : is_free c.trade_mark.new.row ≡ is_free (frame_at rows c.args.mpn) = ap is_free c.trade_mark.ensures.row ∙ mark_free _ _ ∙ ap is_free traded in
-    table_set rows c.args.mpn c.trade_mark.new.row _ _ _ _ c.self.invariant h (c.self.invariant.free ∙ sym (map-set_same is_free rows c.args.mpn c.trade_mark.new.row Free same)) counts
+    let bytes : bytes_of c.trade_mark.new.row ≡ bytes_of (frame_at rows c.args.mpn) = ap bytes_of c.trade_mark.ensures.row ∙ mark_bytes c.index_mut.result.now c.args.mark.now ∙ ap bytes_of traded in
+    record {
+      table = table_set rows c.args.mpn c.trade_mark.new.row _ _ _ _ c.self.invariant.table h (c.self.invariant.table.free ∙ sym (map-set_same is_free rows c.args.mpn c.trade_mark.new.row Free same)) counts;
+      keys = knows_alike rows _ c.args.mpn c.trade_mark.new.row c.self.invariant.keys h bytes;
+    }
