@@ -9,3 +9,6 @@ pub mod Revoking
 pub mod AverageLaws
 pub mod LevelLaws
 pub mod rows
+pub mod LaneFacts
+pub mod RoundFacts
+pub mod DigestFacts

@@ -1,5 +1,6 @@
 pub use Rattle.esx_types.specs.Ranges
 pub mod Key
+pub mod Lanes
 pub mod Level
 pub mod Average
 pub mod Estimates

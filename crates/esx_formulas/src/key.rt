@@ -3,13 +3,20 @@
 ghost use Rattle.std.specs.Prelude.{◌≡◌};
 ghost use Rattle.esx_formulas.specs.Key.{content_key};
 
+use crate::digest::key_of_long_page;
 use sha2::{Digest, Sha256};
+
+/// From so many bytes on, four blocks of a page are taken in at a time.
+const LONG_PAGE: usize = 256;
 
 /// The key of a page with these bytes.
 #[tactic(auto, unfolding(crate::specs::Key::content_key))]
 pub fn content_key(bytes: &[u8]) -> u64
     ensures { result ≡ content_key bytes.now }
 {
+    if bytes.len() >= LONG_PAGE {
+        return key_of_long_page(bytes);
+    }
     let [a, b, c, d, e, f, g, h, ..] = Sha256::digest(bytes);
     u64::from_be_bytes([a, b, c, d, e, f, g, h])
 }

@@ -4,10 +4,15 @@
 #![tactic(auto)]
 
 pub mod activity;
+mod digest;
+#[cfg(test)]
+mod digest_tests;
 pub mod key;
+mod lanes;
 pub mod laws;
 pub mod level;
 pub mod ratio;
+mod rounds;
 pub mod targets;
 #[cfg(test)]
 mod tests;
