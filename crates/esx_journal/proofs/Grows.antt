@@ -20,7 +20,8 @@ use Rattle.esx_model.specs.Show.{shown}
 use Rattle.esx_model.specs.Epochs.{AreEpochsWithin}
 use Rattle.esx_model.proofs.Callers.{later_within, path_within}
 use Rattle.esx_journal.specs.declared.row.Row.{Row}
-use Rattle.esx_journal.specs.Row.{row_of, grown}
+use Rattle.esx_journal.specs.Row.{row_of, grown, with_child}
+use Rattle.esx_journal.specs.Children.{no_row}
 use Rattle.esx_journal.specs.Journal.{Kept, Leads, IsAccepted, IsRow, AreDescents, Aims, Holds, kept_after}
 use Rattle.esx_journal.proofs.Lists.{pushed_there, pushed_set, pushed_elsewhere, pushed_length}
 use Rattle.esx_journal.proofs.Paths.{newest, alive_fits, way_self, is_other, parent_new, parent_old, alive_new, alive_old, path_new, path_old, way_new, parent_fits, walk_ends, way_below, path_short}
@@ -115,10 +116,10 @@ none_new m aim e tree walk ok =
     last_new m aim e n tree ok ∙ ap (λ t. cond t (Some n) (last_descent m.nodes aim n)) (is_other n (cursor m) (λ z. omega arith)) ∙ no_descent m.nodes aim n tree ok (omega arith)
 
 -- the new row
-row_new : (j : Kept) (m : History) {aim : List Move} (e : Event) (b : Back) (k : machines.Kept) → (h : Aims j m aim) → IsAccepted m.config (here m ++ e ∷ []) → k ≡ kept_after m.config (here m ++ e ∷ []) → Trades b k j.machine
-    → IsRow (done e m) (Down (length m.nodes + 1) ∷ aim) (length m.nodes + 1) (length m.nodes + 1) (row_of j.cursor b)
+row_new : (j : Kept) (m : History) {aim : List Move} (e : Event) (b : Back) (k : machines.Kept) (first : ℕ) → (h : Aims j m aim) → IsAccepted m.config (here m ++ e ∷ []) → k ≡ kept_after m.config (here m ++ e ∷ []) → Trades b k j.machine
+    → IsRow (done e m) (Down (length m.nodes + 1) ∷ aim) (length m.nodes + 1) (length m.nodes + 1) (row_of j.cursor b first)
 unfolding done
-row_new j m e b k h accepted is trades =
+row_new j m e b k first h accepted is trades =
     let x : Node = node_of m e in
     let n : ℕ = length m.nodes + 1 in
     let f = cursor_fits j m _ h in
@@ -221,7 +222,7 @@ grew j new m {aim = aim} e a u b d h gives shows config trades rows_are cursor_i
       tree = (f, h.tree);
       walk = walks;
       lasts = (omega arith, omega arith, aims_grown x m.nodes aim h.lasts);
-      size = ap length rows_are ∙ pushed_length j.rows j.cursor (row_of j.cursor b) (record (slice_index_or j.rows j.cursor d) { last = Some (length j.rows) }) ∙ omega arith;
+      size = ap length rows_are ∙ pushed_length j.rows j.cursor (row_of j.cursor b (slice_index_or j.rows j.cursor d).first) (with_child (slice_index_or j.rows j.cursor d) (length j.rows)) ∙ omega arith;
       place = cursor_is ∙ h.size;
       deep = (let q = ap length path_is in let l = length-append (here m) (e ∷ []) in let k = h.deep in omega arith);
       shows = arrives ∙ ap (kept_after m.config) (sym path_is);
@@ -236,25 +237,25 @@ grew j new m {aim = aim} e a u b d h gives shows config trades rows_are cursor_i
         → (((y == cursor m) ≡ true) × (y ≡ cursor m)) ⊎ (((y == cursor m) ≡ false) × (y ≢ cursor m))
         → y ≤ length (node_of m e ∷ m.nodes) → IsRow (done e m) (Down (length m.nodes + 1) ∷ aim) (length m.nodes + 1) y (slice_index_or (grown j.rows j.cursor b d) y z)
     each_grown accepted arrives y z (inl k) o below = (
-        let r = row_new j m e b new.machine h accepted arrives trades in
+        let r = row_new j m e b new.machine (slice_index_or j.rows j.cursor d).first h accepted arrives trades in
         let s = h.size in let f = cursor_fits j m _ h in let p = h.place in
-        let P : ℕ → Type 0 = λ q. IsRow (done e m) (Down (length m.nodes + 1) ∷ aim) (length m.nodes + 1) q (row_of j.cursor b) in
+        let P : ℕ → Type 0 = λ q. IsRow (done e m) (Down (length m.nodes + 1) ∷ aim) (length m.nodes + 1) q (row_of j.cursor b (slice_index_or j.rows j.cursor d).first) in
         let Q : Row → Type 0 = λ q. IsRow (done e m) (Down (length m.nodes + 1) ∷ aim) (length m.nodes + 1) y q in
-        subst Q (sym (pushed_there j.rows j.cursor y (row_of j.cursor b) (record (slice_index_or j.rows j.cursor d) { last = Some (length j.rows) }) z (omega arith) (omega arith))) (subst P (sym k.1) r))
+        subst Q (sym (pushed_there j.rows j.cursor y (row_of j.cursor b (slice_index_or j.rows j.cursor d).first) (with_child (slice_index_or j.rows j.cursor d) (length j.rows)) z (omega arith) (omega arith))) (subst P (sym k.1) r))
     each_grown accepted arrives y z (inr k) (inl o) below = (
         let s = h.size in let f = cursor_fits j m _ h in let p = h.place in let t = k.1 in let v = o.1 in
         let old = h.each y d (omega arith) in
         let same : slice_index_or j.rows j.cursor d ≡ slice_index_or j.rows y d = ap (λ i. slice_index_or j.rows i d) (h.place ∙ sym o.1) in
         let Q : Row → Type 0 = λ q. IsRow (done e m) (Down (length m.nodes + 1) ∷ aim) (length m.nodes + 1) y q in
-        subst Q (sym (pushed_set j.rows j.cursor y (row_of j.cursor b) (record (slice_index_or j.rows j.cursor d) { last = Some (length j.rows) }) z (omega arith) (omega arith)))
-        (row_old j m e y (slice_index_or j.rows y d) (record (slice_index_or j.rows j.cursor d) { last = Some (length j.rows) }) h (omega arith) old (ap (λ (q : Row). q.parent) same) (ap (λ (q : Row). q.back) same)
+        subst Q (sym (pushed_set j.rows j.cursor y (row_of j.cursor b (slice_index_or j.rows j.cursor d).first) (with_child (slice_index_or j.rows j.cursor d) (length j.rows)) z (omega arith) (omega arith)))
+        (row_old j m e y (slice_index_or j.rows y d) (with_child (slice_index_or j.rows j.cursor d) (length j.rows)) h (omega arith) old (ap (λ (q : Row). q.parent) same) (ap (λ (q : Row). q.back) same)
         (ap (λ i. Some i) h.size ∙ sym (ap (λ t. cond t (Some (length m.nodes + 1)) (slice_index_or j.rows y d).last) o.0))))
     each_grown accepted arrives y z (inr k) (inr o) below = (
         let s = h.size in let f = cursor_fits j m _ h in let p = h.place in let t = k.1 in
         let fits : y ≤ length m.nodes = omega arith in
         let old = h.each y z fits in
         let Q : Row → Type 0 = λ q. IsRow (done e m) (Down (length m.nodes + 1) ∷ aim) (length m.nodes + 1) y q in
-        subst Q (sym (pushed_elsewhere j.rows j.cursor y (row_of j.cursor b) (record (slice_index_or j.rows j.cursor d) { last = Some (length j.rows) }) z (omega arith) (λ q. o.1 (q ∙ h.place))))
+        subst Q (sym (pushed_elsewhere j.rows j.cursor y (row_of j.cursor b (slice_index_or j.rows j.cursor d).first) (with_child (slice_index_or j.rows j.cursor d) (length j.rows)) z (omega arith) (λ q. o.1 (q ∙ h.place))))
         (row_old j m e y (slice_index_or j.rows y z) (slice_index_or j.rows y z) h fits old refl refl
         (sym (ap (λ t. cond t (Some (length m.nodes + 1)) (slice_index_or j.rows y z).last) o.0))))
 
@@ -316,11 +317,7 @@ pub trades_back : (j : Kept) (new : machines.Kept) (m : History) {aim : List Mov
     → ((t : Scene) → Shows j.machine t → Accepts j.machine new a b (next j.machine.config t e)) → Trades b new j.machine
 trades_back j new m e a b d h accepts = (accepts (accepted_here j m d h).scene (shows_here j m d h)).back
 
--- the row of the opening
-abbrev pub first_row : Row
-first_row = record { parent = 0; back = None; last = None }
-
-pub opens_with : (new : Kept) (c : Config) → new.machine.config ≡ c → Shows new.machine (opening c) → new.rows ≡ first_row ∷ [] → new.cursor ≡ 0 → new.depth ≡ 0 → new.nodes ≡ c.nodes → new.marks ≡ [] → Holds new (opened c)
+pub opens_with : (new : Kept) (c : Config) → new.machine.config ≡ c → Shows new.machine (opening c) → new.rows ≡ no_row ∷ [] → new.cursor ≡ 0 → new.depth ≡ 0 → new.nodes ≡ c.nodes → new.marks ≡ [] → Holds new (opened c)
 unfolding at path on_way parent last_descent alive
 opens_with new c config_is shows rows_are cursor_is depth_is limit_is marks_are = record {
   limit = limit_is;
@@ -336,10 +333,10 @@ opens_with new c config_is shows rows_are cursor_is depth_is limit_is marks_are 
   way = λ n on. cc;
   each = λ n d below. (let z : n ≡ 0 = omega arith in
       let P : ℕ → List Row → Type 0 = λ q rows. IsRow (opened c) [] 0 q (slice_index_or rows q d) in
-      subst (λ (rows : List Row). P n rows) (sym rows_are) (subst (λ (q : ℕ). P q (first_row ∷ [])) (sym z) (first d)));
+      subst (λ (rows : List Row). P n rows) (sym rows_are) (subst (λ (q : ℕ). P q (no_row ∷ [])) (sym z) (first d)));
 }
   where
-    first : (d : Row) → IsRow (opened c) [] 0 0 (slice_index_or (first_row ∷ []) 0 d)
+    first : (d : Row) → IsRow (opened c) [] 0 0 (slice_index_or (no_row ∷ []) 0 d)
     first d = record { up = refl; last = refl; live = refl; accepted = accepted_open new.machine c config_is shows; back = λ r e. cc }
 
 -- the path of an accepted event

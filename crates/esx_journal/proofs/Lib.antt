@@ -5,6 +5,7 @@ pub mod Trying
 pub mod Ways
 pub mod Sinking
 pub mod Pruning
+pub mod Linking
 pub mod Dropping
 pub mod Runs
 pub mod Steps

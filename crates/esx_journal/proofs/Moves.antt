@@ -156,10 +156,6 @@ redone_back m after k e = of (redone k m) refl (sym (redone_more k m) ∙ e)
     of None r f = cc
     of (Some w) r f = down w r (child w) refl f
 
--- a row for the place where there is none
-abbrev pub no_row : Row
-no_row = record { parent = 0; back = None; last = None }
-
 -- what the rows say of the cursor's child
 pub child_aimed : (j : Kept) (m : History) (aim : List Move) (d : Row) → Aims j m aim → child_at j.rows j.cursor d ≡ if_alive m.nodes (last_descent m.nodes aim (cursor m))
 child_aimed j m aim d h = ap (λ x. child_at j.rows x d) h.place ∙ child_kept j m aim (cursor m) d h (cursor_fits j m aim h)

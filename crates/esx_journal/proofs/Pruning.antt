@@ -88,7 +88,7 @@ or_tells : (a b : Bool) → (a || b) ≡ true → (a ≡ true) ⊎ (b ≡ true)
 or_tells true b h = inl refl
 or_tells false b h = inr h
 
-or_true : (a b : Bool) → b ≡ true → (a || b) ≡ true
+pub or_true : (a b : Bool) → b ≡ true → (a || b) ≡ true
 or_true true b h = refl
 or_true false b h = h
 
@@ -139,11 +139,3 @@ false_by false h = refl
 pub and_false : (a : Bool) → (a && false) ≡ false
 and_false true = refl
 and_false false = refl
-
--- no node older than the dropped one is below it
-pub under_none : (nodes : List Node) (n k : ℕ) → IsTree nodes → k ≤ n → n ≤ length nodes → under nodes n k ≡ 0
-unfolding under
-under_none nodes n zero tree h fits = refl
-under_none nodes n (suc k) tree h fits =
-    let off : on_way nodes k n ≡ false = false_by (on_way nodes k n) (λ e. (let b = way_below nodes k n tree (omega arith) e in omega arith)) in
-    ap (λ w. cond (alive nodes k && w) 1 0 + under nodes n k) off ∙ ap (λ t. cond t 1 0 + under nodes n k) (and_false (alive nodes k)) ∙ ap (λ u. 0 + u) (under_none nodes n k tree (omega arith) fits)

@@ -18,6 +18,7 @@ use Rattle.esx_machine.specs.Machine as machines
 use Rattle.esx_machine.specs.Machine.{Back}
 use Rattle.esx_machine.specs.Machine.{Trades}
 use Rattle.esx_journal.specs.declared.row.Row.{Row}
+use Rattle.esx_journal.specs.Children.{AreLinked}
 
 pub record Kept : Type 0 where
   pub machine : machines.Kept
@@ -90,6 +91,7 @@ pub record IsKept (j : Kept) : Type 0 where
   pub holds : Aims j history aim
   pub fits : length history.nodes ≤ j.nodes
   pub limit : j.nodes ≤ 2 ^ 24
+  pub linked : AreLinked j.rows
 
 -- where the cursor is
 abbrev pub stand_at : History → Stand

@@ -1,4 +1,5 @@
 pub mod Row
+pub mod Children
 pub mod Journal
 pub mod Marks
 pub mod Reached

@@ -1,5 +1,5 @@
 -- What the rows of a journal do.
-use Rattle.std.specs.Prelude.{◌≡◌, ℕ, ◌+◌, ◌<◌, ◌≤◌, ◌==◌, ◌&&◌, ◌||◌, Bool, true, not, List, ◌++◌, ◌∷◌, [], length, Option, Some, None, is_some, slice_index_or, slice_set, if◌then◌else◌}
+use Rattle.std.specs.Prelude.{◌≡◌, ℕ, ◌+◌, ◌<◌, ◌≤◌, ◌==◌, ◌||◌, true, List, ◌++◌, ◌∷◌, [], length, Option, Some, None, is_some, slice_index_or, slice_set, if◌then◌else◌}
 use Rattle.esx_machine.specs.Machine as machines
 use Rattle.esx_machine.specs.Machine.{Back}
 use Rattle.esx_machine.specs.Machine.{Trades}
@@ -7,9 +7,9 @@ use Rattle.esx_model.specs.Tree.{Node, parent, alive, on_way, IsTree}
 use Rattle.esx_model.specs.Branching.{standing_below}
 use Rattle.esx_journal.specs.declared.row.Row.{Row}
 
--- the row of a new node
-abbrev pub row_of : ℕ → Back → Row
-row_of parent back = record { parent = parent; back = Some back; last = None }
+-- the row of a new node, which is the youngest child of its parent
+abbrev pub row_of : ℕ → Back → ℕ → Row
+row_of parent back next = record { parent = parent; back = Some back; last = None; first = 0; next = next }
 
 -- a record at a place leads somewhere from k
 abbrev pub FlipsAt : List Row → ℕ → machines.Kept → Type 0
@@ -34,9 +34,13 @@ kept_child rows d (Some c) = if is_some (slice_index_or rows c d).back then Some
 abbrev pub child_at : List Row → ℕ → Row → Option ℕ
 child_at rows at d = kept_child rows d (slice_index_or rows at d).last
 
+-- a row with a new child
+abbrev pub with_child : Row → ℕ → Row
+with_child row child = record row { last = Some child; first = child }
+
 -- the rows with a new node under a place
 abbrev pub grown : List Row → ℕ → Back → Row → List Row
-grown rows at b d = slice_set (rows ++ row_of at b ∷ []) at (record (slice_index_or rows at d) { last = Some (length rows) })
+grown rows at b d = slice_set (rows ++ row_of at b (slice_index_or rows at d).first ∷ []) at (with_child (slice_index_or rows at d) (length rows))
 
 -- the rows tell the parents of nodes and which of them stand, and each stands under one that stands
 pub record AreNodes (rows : List Row) (nodes : List Node) : Type 0 where
@@ -50,13 +54,12 @@ pub record AreNodes (rows : List Row) (nodes : List Node) : Type 0 where
 abbrev pub emptied : Row → Row
 emptied row = record row { back = None }
 
--- the rows of a node and of all below it lost their records, which so many had
+-- a row apart from its first child
+abbrev pub bare : Row → Row
+bare row = record row { first = 0 }
+
+-- the rows of a node and of all below it lost their records, which so many had, and no other row lost more than children
 pub record Drops (gone : ℕ) (old new : List Row) (nodes : List Node) (node : ℕ) : Type 0 where
   pub size : length new ≡ length old
   pub count : gone ≡ standing_below node nodes
-  pub each : (n : ℕ) (d : Row) → n ≤ length nodes → slice_index_or new n d ≡ (if on_way nodes n node then emptied (slice_index_or old n d) else slice_index_or old n d)
-
--- it stands, and is the node or a child of one that does not
-abbrev pub is_gone : List Row → ℕ → ℕ → Row → Bool
-is_gone rows node at d = is_some (slice_index_or rows at d).back
-    && ((at == node) || (not ((slice_index_or rows at d).parent == 0) && not (is_some (slice_index_or rows (slice_index_or rows at d).parent d).back)))
+  pub each : (n : ℕ) (d : Row) → n ≤ length nodes → bare (slice_index_or new n d) ≡ bare (if on_way nodes n node then emptied (slice_index_or old n d) else slice_index_or old n d)

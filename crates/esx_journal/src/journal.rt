@@ -58,6 +58,8 @@ impl Journal {
             parent: 0,
             back: None,
             last: None,
+            first: 0,
+            next: 0,
         })?;
         Ok(Journal {
             machine,
@@ -279,6 +281,7 @@ impl Journal {
 
     /// Drops a node and all below it, and answers how many there were. `NoSuchNode` where it was never
     /// made or was pruned, `OnPath` where the cursor stands on it or below it. Their numbers are not used again.
+    /// It costs the nodes that go, the children of theirs that were dropped before, and the cursor's depth.
     pub fn prune(&mut self, node: u32) -> Result<u32, Refusal>
         ensures { (h : History) → Holds self.old h → Prunes result self.old self.new (prune node h) }
     {

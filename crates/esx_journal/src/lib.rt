@@ -3,6 +3,7 @@
 //! branches are pruned, and events are tried without being made.
 #![tactic(auto)]
 
+mod children;
 pub mod journal;
 pub mod laws;
 pub mod marks;

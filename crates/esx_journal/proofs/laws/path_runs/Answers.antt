@@ -1,4 +1,4 @@
-use Rattle.esx_journal.proofs.Moves.{no_row}
+use Rattle.esx_journal.specs.Children.{no_row}
 use Rattle.esx_journal.proofs.Grows.{runs_at, book_is}
 use Rattle.esx_journal.proofs.laws.path_runs.Goals as goal
 

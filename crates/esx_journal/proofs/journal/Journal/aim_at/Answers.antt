@@ -1,8 +1,11 @@
-use Rattle.std.proofs.Common.{◌≡◌, ◌≤◌, ◌∙◌, ◌∷◌, sym, ap, subst, arith, length, List}
+use Rattle.std.proofs.Common.{◌≡◌, ◌<◌, ◌≤◌, ◌∙◌, ◌∷◌, sym, ap, subst, arith, length, List, Some, is_some, slice_index_or}
 use Rattle.esx_model.specs.Tree.{Move, Down, parent}
 use Rattle.esx_model.specs.History.{History}
 use Rattle.esx_journal.specs.declared.row.Row.{Row}
 use Rattle.esx_journal.specs.Journal.{Kept, Aims}
+use Rattle.esx_journal.specs.Children.{no_row}
+use Rattle.esx_journal.proofs.Lists.{any_default}
+use Rattle.esx_journal.proofs.Linking.{linked_set}
 use Rattle.esx_journal.proofs.Paths.{parent_below}
 use Rattle.esx_journal.proofs.Sinking.{aims_at}
 use Rattle.esx_journal.proofs.journal.Journal.aim_at.Goals as goal
@@ -40,12 +43,23 @@ invariant_of-self c =
     let within = c.requires.within in
     let fits : c.args.node ≤ length k.history.nodes = omega arith in
     let up = ap (λ (r : Row). r.parent) c.index.ensures ∙ (k.holds.each c.args.node c.index.result.now fits).up in
+    let less = parent_below k.history.nodes c.args.node k.holds.tree some fits in
+    let inside : c.index.result.now.parent < length c.self.inside.rows.items = omega arith in
+    let here : c.index_mut.result.now ≡ slice_index_or c.self.inside.rows.items c.index.result.now.parent no_row
+    = c.index_mut.ensures.value ∙ any_default c.self.inside.rows.items c.index.result.now.parent c.index_mut.result.now no_row inside in
     record {
       history = k.history;
       aim = Down c.args.node ∷ k.aim;
       holds = aims_at _ k.history k.aim c.args.node c.index.result.now.parent c.index_mut.result.now c.index_mut.result.now k.holds some fits up c.index_mut.ensures.value;
       fits = k.fits;
       limit = k.limit;
+      linked = linked_set c.self.inside.rows.items c.index.result.now.parent (record c.index_mut.result.now { last = Some c.args.node }) k.linked inside
+          (record {
+            up = ap (λ (r : Row). r.parent) here;
+            first = ap (λ (r : Row). r.first) here;
+            next = ap (λ (r : Row). r.next) here;
+            less = λ e. ap (λ (r : Row). is_some r.back) (sym here) ∙ e;
+          });
     }
 
 pub returns-clause-holds : goal.returns-clause-holds

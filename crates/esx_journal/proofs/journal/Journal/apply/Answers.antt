@@ -9,7 +9,9 @@ use Rattle.esx_journal.specs.declared.row.Row.{Row}
 use Rattle.esx_journal.specs.Row.{grown}
 use Rattle.esx_journal.specs.Journal.{Kept, Holds, IsKept, Does, Refused, Accepted}
 use Rattle.esx_journal.proofs.Steps.{cursor_fits}
-use Rattle.esx_journal.proofs.Moves.{depth_small, no_row}
+use Rattle.esx_journal.specs.Children.{AreLinked, no_row}
+use Rattle.esx_journal.proofs.Linking.{linked_grown}
+use Rattle.esx_journal.proofs.Moves.{depth_small}
 use Rattle.esx_journal.proofs.Grows.{applied, accepted_is, refused, full_is, trades_back, rise_here}
 use Rattle.esx_journal.proofs.journal.Journal.apply.Goals as goal
 
@@ -83,7 +85,16 @@ invariant_of-self-in-Ok c =
     let new : Kept = record { machine = c.apply.new.self; rows = c.add_child.new.rows.items; cursor = c.len-made.result; depth = c.self.inside.depth + 1; nodes = c.self.inside.nodes; marks = c.self.inside.marks } in
     let x = applied old new k.history c.args.event.now c.in_ok-answer.answer c.in_ok-answer.back no_row k.holds (omega arith) c.in_ok-answer.ensures.event
     (c.add_child.ensures no_row ∙ ap (λ rows. grown rows c.self.inside.cursor c.in_ok-answer.back no_row) c.in-Ok.ensures.items) (omega arith) refl refl refl in
-    record { history = done c.args.event.now k.history; aim = Down (length k.history.nodes + 1) ∷ k.aim; holds = x.0; fits = omega arith; limit = k.limit }
+    let inside : c.self.inside.cursor < length c.self.inside.rows.items = (let f = cursor_fits _ k.history k.aim k.holds in let p = k.holds.place in omega arith) in
+    record {
+      history = done c.args.event.now k.history;
+      aim = Down (length k.history.nodes + 1) ∷ k.aim;
+      holds = x.0;
+      fits = omega arith;
+      limit = k.limit;
+      linked = subst AreLinked (sym (c.add_child.ensures no_row ∙ ap (λ rows. grown rows c.self.inside.cursor c.in_ok-answer.back no_row) c.in-Ok.ensures.items))
+          (linked_grown old.rows c.self.inside.cursor c.in_ok-answer.back k.linked inside);
+    }
 
 pub returns-in-Ok : goal.returns-in-Ok
 unfolding done

@@ -1,7 +1,7 @@
 use Rattle.std.proofs.Common.{◌∙◌, sym, ap, subst, Ok}
 use Rattle.esx_machine.specs.Machine.{book_in}
 use Rattle.esx_journal.specs.Journal.{Kept, Holds, kept_after}
-use Rattle.esx_journal.proofs.Moves.{no_row}
+use Rattle.esx_journal.specs.Children.{no_row}
 use Rattle.esx_journal.proofs.Grows.{book_is, book_here, shows_at}
 use Rattle.esx_journal.proofs.journal.Journal.machine.Goals as goal
 

@@ -35,7 +35,7 @@ returns-in_err-add c =
 pub invariant_of-self-2 : goal.invariant_of-self-2
 invariant_of-self-2 c =
     let k = c.self.invariant in
-    record { history = with_name c.args.name.now k.history; aim = k.aim; holds = named_more _ k.history k.aim c.args.name.now c.add.new.self k.holds c.in_ok-add.ensures.ok; fits = k.fits; limit = k.limit }
+    record { history = with_name c.args.name.now k.history; aim = k.aim; holds = named_more _ k.history k.aim c.args.name.now c.add.new.self k.holds c.in_ok-add.ensures.ok; fits = k.fits; limit = k.limit; linked = k.linked }
 
 pub returns : goal.returns
 returns c =

@@ -4,7 +4,8 @@ use Rattle.esx_journal.specs.declared.row.Row.{Row}
 use Rattle.esx_journal.specs.Row.{LastsFit, child_at}
 use Rattle.esx_journal.specs.Journal.{Kept, Holds}
 use Rattle.esx_journal.proofs.Steps.{cursor_fits}
-use Rattle.esx_journal.proofs.Moves.{Looked, looks_first, looks_on, child_within, looks_end, redone_stops, lasts_fit, no_row}
+use Rattle.esx_journal.specs.Children.{no_row}
+use Rattle.esx_journal.proofs.Moves.{Looked, looks_first, looks_on, child_within, looks_end, redone_stops, lasts_fit}
 use Rattle.esx_journal.proofs.journal.Journal.may_redo.Goals as goal
 
 pub look-init : goal.look-init

@@ -23,13 +23,14 @@ invariant_of-self c =
     let within = c.stands.ensures.within c.if-not-stands.false in
     let v = ap (λ (x : Kept). length x.rows) c.self.view_is in
     let s = k.holds.size in
-    let drops = c.drop_below.ensures k.history.nodes (nodes_of _ k.history k.aim k.holds) in
+    let drops = c.drop_below.ensures.drops k.history.nodes (nodes_of _ k.history k.aim k.holds) in
     record {
       history = without c.args.node k.history;
       aim = k.aim;
       holds = pruned _ c.drop_below.new.rows.items k.history k.aim c.args.node c.drop_below.result k.holds drops off.1 (omega arith);
       fits = (let l = dropped_length c.args.node k.history.nodes in let f = k.fits in omega arith);
       limit = k.limit;
+      linked = c.drop_below.ensures.linked;
     }
 
 pub returns : goal.returns
@@ -43,7 +44,7 @@ returns c =
     let on : is_on_path h c.args.node ≡ false = sym (c.is_on_path.ensures h h.walk holds) ∙ c.if-is_on_path.false in
     let off = off_path h c.args.node on in
     let s = was.size in
-    let drops = c.drop_below.ensures h.nodes (nodes_of old h h.walk was) in
+    let drops = c.drop_below.ensures.drops h.nodes (nodes_of old h h.walk was) in
     record {
       after = without c.args.node h;
       gives = prune_done c.args.node h (sym (c.stands.ensures.told h h.walk holds) ∙ c.if-not-stands.false) on ∙ ap (λ (n : ℕ). Ok (n, without c.args.node h)) (sym drops.count);

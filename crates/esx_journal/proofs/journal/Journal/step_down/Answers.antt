@@ -5,7 +5,8 @@ use Rattle.esx_journal.specs.declared.row.Row.{Row}
 use Rattle.esx_journal.specs.Row.{LastsFit, child_at}
 use Rattle.esx_journal.specs.Journal.{Kept, Aims}
 use Rattle.esx_journal.proofs.Steps.{flips_down, went_down, cursor_fits, is_child, IsChild}
-use Rattle.esx_journal.proofs.Moves.{lasts_fit, child_aimed, depth_below, no_row}
+use Rattle.esx_journal.specs.Children.{no_row}
+use Rattle.esx_journal.proofs.Moves.{lasts_fit, child_aimed, depth_below}
 use Rattle.esx_journal.proofs.journal.Journal.step_down.Goals as goal
 
 -- the child that was found is the one where a redo goes
@@ -60,6 +61,7 @@ invariant_of-self c =
       holds = went_down old new k.history k.aim c.in-Some.next no_row k.holds n c.flip_row.ensures.flips refl refl refl refl;
       fits = k.fits;
       limit = k.limit;
+      linked = c.flip_row.ensures.linked k.linked;
     }
 
 pub returns-in-Some : goal.returns-in-Some

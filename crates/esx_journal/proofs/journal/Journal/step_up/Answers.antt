@@ -44,6 +44,7 @@ invariant_of-self c =
       holds = went_up old new k.history k.aim c.index.result.now k.holds deep c.flip_row.ensures.flips (ap (λ (r : Row). r.parent) c.index.ensures) (omega arith) refl refl;
       fits = k.fits;
       limit = k.limit;
+      linked = c.flip_row.ensures.linked k.linked;
     }
 
 pub returns-clause-holds : goal.returns-clause-holds

@@ -8,7 +8,7 @@ use Rattle.esx_model.specs.History.{History, scene_at, book_at}
 use Rattle.esx_model.specs.WhatIf.{replies_to, scene_of, what_if}
 use Rattle.esx_journal.specs.Journal.{Kept, Holds, kept_after}
 use Rattle.esx_model.proofs.Callers.{later_within}
-use Rattle.esx_journal.proofs.Moves.{no_row}
+use Rattle.esx_journal.specs.Children.{no_row}
 use Rattle.esx_journal.proofs.Grows.{shows_at, config_is, book_here, epochs_here}
 use Rattle.esx_journal.proofs.Trying.{Replies}
 use Rattle.esx_journal.proofs.journal.Journal.what_if.Goals as goal
