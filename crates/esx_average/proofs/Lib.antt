@@ -1,3 +1,4 @@
 pub mod MeansLaws
 pub mod RowLaws
 pub mod ChunkLaws
+pub mod BulkLaws

@@ -3,6 +3,7 @@
 #![tactic(auto)]
 
 pub mod averages;
+mod bulk;
 pub mod revoke;
 
 pub use averages::Averages;

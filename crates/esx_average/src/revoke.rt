@@ -5,6 +5,7 @@ ghost use Rattle.esx_formulas.specs.Ratio.{AreRows};
 ghost use Rattle.esx_formulas.specs.Targets.{spare, AreTargets, targets_of};
 ghost use Rattle.esx_formulas.specs.Payers.{IsBestBelow};
 
+use crate::bulk::revoke_in_bulk;
 use esx_formulas::Row;
 use esx_formulas::ratio::comes_no_later_at;
 use esx_formulas::targets::held;
@@ -19,10 +20,11 @@ const MOST_PAGES: u32 = 65536;
 /// at what it then has. The rows stand in order of machine, and a target lies between a row's floor and
 /// its pages, or is its floor where it has less.
 ///
-/// Pages are revoked in chunks of 2^16 down to 1. Where more are left than one page less than a chunk of
-/// each row, a whole chunk comes from the row whose last page of a chunk comes first. So each size of a
-/// chunk takes at most one step for each row, and a step looks at every row: the time grows with the
-/// square of the rows and with the logarithm of what is revoked from each.
+/// Where many pages are needed, most are revoked in bulk first. The others are revoked in chunks of 2^16
+/// down to 1. Where more are left than one page less than a chunk of each row, a whole chunk comes from the
+/// row whose last page of a chunk comes first. So each size of a chunk takes at most one step for each row,
+/// and a step looks at every row: the time grows with the square of the rows and with the logarithm of what
+/// is revoked from each, and most often, after the bulk, with the rows alone.
 pub fn targets(alloc: Global, tau: u32, rows: &[Row], need: u32) -> Result<Vec<u32>, AllocError>
     requires tax { tau ≤ 99 }
     requires rows { AreRows rows.now }
@@ -31,6 +33,7 @@ pub fn targets(alloc: Global, tau: u32, rows: &[Row], need: u32) -> Result<Vec<u
 {
     let mut targets = held(alloc, rows)?;
     let mut left = spare(rows).min(need);
+    left -= revoke_in_bulk(tau, rows, &mut targets, left);
     let mut chunk = MOST_PAGES;
     while left > 0 {
         if left <= rows.len() as u32 * (chunk - 1) {

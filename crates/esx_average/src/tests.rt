@@ -66,6 +66,16 @@ fn a_tie_goes_to_the_lower_machine(rt: HostRuntime) -> Result<(), Fail> {
 }
 
 #[test]
+fn many_pages_leave_each_machine_in_line_with_its_shares(rt: HostRuntime) -> Result<(), Fail> {
+    let rows = [
+        row(0, 3000, 1000, 2, 65536)?,
+        row(1, 1000, 1000, 2, 65536)?,
+        row(2, 1000, 40, 36, 65536)?,
+    ];
+    expect_targets(&rt, rt.alloc(), &rows, 800, &[900, 300, 40])
+}
+
+#[test]
 fn no_target_is_below_its_floor(rt: HostRuntime) -> Result<(), Fail> {
     let rows = [row(0, 1000, 10, 2, 65536)?, row(1, 1000, 6, 2, 65536)?];
     expect_targets(&rt, rt.alloc(), &rows, 100, &[2, 2])

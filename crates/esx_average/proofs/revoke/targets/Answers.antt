@@ -6,18 +6,33 @@ use Rattle.esx_formulas.specs.Targets.{AreTargets}
 use Rattle.esx_formulas.proofs.Revoking.{only_worked_out}
 use Rattle.esx_formulas.specs.Payers.{IsFirstBelow, AreNoneBelow}
 use Rattle.esx_average.proofs.RowLaws.{rows_few, spare_few}
-use Rattle.esx_average.proofs.ChunkLaws.{IsStep, partial_begins, partial_count, partial_step, partial_some, partial_ends, partial_most}
+use Rattle.esx_average.proofs.BulkLaws.{partial_bulk}
+use Rattle.esx_average.proofs.ChunkLaws.{IsPartial, IsStep, partial_begins, partial_count, partial_step, partial_some, partial_ends, partial_most}
 use Rattle.esx_average.proofs.revoke.targets.Goals as goal
 
 pub spare-requires : goal.spare-requires
 spare-requires c = omega (arith, spare_few c.args.rows.now c.requires.rows)
 
+pub revoke_in_bulk-left-requires-clause-most : goal.revoke_in_bulk-left-requires-clause-most
+revoke_in_bulk-left-requires-clause-most c =
+    let begins : IsPartial c.args.tau c.args.rows.now c.args.need c.in_ok-targets.targets.items c.min-left.result =
+    rw c.in_ok-targets.ensures (partial_begins c.args.tau c.args.rows.now c.args.need c.min-left.result (omega (arith, c.min-left.ensures, c.spare.ensures))) in
+    λ i p. partial_most c.args.tau c.args.rows.now c.args.need c.in_ok-targets.targets.items c.min-left.result i c.requires.rows begins p
+
+pub revoke_in_bulk-left-requires-clause-left : goal.revoke_in_bulk-left-requires-clause-left
+revoke_in_bulk-left-requires-clause-left c = omega (arith, spare_few c.args.rows.now c.requires.rows, c.min-left.ensures, c.spare.ensures)
+
 pub loop-left-init : goal.loop-left-init
-loop-left-init c = record {
-  partial = rw c.in_ok-targets.ensures (partial_begins c.args.tau c.args.rows.now c.args.need c.min-left.result (omega (arith, c.min-left.ensures, c.spare.ensures)));
-  some = omega arith;
-  most = omega arith;
-}
+loop-left-init c =
+    let begins : IsPartial c.args.tau c.args.rows.now c.args.need c.in_ok-targets.targets.items c.min-left.result =
+    rw c.in_ok-targets.ensures (partial_begins c.args.tau c.args.rows.now c.args.need c.min-left.result (omega (arith, c.min-left.ensures, c.spare.ensures))) in
+    record {
+      partial = partial_bulk c.args.tau c.args.rows.now c.args.need c.in_ok-targets.targets.items c.revoke_in_bulk-left.new.targets.items
+          c.min-left.result c.revoke_in_bulk-left.result c.requires.tax c.requires.rows begins
+          c.revoke_in_bulk-left.ensures.few c.revoke_in_bulk-left.ensures.none c.revoke_in_bulk-left.ensures.some;
+      some = omega arith;
+      most = omega arith;
+    }
 
 pub overflow_cast-rows : goal.overflow_cast-rows
 overflow_cast-rows c = omega (arith, rows_few c.args.rows.now c.requires.rows)
