@@ -72,17 +72,20 @@ fn split_at_space<'a>(text: &'a str) -> Option<(&'a str, &'a str)>
 /// From this number on, one more digit may lead out of 64 bits.
 const FULL: u64 = u64::MAX / 10;
 
-/// The number that the digits in front write, as far as a space or the end, and how many they are. `None` where
-/// another byte ends them, and for the largest numbers of 64 bits.
+/// The number that the digits in front write, as far as a space or the end, and how many they are, where a front of
+/// them was read. `None` where another byte ends them, and for the largest numbers of 64 bits.
 #[inline(always)]
-fn digits_in_front(bytes: &[u8]) -> Option<(u64, usize)>
+fn digits_from(bytes: &[u8], start: usize, front: u64) -> Option<(u64, usize)>
+    requires within { start ≤ length bytes.now }
+    requires small { front < 2 ^ 64 }
+    requires digits { AllDigits 10 (take start bytes.now) × (front ≡ digits_value 10 (take start bytes.now)) }
     ensures within { IfSome result (λ p. p.1 ≤ length bytes.now) }
     ensures small { IfSome result (λ p. p.0 < 2 ^ 64) }
     ensures digits { IfSome result (λ p. AllDigits 10 (take p.1 bytes.now) × (p.0 ≡ digits_value 10 (take p.1 bytes.now))) }
     ensures end { IfSome result (λ p. p.1 < length bytes.now → get_or bytes.now p.1 0 ≡ 32) }
 {
-    let mut number: u64 = 0;
-    for i in 0..bytes.len() {
+    let mut number: u64 = front;
+    for i in start..bytes.len() {
         let byte = bytes[i];
         if byte < b'0' || b'9' < byte {
             return if byte == b' ' {
@@ -99,16 +102,75 @@ fn digits_in_front(bytes: &[u8]) -> Option<(u64, usize)>
     Some((number, bytes.len()))
 }
 
-/// The number that is the first field, and the text behind it. `None` where that is no number, and for the largest
-/// of 64 bits.
+/// The number that the digits in front of sixteen bytes write, and how many they are.
 #[inline(always)]
-fn number_in_front<'a>(text: &'a str) -> Option<(u64, Option<&'a str>)>
+fn digits_of_sixteen(bytes: &[u8; 16]) -> (u64, usize)
+    ensures within { result.1 ≤ 16 }
+    ensures small { result.0 < 2 ^ 64 }
+    ensures digits { AllDigits 10 (take result.1 bytes.now) × (result.0 ≡ digits_value 10 (take result.1 bytes.now)) }
+{
+    let mut value: u64 = 0;
+    for i in 0..16 {
+        let digit = bytes[i];
+        if digit < b'0' || b'9' < digit {
+            return (value, i);
+        }
+        value = value * 10 + u64::from(digit - b'0');
+    }
+    (value, 16)
+}
+
+/// As `digits_from`, from the first byte on.
+#[inline(always)]
+fn digits_in_front(bytes: &[u8]) -> Option<(u64, usize)>
+    ensures within { IfSome result (λ p. p.1 ≤ length bytes.now) }
+    ensures small { IfSome result (λ p. p.0 < 2 ^ 64) }
+    ensures digits { IfSome result (λ p. AllDigits 10 (take p.1 bytes.now) × (p.0 ≡ digits_value 10 (take p.1 bytes.now))) }
+    ensures end { IfSome result (λ p. p.1 < length bytes.now → get_or bytes.now p.1 0 ≡ 32) }
+{
+    digits_from(bytes, 0, 0)
+}
+
+/// As `digits_in_front`, for numbers that mostly have more than sixteen digits: the first sixteen bytes are read as one.
+#[inline(always)]
+fn many_digits_in_front(bytes: &[u8]) -> Option<(u64, usize)>
+    ensures within { IfSome result (λ p. p.1 ≤ length bytes.now) }
+    ensures small { IfSome result (λ p. p.0 < 2 ^ 64) }
+    ensures digits { IfSome result (λ p. AllDigits 10 (take p.1 bytes.now) × (p.0 ≡ digits_value 10 (take p.1 bytes.now))) }
+    ensures end { IfSome result (λ p. p.1 < length bytes.now → get_or bytes.now p.1 0 ≡ 32) }
+{
+    let Some((sixteen, _)) = bytes.split_first_chunk::<16>() else {
+        return digits_in_front(bytes);
+    };
+    let (front, count) = digits_of_sixteen(sixteen);
+    digits_from(bytes, count, front)
+}
+
+/// The one or the other.
+#[inline(always)]
+fn some_digits_in_front(bytes: &[u8], many: bool) -> Option<(u64, usize)>
+    ensures within { IfSome result (λ p. p.1 ≤ length bytes.now) }
+    ensures small { IfSome result (λ p. p.0 < 2 ^ 64) }
+    ensures digits { IfSome result (λ p. AllDigits 10 (take p.1 bytes.now) × (p.0 ≡ digits_value 10 (take p.1 bytes.now))) }
+    ensures end { IfSome result (λ p. p.1 < length bytes.now → get_or bytes.now p.1 0 ≡ 32) }
+{
+    if many {
+        many_digits_in_front(bytes)
+    } else {
+        digits_in_front(bytes)
+    }
+}
+
+/// The number that is the first field, and the text behind it. `None` where that is no number, and for the largest
+/// of 64 bits. With `many` most have more than sixteen digits.
+#[inline(always)]
+fn number_in_front<'a>(text: &'a str, many: bool) -> Option<(u64, Option<&'a str>)>
     ensures small { IfSome result (λ p. p.0 < 2 ^ 64) }
     ensures read { IfSome result (λ p. fields text.now ≡ decimal p.0 ∷ fields_left p.1) }
 {
     let bytes = text.as_bytes();
     let first = *bytes.first()?;
-    let (number, count) = digits_in_front(bytes)?;
+    let (number, count) = some_digits_in_front(bytes, many)?;
     if count == 0 {
         return None;
     }
@@ -200,7 +262,7 @@ impl<'a> Fields<'a> {
         ensures none { IfNone result ((n : ℕ) (others : List (List ℕ)) → n < limit → self.old ≡ decimal n ∷ others → ⊥) }
         ensures one { IfNone result (self.new ≡ drop 1 self.old) }
     {
-        let number = self.word()?;
+        let number = self.word_of(false)?;
         if number < limit { Some(number) } else { None }
     }
 
@@ -214,7 +276,7 @@ impl<'a> Fields<'a> {
         Some(number as u32)
     }
 
-    /// The next field as a word: most in one pass over its bytes.
+    /// The next field as a word.
     #[inline(always)]
     pub fn word(&mut self) -> Option<u64>
         ensures small { IfSome result (λ n. n < 2 ^ 64) }
@@ -222,8 +284,19 @@ impl<'a> Fields<'a> {
         ensures none { IfNone result ((n : ℕ) (others : List (List ℕ)) → n < 2 ^ 64 → self.old ≡ decimal n ∷ others → ⊥) }
         ensures one { IfNone result (self.new ≡ drop 1 self.old) }
     {
+        self.word_of(true)
+    }
+
+    /// The same: most in one pass over its bytes.
+    #[inline(always)]
+    fn word_of(&mut self, many: bool) -> Option<u64>
+        ensures small { IfSome result (λ n. n < 2 ^ 64) }
+        ensures some { IfSome result (λ n. self.old ≡ decimal n ∷ self.new) }
+        ensures none { IfNone result ((n : ℕ) (others : List (List ℕ)) → n < 2 ^ 64 → self.old ≡ decimal n ∷ others → ⊥) }
+        ensures one { IfNone result (self.new ≡ drop 1 self.old) }
+    {
         let text = self.rest?;
-        match number_in_front(text) {
+        match number_in_front(text, many) {
             Some((number, later)) => {
                 self.rest = later;
                 Some(number)

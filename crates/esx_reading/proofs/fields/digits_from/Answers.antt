@@ -1,6 +1,6 @@
 use Rattle.std.proofs.Common.{◌≤◌, arith, get_or}
 use Rattle.esx_reading.proofs.NumberLemmas.{value_more, digit_more}
-use Rattle.esx_reading.proofs.fields.digits_in_front.Goals as goal
+use Rattle.esx_reading.proofs.fields.digits_from.Goals as goal
 
 pub loop-i-preserved : goal.loop-i-preserved
 loop-i-preserved c =
