@@ -10,5 +10,6 @@ pub mod AverageLaws
 pub mod LevelLaws
 pub mod rows
 pub mod LaneFacts
+pub mod RotationFacts
 pub mod RoundFacts
 pub mod DigestFacts

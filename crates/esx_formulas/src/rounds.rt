@@ -71,12 +71,12 @@ pub(crate) const ROUND_CONSTANTS: [u32; 64] = [
     0xc671_78f2,
 ];
 
-/// Ch of the standard.
+/// Ch of the standard, with one operation less.
 #[inline(always)]
 fn ch(x: u32, y: u32, z: u32) -> u32
     ensures { result ≡ ch x y z }
 {
-    (x & y) ^ (!x & z)
+    (x & (y ^ z)) ^ z
 }
 
 /// Maj of the standard.
@@ -87,20 +87,20 @@ fn maj(x: u32, y: u32, z: u32) -> u32
     (x & y) ^ (x & z) ^ (y & z)
 }
 
-/// The upper case sigma 0 of the standard.
+/// The upper case sigma 0 of the standard; its first two rotations begin with the same one.
 #[inline(always)]
 fn big_sigma0(x: u32) -> u32
     ensures { result ≡ big_sigma0 x }
 {
-    x.rotate_right(2) ^ x.rotate_right(13) ^ x.rotate_right(22)
+    (x ^ x.rotate_right(11)).rotate_right(2) ^ x.rotate_right(22)
 }
 
-/// The upper case sigma 1 of the standard.
+/// The upper case sigma 1 of the standard; its first two rotations begin with the same one.
 #[inline(always)]
 fn big_sigma1(x: u32) -> u32
     ensures { result ≡ big_sigma1 x }
 {
-    x.rotate_right(6) ^ x.rotate_right(11) ^ x.rotate_right(25)
+    (x ^ x.rotate_right(5)).rotate_right(6) ^ x.rotate_right(25)
 }
 
 /// One round, with the sum of its word and its constant.
