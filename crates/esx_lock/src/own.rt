@@ -17,16 +17,22 @@ use crate::word::word_of;
 use atomic_table::{Badge, Seat, Table};
 use esx_types::{CALLERS, Ids};
 use std::alloc::{AllocError, Global};
+use std::hint::spin_loop;
 use std::marker::{Brand, Model};
 use std::mem::replace;
 use std::snapshot::Snapshot;
 use std::sync::Wait;
 use std::sync::atomic::{AtomicU64, Ordering};
 
+/// How many times a take looks at a word that is held before it sleeps: a value is mostly given back sooner than
+/// a thread falls asleep and is woken.
+const LOOKS: u32 = 1000;
+
 /// A value that threads take in turn, one at a time, for callers with the numbers below `callers`.
 ///
 /// Its word is eight times the free frames of the value's gauge, plus twice the number of the level (0 `High`
-/// to 3 `Low`), plus 1 while a pass holds the value. A pass that finds it held sleeps until a give wakes it.
+/// to 3 `Low`), plus 1 while a pass holds the value. A pass that finds it held looks again for a while, and then
+/// sleeps until a give wakes it.
 #[derive(Drop)]
 pub struct OwnLock<V: Gauged> {
     table: Table<Option<V>, View, About<V>, Agreed<V>, Global>,
@@ -282,7 +288,7 @@ impl<V: Gauged> OwnLock<V> {
         }
     }
 
-    // Sleeps while the word that was read is odd. An even one was read by an exchange that another seat
+    // Waits while the word that was read is odd. An even one was read by an exchange that another seat
     // overtook: the lock may be free by now.
     fn take_seat<R: Wait>(&self, rt: &R, seat: &mut Seat<Option<V>, View>) -> V
         requires own { seat.old.table_id ≡ self.now.table }
@@ -292,22 +298,29 @@ impl<V: Gauged> OwnLock<V> {
         ensures same { (seat.new.table_id ≡ seat.old.table_id) × (seat.new.id ≡ seat.old.id) × (seat.new.me.1 ≡ []) }
         ensures told { Took V.legal V.gauge_of seat.old.me.0 seat.new.me.0 (V.site result) (V.lines result) }
     {
+        let mut looks = 0;
         for _ in rt.forever() {
             match self.try_seat(seat) {
                 Ok(value) => return value,
-                Err(word) if word % 2 == 1 => self.sleep(rt, word),
+                Err(word) if word % 2 == 1 => looks = self.wait(rt, word, looks),
                 Err(_) => {}
             }
         }
         unreachable!()
     }
 
-    // Sleeps if the word is still the one that was read, until a give wakes it. It is counted before the word is
+    // Lets a moment pass, and tells how many looks there were now. After the last of them it sleeps if the word is
+    // still the one that was read, until a give wakes it; then they begin anew. It is counted before the word is
     // looked at again: so a give that finds no sleeper has stored its word before that look.
-    fn sleep<R: Wait>(&self, rt: &R, word: u64) {
+    fn wait<R: Wait>(&self, rt: &R, word: u64, looks: u32) -> u32 {
+        if looks < LOOKS {
+            spin_loop();
+            return looks + 1;
+        }
         self.sleepers.fetch_add(1, Ordering::SeqCst);
         self.table.shared.park(rt, 0, (word & 0xffff_ffff) as u32);
         self.sleepers.fetch_sub(1, Ordering::SeqCst);
+        0
     }
 
     // Wakes one thread that sleeps, if there is one. A give asks for it after its store.

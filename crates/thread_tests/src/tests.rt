@@ -1,3 +1,4 @@
 mod desk;
 mod lock;
+mod looks;
 mod work;
