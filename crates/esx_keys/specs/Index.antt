@@ -1,5 +1,5 @@
 -- The index over listings. No public clause cites this module.
-use Rattle.std.specs.Prelude.{◌≡◌, ℕ, ◌%◌, ◌<◌, ◌^◌, List, length, Option, Some, None, Bool}
+use Rattle.std.specs.Prelude.{◌≡◌, ℕ, ◌%◌, ◌<◌, ◌^◌, List, length, Option, Some, None, Bool, true, false, count_by}
 use Rattle.std.specs.Int.{IsPowerOfTwo}
 use Rattle.esx_types.specs.declared.table.Listing.{Listing}
 use Rattle.esx_types.specs.declared.table.Listing.TheVariants.{Unlisted, Shared, Hinted}
@@ -13,6 +13,16 @@ use Rattle.esx_types.specs.Listings.{listing_at, is_shared_under, is_hinted_unde
 abbrev pub is_under : Kind → ℕ → Listing → Bool
 is_under SharedKind key listing = is_shared_under key listing
 is_under HintKind key listing = is_hinted_under key listing
+
+-- something stands there
+abbrev pub is_listed : Listing → Bool
+is_listed Unlisted = false
+is_listed (Shared key) = true
+is_listed (Hinted vm page key) = true
+
+-- so many frames stand under keys
+abbrev pub IsCounted : List Listing → ℕ → Type 0
+IsCounted listings listed = listed ≡ count_by is_listed listings
 
 -- the chain of a listing among so many
 abbrev pub chain_of : ℕ → Listing → Option ℕ

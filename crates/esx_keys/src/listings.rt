@@ -1,10 +1,11 @@
 //! What each frame stands under.
 
-ghost use Rattle.std.specs.Prelude.{◌≡◌, ◌<◌, ℕ, IfOk, IfSome, IfNone, length, replicate, slice_set, slice_index_or};
+ghost use Rattle.std.specs.Prelude.{◌≡◌, ◌<◌, ℕ, true, IfOk, IfSome, IfNone, length, replicate, slice_set, slice_index_or};
 ghost use Rattle.std.specs.List.{position_from};
 ghost use Rattle.esx_types.specs.declared.table.Listing.TheVariants.{Unlisted};
 ghost use Rattle.esx_types.specs.declared.table.KeyRow.{KeyRow};
 ghost use Rattle.esx_types.specs.declared.table.Hint.{Hint};
+ghost use Rattle.esx_keys.specs.Index.{is_listed};
 ghost use Rattle.esx_types.specs.Listings.{listing_at, is_shared_under, is_hinted_under, IsSharedUnder, IsHintedUnder, shared_from, hints_of, in_order};
 
 use crate::entry::Kind;
@@ -23,18 +24,30 @@ use std::marker::Model;
 #[derive(Drop)]
 pub struct Listings {
     index: Index,
+    // How many frames stand under keys.
+    listed: u32,
+}
+
+/// Does something stand there?
+fn is_listed(listing: &Listing) -> bool
+    ensures { result ≡ is_listed listing.now }
+{
+    match listing {
+        Listing::Unlisted => false,
+        Listing::Shared { .. } | Listing::Hinted { .. } => true,
+    }
 }
 
 impl Model for Listings {
     ghost use Rattle.std.specs.Prelude.{List};
     ghost use Rattle.esx_types.specs.declared.table.Listing.{Listing};
-    ghost use Rattle.esx_keys.specs.Index.{IsIndex};
+    ghost use Rattle.esx_keys.specs.Index.{IsIndex, IsCounted};
 
     ghost Value = { List Listing };
 
     ghost view = { λ a. a.index.listings.items };
 
-    ghost invariant = { λ a. IsIndex a.index };
+    ghost invariant = { λ a. IsIndex a.index × IsCounted a.index.listings.items a.listed };
 }
 
 impl Listings {
@@ -43,7 +56,7 @@ impl Listings {
         ensures { IfOk result (λ l. l ≡ replicate frames Unlisted) }
     {
         let index = Index::new(alloc, frames)?;
-        Ok(Listings { index })
+        Ok(Listings { index, listed: 0 })
     }
 
     /// How many frames there are.
@@ -51,6 +64,13 @@ impl Listings {
         ensures { result ≡ length self.now }
     {
         self.index.listings.len() as u32
+    }
+
+    /// Does no frame stand under a key? One look at a count.
+    pub fn lists_none(&self) -> bool
+        ensures { result ≡ true → (frame : ℕ) → listing_at self.now frame ≡ Unlisted }
+    {
+        self.listed == 0
     }
 
     /// What a frame stands under; past the last frame, nothing.
@@ -115,7 +135,11 @@ impl Listings {
         ensures listings { self.new ≡ slice_set self.old frame Unlisted }
         ensures result { result ≡ listing_at self.old frame }
     {
-        self.index.unlist(frame)
+        let before = self.index.unlist(frame);
+        if is_listed(&before) {
+            self.listed -= 1;
+        }
+        before
     }
 
     /// Puts a frame that stands under nothing under a key.
@@ -124,6 +148,9 @@ impl Listings {
         requires unlisted { listing_at self.old frame ≡ Unlisted }
         ensures { self.new ≡ slice_set self.old frame listing }
     {
+        if is_listed(&listing) {
+            self.listed += 1;
+        }
         self.index.enlist(frame, listing);
     }
 }

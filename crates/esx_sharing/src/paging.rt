@@ -155,7 +155,8 @@ fn frame_to_slot(
     }
 }
 
-/// A page that can be shared is shared; any other goes to a slot.
+/// A page that can be shared is shared; any other goes to a slot. Where nothing stands under a key there is no page to
+/// share with, and its bytes are not hashed.
 fn leave_frame(
     tables: &SiteTables,
     alloc: Global,
@@ -166,6 +167,9 @@ fn leave_frame(
     requires { HasCounts tables.now }
     ensures { Plans result (leave_frame tables.now vm page frame (frame_at tables.now.frames frame)) }
 {
+    if tables.lists_none() {
+        return frame_to_slot(tables, alloc, vm, page, frame);
+    }
     let found = look_by_frame(tables, vm, page, frame);
     match found.look {
         Look::SharedFrame { frame: other } | Look::OtherPage { frame: other, .. } => {

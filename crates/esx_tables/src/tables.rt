@@ -1,8 +1,9 @@
 //! The tables, as they are opened and read.
 
-ghost use Rattle.std.specs.Prelude.{◌≡◌, ◌<◌, IfOk, MatchOption, None, Some, length, option_copied, replicate, slice_get};
+ghost use Rattle.std.specs.Prelude.{◌≡◌, ◌<◌, ℕ, true, IfOk, MatchOption, None, Some, length, option_copied, replicate, slice_get};
 ghost use Rattle.std.specs.List.{position_from};
 ghost use Rattle.esx_types.specs.declared.config.TheConstants.{VM_NUMBERS};
+ghost use Rattle.esx_types.specs.declared.table.Listing.TheVariants.{Unlisted};
 ghost use Rattle.esx_types.specs.Frames.{frame_at, least_frame, bytes_of};
 ghost use Rattle.esx_types.specs.Slots.{slot_at, least_slot, held_bytes};
 ghost use Rattle.esx_types.specs.Listings.{listing_at, is_shared_under, is_hinted_under};
@@ -172,6 +173,13 @@ impl SiteTables {
             Some(row) => held_bytes(row),
             None => &[],
         }
+    }
+
+    /// Does no frame stand under a key? Then no look can find a page to share with.
+    pub fn lists_none(&self) -> bool
+        ensures { result ≡ true → (frame : ℕ) → listing_at self.now.listings frame ≡ Unlisted }
+    {
+        self.listings.lists_none()
     }
 
     /// What a frame stands under; past the last frame, nothing.
