@@ -11,7 +11,7 @@ ghost use Rattle.esx_frames.specs.Marks.{bytes_traded_at, mark_traded_at, slot_t
 use crate::counts::Counts;
 use crate::known::KnownKeys;
 use crate::marks::{Mark, trade_bytes, trade_mark, trade_slot};
-use esx_formulas::content_key;
+use crate::seen::{Seen, bytes_of};
 use esx_index::FreeIndex;
 use esx_types::{Bytes, FrameRow, SlotRow};
 use std::alloc::{AllocError, Global};
@@ -27,6 +27,7 @@ pub struct FrameTable {
     free: FreeIndex,
     counts: Counts,
     known: KnownKeys,
+    seen: Seen,
 }
 
 impl Model for FrameTable {
@@ -60,6 +61,7 @@ impl FrameTable {
             free,
             counts,
             known: KnownKeys::new(alloc),
+            seen: Seen::new(alloc),
         })
     }
 
@@ -104,6 +106,18 @@ impl FrameTable {
         self.known.get(mpn)
     }
 
+    /// The key of the page in a frame, where it is kept, or where that of a page with the same bytes is found.
+    pub fn found_key(&self, mpn: u32) -> Option<u64>
+        ensures { IfSome result (λ key. key ≡ content_key (bytes_of (frame_at self.now mpn))) }
+    {
+        if let Some(key) = self.known.get(mpn) {
+            return Some(key);
+        }
+        let at = mpn as usize;
+        let row = self.rows.get(at)?;
+        self.seen.find(&self.rows, &self.known, bytes_of(row))
+    }
+
     /// Keeps the key of a private page until its bytes change. It may take memory; where that is refused the key is not
     /// kept.
     pub fn learn_key(&mut self, mpn: u32)
@@ -115,7 +129,9 @@ impl FrameTable {
         let at = mpn as usize;
         if let Some(FrameRow::Private { bytes }) = self.rows.get(at) {
             if self.known.make_room(mpn) {
-                let key = content_key(bytes.as_slice());
+                let key = self
+                    .seen
+                    .key(&self.rows, &self.known, mpn, bytes.as_slice());
                 self.known.learn(mpn, key);
             }
         }
@@ -267,6 +283,7 @@ fn free_rows(alloc: Global, frames: u32) -> Result<Vec<FrameRow>, AllocError>
 #[cfg(test)]
 mod tests {
     use super::*;
+    use esx_formulas::content_key;
     use esx_types::Bytes;
     use std::test::Fail;
 

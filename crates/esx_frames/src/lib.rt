@@ -6,6 +6,7 @@ mod frames;
 mod known;
 pub mod laws;
 mod marks;
+mod seen;
 
 pub use counts::Counts;
 pub use frames::FrameTable;

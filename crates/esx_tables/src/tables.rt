@@ -140,11 +140,11 @@ impl SiteTables {
         }
     }
 
-    /// The key of the bytes in a frame. It is not worked out anew where it is kept.
+    /// The key of the bytes in a frame. It is not worked out anew where it is kept, or that of an equal page is found.
     pub fn key(&self, frame: u32) -> u64
         ensures { result ≡ content_key (bytes_of (frame_at self.now.frames frame)) }
     {
-        match self.frames.known_key(frame) {
+        match self.frames.found_key(frame) {
             Some(key) => key,
             None => content_key(self.bytes(frame)),
         }
