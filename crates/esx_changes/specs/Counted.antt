@@ -18,6 +18,12 @@ abbrev pub turned_from : ℕ → ℕ → List Mark → List VmPart
 turned_from i page [] = []
 turned_from i page (m ∷ ms) = if is_first page m then Touched i ∷ turned_from (i + 1) page ms else turned_from (i + 1) page ms
 
+-- of marks, those among which all that turn are: as many turn, in the same places
+pub record AreNear (page : ℕ) (near marks : List Mark) : Type 0 where
+  pub turned : turned_from 0 page near ≡ turned_from 0 page marks
+  pub count : count_by (is_first page) near ≡ count_by (is_first page) marks
+  pub most : length near ≤ length marks
+
 -- the mark's page was accessed before, or is accessed now
 abbrev pub is_touched_by : ℕ → Mark → Bool
 is_touched_by page m = m.touched || (page == m.page)

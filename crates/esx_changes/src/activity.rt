@@ -38,6 +38,6 @@ pub fn active(row: &VmTable) -> u32
     let averages = row.averages();
     match row.period() {
         None => averages.active(None),
-        Some(period) => averages.active(Some((touched(period), sampled(period)))),
+        Some(period) => averages.active(Some((row.touched_marks() as u32, sampled(period)))),
     }
 }

@@ -1,11 +1,11 @@
 //! What an access changes of its machine's row where a sample period is open.
 
-ghost use Rattle.std.specs.Prelude.{◌≡◌, ◌≤◌, ◌<◌, ◌+◌, ◌++◌, ◌∷◌, [], length, map, count_by, vec_capacity, OnOk, IfOk};
+ghost use Rattle.std.specs.Prelude.{◌≡◌, ◌≤◌, ◌<◌, ◌+◌, ◌++◌, ◌∷◌, [], length, map, count_by, vec_capacity, OnOk, IfOk, Some};
 ghost use Rattle.esx_tables.specs.declared.change.Change.TheVariants.{OfVm};
 ghost use Rattle.esx_average.specs.Means.{Means};
-ghost use Rattle.esx_changes.specs.Counted.{is_first, is_touched_by, turned_from, period_parts, counted_parts, IsOpen, IsOpenOf};
+ghost use Rattle.esx_tables.specs.Sampled.{marks_of};
+ghost use Rattle.esx_changes.specs.Counted.{is_first, is_touched_by, turned_from, period_parts, counted_parts, AreNear, IsOpen, IsOpenOf};
 
-use esx_average::Averages;
 use esx_events::Boxed;
 use esx_model::{Mark, PeriodRow};
 use esx_tables::{Change, VmPart, VmTable};
@@ -25,28 +25,47 @@ fn first_count(page: u32, marks: &[Mark]) -> usize
     marks.iter().filter(|mark| is_first(page, mark)).count()
 }
 
-/// How many sampled pages were accessed, with this access.
-fn touched_count(page: u32, marks: &[Mark]) -> u32
-    requires { length marks.now ≤ 100 }
-    ensures value { result ≡ count_by (is_touched_by page) marks.now }
-    ensures most { result ≤ length marks.now }
+/// The marks of the open period, if there is one.
+fn marks_of(period: &Option<PeriodRow>) -> &[Mark]
+    ensures { result.now ≡ marks_of period.now }
 {
-    marks
-        .iter()
-        .filter(|mark| mark.touched || page == mark.page)
-        .count() as u32
+    match period {
+        None => &[],
+        Some(period) => period.marks.as_slice(),
+    }
+}
+
+/// The marks of the open period, where one of them may name the page; else none.
+fn near_marks(row: &VmTable, page: u32) -> &[Mark]
+    ensures { AreNear page result.now (marks_of row.now.period) }
+{
+    if row.may_sample(page) {
+        marks_of(row.period())
+    } else {
+        &[]
+    }
+}
+
+/// How many sampled pages were accessed, with this access.
+fn touched_count(row: &VmTable, page: u32) -> u32
+    requires { length (marks_of row.now.period) ≤ 100 }
+    ensures value { result ≡ count_by (is_touched_by page) (marks_of row.now.period) }
+    ensures most { result ≤ length (marks_of row.now.period) }
+{
+    (row.touched_marks() + first_count(page, near_marks(row, page))) as u32
 }
 
 /// How many parts of the row an access changes for an open period.
 #[tactic(auto, using(crate::proofs::Turned::turned_count))]
-fn open_len(page: u32, period: &PeriodRow) -> usize
-    requires { IsOpen period.now }
+fn open_len(page: u32, period: &PeriodRow, near: &[Mark]) -> usize
+    requires open { IsOpen period.now }
+    requires near { AreNear page near.now period.now.marks }
     ensures value { (m : Means) → result ≡ length (period_parts page m period.now) }
     ensures most { result ≤ 101 }
 {
     let length = period.length;
     if period.done + 1 < length {
-        first_count(page, period.marks.as_slice()) + 1
+        first_count(page, near) + 1
     } else {
         2
     }
@@ -60,7 +79,7 @@ fn counted_len(row: &VmTable, page: u32) -> usize
 {
     match row.period() {
         None => 0,
-        Some(period) => open_len(page, period),
+        Some(period) => open_len(page, period, near_marks(row, page)),
     }
 }
 
@@ -108,22 +127,23 @@ fn push_turned(
 fn push_open(
     changes: &mut Vec<Change>,
     vm: VmId,
+    row: &VmTable,
     page: u32,
-    averages: Averages,
     period: &PeriodRow,
 ) -> Result<(), AllocError>
-    requires { IsOpen period.now }
-    ensures { OnOk result (changes.new.items ≡ changes.old.items ++ map (OfVm vm) (period_parts page averages period.now)) }
+    requires open { IsOpen period.now }
+    requires period { row.now.period ≡ Some period.now }
+    ensures { OnOk result (changes.new.items ≡ changes.old.items ++ map (OfVm vm) (counted_parts row.now page)) }
 {
-    let marks = period.marks.as_slice();
     let length = period.length;
     let done = period.done + 1;
     if done < length {
         push_part(changes, vm, VmPart::Done { done })?;
-        return push_turned(changes, vm, page, marks);
+        return push_turned(changes, vm, page, near_marks(row, page));
     }
-    let touched = touched_count(page, marks);
-    let averages = averages.close_period(touched, marks.len() as u32);
+    let touched = touched_count(row, page);
+    let sampled = period.marks.len() as u32;
+    let averages = row.averages().close_period(touched, sampled);
     let period = Boxed::new(*changes.allocator(), None)?;
     push_part(changes, vm, VmPart::Period { period })?;
     push_part(changes, vm, VmPart::Averages { averages })
@@ -141,6 +161,6 @@ pub fn push_counted(
 {
     match row.period() {
         None => Ok(()),
-        Some(period) => push_open(changes, vm, page, row.averages(), period),
+        Some(period) => push_open(changes, vm, row, page, period),
     }
 }

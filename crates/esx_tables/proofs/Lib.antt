@@ -1,3 +1,4 @@
 pub mod Back
 pub mod Opening
 pub mod Kept
+pub mod Summed

@@ -2,6 +2,8 @@ pub use Rattle.esx_model.specs.Tables
 pub use Rattle.esx_lists.specs.Trades
 pub mod Readings
 pub mod Machines
+pub mod Sampled
+pub mod Summaries
 pub mod Bounds
 pub mod Fields
 pub mod Changes

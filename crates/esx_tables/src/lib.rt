@@ -5,6 +5,7 @@ mod change;
 mod copy;
 mod exchange;
 pub mod laws;
+mod period;
 mod record;
 mod tables;
 mod vm_table;

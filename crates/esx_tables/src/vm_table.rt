@@ -1,20 +1,22 @@
 //! A virtual machine's row, with room for every overhead frame that it will take.
 
-ghost use Rattle.std.specs.Prelude.{◌≡◌, ◌<◌, ◌≤◌, IfOk, length, option_map, slice_index, vec_len, vec_capacity};
+ghost use Rattle.std.specs.Prelude.{◌≡◌, ◌<◌, ◌≤◌, IfOk, false, length, slice_index, vec_len, vec_capacity};
 ghost use Rattle.esx_types.specs.Ranges.{IsGood};
 ghost use Rattle.esx_types.specs.Pages.{page_at, resident_count, resident_pages};
-ghost use Rattle.esx_lists.specs.Trades.{place_turned, top_traded};
+ghost use Rattle.esx_lists.specs.Trades.{top_traded};
 ghost use Rattle.esx_model.specs.event.Admission.{admitted};
 ghost use Rattle.esx_model.specs.Tables.{vm_table, standing_of};
-ghost use Rattle.esx_tables.specs.Machines.{facts_of, part_traded, done_traded, touched_turned, mark_turned, no_mark};
+ghost use Rattle.esx_tables.specs.Machines.{facts_of, part_traded};
 ghost use Rattle.esx_tables.specs.Bounds.{AreSizes};
 ghost use Rattle.esx_tables.specs.Fields.{fields_with, facts_in};
+ghost use Rattle.esx_tables.specs.Sampled.{samples, touched_marks};
 
 use crate::change::{Facts, VmPart};
+use crate::period::OpenPeriod;
 use esx_average::Averages;
-use esx_model::{Mark as SampleMark, PeriodRow, Standing};
+use esx_model::{PeriodRow, Standing};
 use esx_pmap::PageMap;
-use esx_types::{MapRow, Rows, VmSpec, VmState};
+use esx_types::{MapRow, VmSpec, VmState};
 use std::alloc::{AllocError, Global};
 use std::marker::Model;
 use std::mem;
@@ -30,7 +32,7 @@ struct Fields {
     overhead: Vec<u32>,
     pages: PageMap,
     averages: Averages,
-    period: Option<PeriodRow>,
+    period: OpenPeriod,
 }
 
 /// A virtual machine with its page map, on the heap. Its overhead frames stand in room that was taken when
@@ -69,7 +71,7 @@ impl VmTable {
             overhead: Vec::with_capacity(alloc, spec.overhead as usize)?,
             pages: PageMap::new(alloc, spec.max)?,
             averages: Averages::opened(),
-            period: None,
+            period: OpenPeriod::none(),
         };
         Ok(VmTable {
             fields: Box::new(alloc, fields)?,
@@ -161,7 +163,21 @@ impl VmTable {
     pub fn period(&self) -> &Option<PeriodRow>
         ensures { result.now ≡ self.now.period }
     {
-        &self.fields.period
+        self.fields.period.row()
+    }
+
+    /// May the open sample period have a mark of the page? Where it says no, it has none.
+    pub fn may_sample(&self, page: u32) -> bool
+        ensures { result ≡ false → samples self.now.period page ≡ false }
+    {
+        self.fields.period.may_sample(page)
+    }
+
+    /// How many marks of the open sample period are touched; 0 where none is open.
+    pub fn touched_marks(&self) -> usize
+        ensures { result ≡ touched_marks self.now.period }
+    {
+        self.fields.period.touched_marks()
     }
 
     /// Trades a part of the row. Where there is no such part nothing changes.
@@ -174,9 +190,9 @@ impl VmTable {
             VmPart::PageAt { page, row } => fields.pages.trade(*page, row),
             VmPart::Facts { facts } => trade_facts(fields, facts),
             VmPart::Target { target } => mem::swap(&mut fields.target, target),
-            VmPart::Period { period } => period.trade(&mut fields.period),
-            VmPart::Done { done } => trade_done(&mut fields.period, done),
-            VmPart::Touched { mark } => turn_touched(&mut fields.period, *mark),
+            VmPart::Period { period } => fields.period.trade(period),
+            VmPart::Done { done } => fields.period.trade_done(done),
+            VmPart::Touched { mark } => fields.period.turn_touched(*mark),
             VmPart::Averages { averages } => mem::swap(&mut fields.averages, averages),
             VmPart::OverheadTop { frame } => {
                 let room = fields.spec.overhead;
@@ -196,35 +212,6 @@ fn trade_facts(fields: &mut Fields, facts: &mut Facts)
     mem::swap(&mut fields.epoch, &mut facts.epoch);
     mem::swap(&mut fields.due, &mut facts.due);
     mem::swap(&mut fields.target, &mut facts.target);
-}
-
-/// Trades how many accesses of the open period are done. Where none is open nothing changes.
-fn trade_done(period: &mut Option<PeriodRow>, done: &mut u32)
-    ensures period { period.new ≡ (done_traded period.old done.old).0 }
-    ensures done { done.new ≡ (done_traded period.old done.old).1 }
-{
-    if let Some(period) = period {
-        mem::swap(&mut period.done, done);
-    }
-}
-
-/// Turns round whether a sampled page was accessed. Where there is none such nothing changes.
-fn turn_touched(period: &mut Option<PeriodRow>, mark: u32)
-    ensures { period.new ≡ option_map (touched_turned mark) period.old }
-{
-    if let Some(period) = period {
-        turn_mark(&mut period.marks, mark as usize);
-    }
-}
-
-/// Turns round whether the page at a place was accessed. Past the end nothing changes.
-fn turn_mark(marks: &mut Rows<SampleMark>, at: usize)
-    ensures { marks.new ≡ place_turned mark_turned marks.old at no_mark }
-{
-    if at < marks.len() {
-        let mark = marks.row_mut(at);
-        mark.touched = !mark.touched;
-    }
 }
 
 /// Trades the end of a list in its room: a frame goes onto it, or, where none is given, the last one off it.

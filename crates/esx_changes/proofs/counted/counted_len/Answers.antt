@@ -5,7 +5,9 @@ use Rattle.esx_changes.specs.Counted.{open_parts}
 use Rattle.esx_changes.proofs.counted.counted_len.Goals as goal
 
 pub open_len-requires : goal.open_len-requires
-open_len-requires c = c.requires c.in-Some.period (sym c.period.ensures ∙ c.in-Some.is)
+open_len-requires c =
+    let opened = sym c.period.ensures ∙ c.in-Some.is in
+    record { «open» = c.requires c.in-Some.period opened; near = rw opened at c.near_marks.ensures }
 
 pub returns-in-Some-clause-value : goal.returns-in-Some-clause-value
 returns-in-Some-clause-value c =
