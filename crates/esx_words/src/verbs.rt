@@ -1,6 +1,6 @@
 //! The first words of commands, those that are read alike together.
 
-ghost use Rattle.std.specs.Prelude.{◌≡◌, IfSome, IfNone};
+ghost use Rattle.std.specs.Prelude.{◌≡◌, IfSome, IfNone, length};
 ghost use Rattle.esx_words.specs.Verbs.{event_word, verb_word};
 ghost use Rattle.esx_words.specs.declared.verbs.EventVerb.{EventVerb};
 ghost use Rattle.esx_words.specs.declared.verbs.Verb.{Verb};
@@ -83,12 +83,14 @@ pub enum Verb {
     WhatIf,
 }
 
-/// The command that begins with a word, if it is one of those that come most: looked for by the word's length.
-#[inline(always)]
-fn frequent_verb_of(word: &str) -> Option<Verb>
-    ensures { IfSome result (λ verb. word.now ≡ verb_word verb) }
+/// The command that begins with a word: looked for among the words of its length.
+pub fn verb_of(word: &str) -> Option<Verb>
+    ensures found { IfSome result (λ verb. word.now ≡ verb_word verb) }
+    ensures only { IfNone result ((verb : Verb) → word.now ≡ verb_word verb → ⊥) }
 {
     match word.len() {
+        4 => verb_of_four(word),
+        5 => verb_of_five(word),
         2 => match word {
             "vm" => Some(Verb::OfVm),
             _ => None,
@@ -97,29 +99,28 @@ fn frequent_verb_of(word: &str) -> Option<Verb>
             "sum" => Some(Verb::Alone {
                 verb: AloneVerb::Sum,
             }),
-            _ => None,
-        },
-        4 => match word {
-            "page" => Some(Verb::Place {
-                verb: PlaceVerb::OfPage,
+            "ask" => Some(Verb::Event {
+                verb: EventVerb::Machine {
+                    verb: MachineEvent::Ask,
+                },
             }),
-            "read" => Some(Verb::Event {
-                verb: EventVerb::Read,
-            }),
-            _ => None,
-        },
-        5 => match word {
-            "write" => Some(Verb::Event {
-                verb: EventVerb::Write,
-            }),
-            "where" => Some(Verb::Alone {
-                verb: AloneVerb::Stand,
+            "tax" => Some(Verb::Event {
+                verb: EventVerb::SetTax,
             }),
             _ => None,
         },
         6 => match word {
             "advise" => Some(Verb::Place {
                 verb: PlaceVerb::Advise,
+            }),
+            "sample" => Some(Verb::Event {
+                verb: EventVerb::Sample,
+            }),
+            "whatif" => Some(Verb::WhatIf),
+            "shares" => Some(Verb::Event {
+                verb: EventVerb::Place {
+                    verb: PlaceEvent::SetShares,
+                },
             }),
             _ => None,
         },
@@ -132,24 +133,28 @@ fn frequent_verb_of(word: &str) -> Option<Verb>
             }),
             _ => None,
         },
+        8 => match word {
+            "takeback" => Some(Verb::Event {
+                verb: EventVerb::Place {
+                    verb: PlaceEvent::TakeBack,
+                },
+            }),
+            _ => None,
+        },
+        9 => match word {
+            "rebalance" => Some(Verb::Event {
+                verb: EventVerb::Rebalance,
+            }),
+            _ => None,
+        },
         _ => None,
     }
 }
 
-/// The command that begins with a word.
-pub fn verb_of(word: &str) -> Option<Verb>
-    ensures found { IfSome result (λ verb. word.now ≡ verb_word verb) }
-    ensures only { IfNone result ((verb : Verb) → word.now ≡ verb_word verb → ⊥) }
-{
-    match frequent_verb_of(word) {
-        Some(verb) => Some(verb),
-        None => any_verb_of(word),
-    }
-}
-
-/// The same, by every word.
-#[inline(never)]
-fn any_verb_of(word: &str) -> Option<Verb>
+/// The same, for words of four letters.
+#[inline(always)]
+fn verb_of_four(word: &str) -> Option<Verb>
+    requires { length word.now ≡ 4 }
     ensures found { IfSome result (λ verb. word.now ≡ verb_word verb) }
     ensures only { IfNone result ((verb : Verb) → word.now ≡ verb_word verb → ⊥) }
 {
@@ -157,20 +162,8 @@ fn any_verb_of(word: &str) -> Option<Verb>
         "page" => Some(Verb::Place {
             verb: PlaceVerb::OfPage,
         }),
-        "vm" => Some(Verb::OfVm),
-        "sum" => Some(Verb::Alone {
-            verb: AloneVerb::Sum,
-        }),
         "read" => Some(Verb::Event {
             verb: EventVerb::Read,
-        }),
-        "write" => Some(Verb::Event {
-            verb: EventVerb::Write,
-        }),
-        "ask" => Some(Verb::Event {
-            verb: EventVerb::Machine {
-                verb: MachineEvent::Ask,
-            },
         }),
         "scan" => Some(Verb::Event {
             verb: EventVerb::Place {
@@ -182,37 +175,6 @@ fn any_verb_of(word: &str) -> Option<Verb>
                 verb: PlaceEvent::Lend,
             },
         }),
-        "takeback" => Some(Verb::Event {
-            verb: EventVerb::Place {
-                verb: PlaceEvent::TakeBack,
-            },
-        }),
-        "where" => Some(Verb::Alone {
-            verb: AloneVerb::Stand,
-        }),
-        "advise" => Some(Verb::Place {
-            verb: PlaceVerb::Advise,
-        }),
-        "swapout" => Some(Verb::Event {
-            verb: EventVerb::SwapOut,
-        }),
-        "replace" => Some(Verb::Event {
-            verb: EventVerb::Replace,
-        }),
-        "sample" => Some(Verb::Event {
-            verb: EventVerb::Sample,
-        }),
-        "rebalance" => Some(Verb::Event {
-            verb: EventVerb::Rebalance,
-        }),
-        "start" => Some(Verb::Event {
-            verb: EventVerb::Machine {
-                verb: MachineEvent::Start,
-            },
-        }),
-        "admit" => Some(Verb::Event {
-            verb: EventVerb::Admit,
-        }),
         "undo" => Some(Verb::Number {
             verb: NumberVerb::Undo,
         }),
@@ -222,29 +184,8 @@ fn any_verb_of(word: &str) -> Option<Verb>
         "goto" => Some(Verb::Number {
             verb: NumberVerb::Goto,
         }),
-        "visit" => Some(Verb::Name {
-            verb: NameVerb::Visit,
-        }),
         "mark" => Some(Verb::Name {
             verb: NameVerb::Mark,
-        }),
-        "marks" => Some(Verb::Alone {
-            verb: AloneVerb::Marks,
-        }),
-        "prune" => Some(Verb::Number {
-            verb: NumberVerb::Prune,
-        }),
-        "whatif" => Some(Verb::WhatIf),
-        "table" => Some(Verb::Alone {
-            verb: AloneVerb::Table,
-        }),
-        "shares" => Some(Verb::Event {
-            verb: EventVerb::Place {
-                verb: PlaceEvent::SetShares,
-            },
-        }),
-        "tax" => Some(Verb::Event {
-            verb: EventVerb::SetTax,
         }),
         "stop" => Some(Verb::Event {
             verb: EventVerb::Machine {
@@ -260,6 +201,44 @@ fn any_verb_of(word: &str) -> Option<Verb>
             verb: EventVerb::Machine {
                 verb: MachineEvent::Gone,
             },
+        }),
+        _ => None,
+    }
+}
+
+/// The same, for words of five letters.
+#[inline(always)]
+fn verb_of_five(word: &str) -> Option<Verb>
+    requires { length word.now ≡ 5 }
+    ensures found { IfSome result (λ verb. word.now ≡ verb_word verb) }
+    ensures only { IfNone result ((verb : Verb) → word.now ≡ verb_word verb → ⊥) }
+{
+    match word {
+        "write" => Some(Verb::Event {
+            verb: EventVerb::Write,
+        }),
+        "where" => Some(Verb::Alone {
+            verb: AloneVerb::Stand,
+        }),
+        "start" => Some(Verb::Event {
+            verb: EventVerb::Machine {
+                verb: MachineEvent::Start,
+            },
+        }),
+        "admit" => Some(Verb::Event {
+            verb: EventVerb::Admit,
+        }),
+        "visit" => Some(Verb::Name {
+            verb: NameVerb::Visit,
+        }),
+        "marks" => Some(Verb::Alone {
+            verb: AloneVerb::Marks,
+        }),
+        "prune" => Some(Verb::Number {
+            verb: NumberVerb::Prune,
+        }),
+        "table" => Some(Verb::Alone {
+            verb: AloneVerb::Table,
         }),
         _ => None,
     }
