@@ -2,5 +2,6 @@ pub mod FieldLemmas
 mod FrontLemmas
 pub mod HexField
 mod HexTable
+mod LaneLemmas
 pub mod NumberLemmas
 mod OneFieldLemmas

@@ -5,6 +5,7 @@ ghost use Rattle.esx_types.specs.declared.config.TheConstants.{VM_NUMBERS};
 ghost use Rattle.std.specs.Str.Parse.{AllDigits, digits_value};
 ghost use Rattle.esx_reading.specs.Fields.{HasNoSpace, fields, fields_left};
 
+use crate::digits::digits_of_sixteen;
 use esx_types::{VM_NUMBERS, VmId};
 use std::marker::Model;
 
@@ -102,24 +103,6 @@ fn digits_from(bytes: &[u8], start: usize, front: u64) -> Option<(u64, usize)>
     Some((number, bytes.len()))
 }
 
-/// The number that the digits in front of sixteen bytes write, and how many they are.
-#[inline(always)]
-fn digits_of_sixteen(bytes: &[u8; 16]) -> (u64, usize)
-    ensures within { result.1 ≤ 16 }
-    ensures small { result.0 < 2 ^ 64 }
-    ensures digits { AllDigits 10 (take result.1 bytes.now) × (result.0 ≡ digits_value 10 (take result.1 bytes.now)) }
-{
-    let mut value: u64 = 0;
-    for i in 0..16 {
-        let digit = bytes[i];
-        if digit < b'0' || b'9' < digit {
-            return (value, i);
-        }
-        value = value * 10 + u64::from(digit - b'0');
-    }
-    (value, 16)
-}
-
 /// As `digits_from`, from the first byte on.
 #[inline(always)]
 fn digits_in_front(bytes: &[u8]) -> Option<(u64, usize)>
@@ -131,7 +114,7 @@ fn digits_in_front(bytes: &[u8]) -> Option<(u64, usize)>
     digits_from(bytes, 0, 0)
 }
 
-/// As `digits_in_front`, for numbers that mostly have more than sixteen digits: the first sixteen bytes are read as one.
+/// As `digits_in_front`, for numbers that mostly have sixteen digits or more: the first sixteen are read as one.
 #[inline(always)]
 fn many_digits_in_front(bytes: &[u8]) -> Option<(u64, usize)>
     ensures within { IfSome result (λ p. p.1 ≤ length bytes.now) }

@@ -2,6 +2,7 @@
 //! texts are refused.
 #![tactic(auto)]
 
+mod digits;
 mod fault;
 mod fields;
 mod whole;

@@ -1,0 +1,95 @@
+//! Sixteen digits, read as one in the lanes of a vector.
+
+ghost use Rattle.std.specs.Prelude.{◌≡◌, ◌+◌, ◌*◌, ◌%◌, ◌<◌, ◌≤◌, ◌^◌, ℕ, List, length, map, take};
+ghost use Rattle.std.specs.Int.Digits.{number_from_digits};
+ghost use Rattle.std.specs.Simd.Lanes.{Each1, number_l};
+ghost use Rattle.std.specs.Str.Parse.{AllDigits, digits_value};
+
+use std::simd::prelude::*;
+
+/// The value of each byte as a digit, and 10 or more where it is none.
+#[inline(always)]
+fn values(bytes: &[u8; 16]) -> u8x16
+    ensures { result ≡ map (λ b. (b + 208) % 256) bytes.now }
+{
+    u8x16::from_array(*bytes) - u8x16::splat(b'0')
+}
+
+/// How many digits stand in front.
+#[inline(always)]
+fn digits_len(values: u8x16) -> usize
+    ensures within { result ≤ 16 }
+    ensures digits { Each1 (λ d. d < 10) (take result values) }
+{
+    let stops = values.simd_gt(u8x16::splat(9)).to_bitmask();
+    if stops == 0 {
+        return 16;
+    }
+    stops.trailing_zeros() as usize
+}
+
+/// The number that eight digits write, from those of each two.
+#[inline(always)]
+fn eight_digits(pairs: u64) -> u64
+    ensures { (a b c d : ℕ) → a < 100 → b < 100 → c < 100 → d < 100 → pairs ≡ a + 65536 * (b + 65536 * (c + 65536 * d))
+        → result ≡ ((a * 100 + b) * 100 + c) * 100 + d }
+{
+    let fours = pairs.wrapping_mul(6_553_601);
+    (fours >> 16) % 65_536 * 10_000 + (fours >> 48)
+}
+
+/// The number that sixteen digits write.
+#[inline(always)]
+fn number_of_sixteen(digits: u8x16) -> u64
+    requires { Each1 (λ d. d < 10) digits }
+    ensures small { result < 10 ^ 16 }
+    ensures value { result ≡ number_from_digits 10 digits }
+{
+    let pairs = (u16x8::from_le_bytes(digits) * u16x8::splat(2561)) >> 8;
+    let [front, back] = u64x2::from_le_bytes(pairs.to_le_bytes()).to_array();
+    eight_digits(front) * 100_000_000 + eight_digits(back)
+}
+
+/// The number that eight digits write, each a byte of the word, the first the lowest.
+#[inline(always)]
+fn number_of_eight(digits: u64) -> u64
+    ensures { (ds : List ℕ) → length ds ≡ 8 → Each1 (λ d. d < 10) ds → digits ≡ number_l 256 ds
+        → result ≡ number_from_digits 10 ds }
+{
+    let lanes = u16x4::from_le_bytes(u64x1::from_array([digits]).to_le_bytes());
+    let pairs = (lanes * u16x4::splat(2561)) >> 8;
+    let [pairs] = u64x1::from_le_bytes(pairs.to_le_bytes()).to_array();
+    eight_digits(pairs)
+}
+
+/// The number that so many digits in front write. They go to the end of eight, behind zeros.
+#[inline(always)]
+fn number_of_few(values: u8x16, count: usize) -> u64
+    requires some { 0 < count }
+    requires few { count ≤ 8 }
+    requires digits { Each1 (λ d. d < 10) (take count values) }
+    ensures { result ≡ number_from_digits 10 (take count values) }
+{
+    let [front, _] = u64x2::from_le_bytes(values).to_array();
+    number_of_eight(front << (64 - 8 * count))
+}
+
+/// The number that digits in front of sixteen bytes write, and how many they are: all sixteen, or as far as another
+/// byte and eight at most.
+#[inline(always)]
+pub(crate) fn digits_of_sixteen(bytes: &[u8; 16]) -> (u64, usize)
+    ensures within { result.1 ≤ 16 }
+    ensures small { result.0 < 2 ^ 64 }
+    ensures digits { AllDigits 10 (take result.1 bytes.now) × (result.0 ≡ digits_value 10 (take result.1 bytes.now)) }
+{
+    let values = values(bytes);
+    let count = digits_len(values);
+    if count == 0 {
+        return (0, 0);
+    }
+    if count == 16 {
+        return (number_of_sixteen(values), 16);
+    }
+    let few = count.min(8);
+    (number_of_few(values, few), few)
+}
