@@ -5,3 +5,4 @@ mod HexTable
 mod LaneLemmas
 pub mod NumberLemmas
 mod OneFieldLemmas
+mod SpaceLemmas

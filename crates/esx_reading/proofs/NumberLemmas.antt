@@ -6,9 +6,7 @@ use Rattle.std.specs.Char.{digit_value}
 use Rattle.std.proofs.Math.Seq.{take-length}
 use Rattle.std.proofs.lemmas.Str.{digit_value_digit}
 use Rattle.std.proofs.lemmas.Str.Parse.{IsNumeralModel, digit_at, digits_value-take-le}
-use Rattle.std.proofs.lemmas.Int.Digits.{digits_more, digits_value_more, digits_value-lt}
-use Rattle.std.proofs.lemmas.List.{length-take-le}
-use Rattle.std.proofs.Math.Nat.{pow-le-pow_right}
+use Rattle.std.proofs.lemmas.Int.Digits.{digits_more, digits_value_more}
 use Rattle.std.proofs.lemmas.Fmt.{first_decimal, decimal_digit, decimal-digits_value, digits_decimal, digits_value-decimal}
 
 own : IsNumeralModel (AllDigits 10) (digits_value 10)
@@ -66,11 +64,3 @@ pub all_read : (bytes : List ℕ) (i n : ℕ) → i ≡ length bytes → n < 2 ^
 all_read bytes i n past small digits value =
     let whole : take i bytes ≡ bytes = ap (λ k. take k bytes) past ∙ take-length bytes in
     (small, subst (AllDigits 10) whole digits, value ∙ ap (digits_value 10) whole)
-
--- what fewer than sixteen digits write
-pub few_digits : (bytes : List ℕ) (i n : ℕ) → i < 16 → i ≤ length bytes → AllDigits 10 (take i bytes) → n ≡ digits_value 10 (take i bytes) → n < 10 ^ 15
-few_digits bytes i n few within all value =
-    let long = length-take-le i bytes within in
-    let below : digits_value 10 (take i bytes) < 10 ^ length (take i bytes) = digits_value-lt 10 (take i bytes) all in
-    let small : 10 ^ length (take i bytes) ≤ 10 ^ 15 = pow-le-pow_right {n = 10} (omega arith) {i = length (take i bytes)} {j = 15} (omega (arith, long)) in
-    omega (arith, value, below, small)

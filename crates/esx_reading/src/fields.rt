@@ -6,6 +6,7 @@ ghost use Rattle.std.specs.Str.Parse.{AllDigits, digits_value};
 ghost use Rattle.esx_reading.specs.Fields.{HasNoSpace, fields, fields_left};
 
 use crate::digits::digits_of_sixteen;
+use crate::space::first_space;
 use esx_types::{VM_NUMBERS, VmId};
 use std::marker::Model;
 
@@ -41,21 +42,6 @@ pub fn number_of(text: &str) -> Option<u64>
     number_of_digits(bytes)
 }
 
-/// Where the first space stands, or how many bytes there are where none does.
-#[inline(always)]
-fn first_space(bytes: &[u8]) -> usize
-    ensures within { result ≤ length bytes.now }
-    ensures before { HasNoSpace (take result bytes.now) }
-    ensures here { result < length bytes.now → get_or bytes.now result 0 ≡ 32 }
-{
-    for i in 0..bytes.len() {
-        if bytes[i] == b' ' {
-            return i;
-        }
-    }
-    bytes.len()
-}
-
 /// The text before the first space, and the text behind it.
 #[inline(always)]
 fn split_at_space<'a>(text: &'a str) -> Option<(&'a str, &'a str)>
@@ -88,7 +74,8 @@ fn digits_from(bytes: &[u8], start: usize, front: u64) -> Option<(u64, usize)>
     let mut number: u64 = front;
     for i in start..bytes.len() {
         let byte = bytes[i];
-        if byte < b'0' || b'9' < byte {
+        let digit = u64::from(byte).wrapping_sub(48);
+        if digit > 9 {
             return if byte == b' ' {
                 Some((number, i))
             } else {
@@ -98,7 +85,7 @@ fn digits_from(bytes: &[u8], start: usize, front: u64) -> Option<(u64, usize)>
         if number >= FULL {
             return None;
         }
-        number = number * 10 + u64::from(byte - b'0');
+        number = number * 10 + digit;
     }
     Some((number, bytes.len()))
 }
@@ -114,7 +101,8 @@ fn digits_in_front(bytes: &[u8]) -> Option<(u64, usize)>
     digits_from(bytes, 0, 0)
 }
 
-/// As `digits_in_front`, for numbers that mostly have sixteen digits or more: the first sixteen are read as one.
+/// As `digits_in_front`, for numbers that mostly have many digits: where sixteen bytes are left, eight digits or sixteen
+/// are read as one.
 #[inline(always)]
 fn many_digits_in_front(bytes: &[u8]) -> Option<(u64, usize)>
     ensures within { IfSome result (λ p. p.1 ≤ length bytes.now) }
@@ -145,7 +133,8 @@ fn some_digits_in_front(bytes: &[u8], many: bool) -> Option<(u64, usize)>
 }
 
 /// The number that is the first field, and the text behind it. `None` where that is no number, and for the largest
-/// of 64 bits. With `many` most have more than sixteen digits.
+/// of 64 bits. `many` says that many digits are likely; the
+/// result is the same.
 #[inline(always)]
 fn number_in_front<'a>(text: &'a str, many: bool) -> Option<(u64, Option<&'a str>)>
     ensures small { IfSome result (λ p. p.0 < 2 ^ 64) }

@@ -5,6 +5,7 @@
 mod digits;
 mod fault;
 mod fields;
+mod space;
 mod whole;
 mod written;
 
