@@ -6,3 +6,4 @@ mod Lines
 mod Refusing
 mod Branches
 mod Unlogging
+mod Twice

@@ -9,7 +9,7 @@ use Rattle.esx_events.specs.declared.call.Line.{Line}
 use Rattle.esx_model.specs.History.{History, opened}
 use Rattle.esx_model.specs.Console.{Session, history, history_from, after, outcome, reply_to, next_reply, lined, AreReplies, IsLegal}
 use Rattle.esx_journal.specs.Journal.{Kept, Holds}
-use Rattle.esx_console.specs.declared.hearing.Heard.{Heard}
+use Rattle.esx_console.specs.declared.hearing.twice.Heard.{Heard}
 use Rattle.esx_console.specs.Hearing.{Hears}
 use Rattle.esx_console.specs.Console.{IsConsole}
 

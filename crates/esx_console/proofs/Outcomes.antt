@@ -13,8 +13,8 @@ use Rattle.esx_model.specs.History.{History, cursor, do_event, undo, redo}
 use Rattle.esx_model.specs.Branching.{goto, visit, mark, prune}
 use Rattle.esx_model.specs.Console.{Outcome, outcome, event_outcome, move_outcome, goto_outcome, mark_outcome, prune_outcome, stand_of}
 use Rattle.esx_journal.specs.Journal.{Kept, Holds, Moves, Goes, Prunes, Accepted, Refused, Marked, Unmarked, stand_at}
-use Rattle.esx_console.specs.declared.hearing.Heard.{Heard}
-use Rattle.esx_console.specs.Hearing.{Hears, twice, move_said, prune_said}
+use Rattle.esx_console.specs.declared.hearing.Told.{Told}
+use Rattle.esx_console.specs.Hearing.{Hears, IsShort, once, twice, both, move_said, prune_said}
 use Rattle.esx_console.proofs.Keeps.{Keeps, undo_keeps, redo_keeps, goto_keeps, visit_keeps, mark_keeps, prune_keeps, event_keeps}
 
 -- what is said beside a history
@@ -36,10 +36,29 @@ stays h = omega arith
 pub asked : (new : Kept) (h : History) (call : Call) (s : Said) → outcome h call ≡ beside h s → Holds new h → Hears new h call (twice s false)
 asked new h call s is holds = hears new h h call s false is holds (stays h)
 
-pub asks : {E : Type 0} (new : Kept) (call : Call) (s : Said) → ((h : History) → Holds new h → outcome h call ≡ beside h s) → (r : Result Heard E) → IfOk r (λ x. x ≡ twice s false)
-    → IfOk r (λ x. (h : History) → Holds new h → Hears new h call x)
-asks new call s is (Ok x) e = λ h holds. (let P : Heard → Type 0 = Hears new h call in subst P (sym e) (asked new h call s (is h holds) holds))
+pub tells : (new : Kept) (call : Call) (s : Said) → ((h : History) → Holds new h → outcome h call ≡ beside h s) → (x : Told) → x ≡ once s false
+    → (h : History) → Holds new h → Hears new h call (both x)
+tells new call s is x e h holds = (let P : Told → Type 0 = λ t. Hears new h call (both t) in subst P (sym e) (asked new h call s (is h holds) holds))
+
+pub asks : {E : Type 0} (new : Kept) (call : Call) (s : Said) → ((h : History) → Holds new h → outcome h call ≡ beside h s) → (r : Result Told E) → IfOk r (λ x. x ≡ once s false)
+    → IfOk r (λ x. (h : History) → Holds new h → Hears new h call (both x))
+asks new call s is (Ok x) e = tells new call s is x e
 asks new call s is (Err x) e = tt
+
+-- what is told once, of a call of which the same is said twice
+pub told : (new : Kept) (h : History) (call : Call) (s : Said) (jumped : Bool) (x : Told) → x ≡ once s jumped → Hears new h call (twice s jumped) → Hears new h call (both x)
+told new h call s jumped x e is = (let P : Told → Type 0 = λ t. Hears new h call (both t) in subst P (sym e) is)
+
+pub short_move : (r : Result Stand Refusal) → IsShort (move_said r)
+short_move (Ok stand) = tt
+short_move (Err e) = tt
+
+pub short_prune : (r : Result ℕ Refusal) → IsShort (prune_said r)
+short_prune (Ok count) = tt
+short_prune (Err e) = tt
+
+pub short_told : (s : Said) (jumped : Bool) (x : Told) → x ≡ once s jumped → IsShort s → IsShort x.said
+short_told s jumped x e is = (let P : Told → Type 0 = λ t. IsShort t.said in subst P (sym e) is)
 
 -- A refusal: the journal stays as it is.
 

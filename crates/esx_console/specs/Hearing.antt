@@ -10,7 +10,8 @@ use Rattle.esx_model.specs.Readings.{activity}
 use Rattle.esx_model.specs.History.{History, book_at, do_event}
 use Rattle.esx_model.specs.Console.{outcome, after}
 use Rattle.esx_journal.specs.Journal.{Kept, Holds}
-use Rattle.esx_console.specs.declared.hearing.Heard.{Heard}
+use Rattle.esx_console.specs.declared.hearing.Told.{Told}
+use Rattle.esx_console.specs.declared.hearing.twice.Heard.{Heard}
 
 -- what a journal is left with by a call, and what is said to it, twice
 pub record Hears (new : Kept) (h : History) (call : Call) (heard : Heard) : Type 0 where
@@ -55,9 +56,49 @@ ComesToMemory h (calls.Advise n page) = Unit {0}
 ComesToMemory h calls.Stand = Unit {0}
 ComesToMemory h calls.Marks = Unit {0}
 
+-- a move of the cursor or a prune
+abbrev pub MovesOrPrunes : Call → Type 0
+MovesOrPrunes (calls.Do e) = ⊥
+MovesOrPrunes (calls.Undo k) = Unit {0}
+MovesOrPrunes (calls.Redo k) = Unit {0}
+MovesOrPrunes (calls.Goto n) = Unit {0}
+MovesOrPrunes (calls.Visit name) = Unit {0}
+MovesOrPrunes (calls.Mark name) = ⊥
+MovesOrPrunes (calls.Prune n) = Unit {0}
+MovesOrPrunes (calls.WhatIf events) = ⊥
+MovesOrPrunes calls.Sum = ⊥
+MovesOrPrunes calls.Table = ⊥
+MovesOrPrunes (calls.OfVm n) = ⊥
+MovesOrPrunes (calls.OfPage n page) = ⊥
+MovesOrPrunes (calls.Advise n page) = ⊥
+MovesOrPrunes calls.Stand = ⊥
+MovesOrPrunes calls.Marks = ⊥
+
+-- what is said to one, which is copied with no memory
+abbrev pub IsShort : Said → Type 0
+IsShort (said.Done answer) = ⊥
+IsShort (said.Refused refusal) = Unit {0}
+IsShort (said.Stand stand) = Unit {0}
+IsShort (said.Marked name n) = ⊥
+IsShort (said.Pruned count) = Unit {0}
+IsShort (said.Sides sides) = ⊥
+IsShort (said.Sum sum) = ⊥
+IsShort (said.Table rows sum) = ⊥
+IsShort (said.Activity activity) = ⊥
+IsShort (said.Page state) = ⊥
+IsShort (said.Help help) = ⊥
+IsShort (said.Marks marks) = ⊥
+
+-- what is said, and whether the cursor jumped
+abbrev pub once : Said → Bool → Told
+once s jumped = record { said = s; jumped = jumped }
+
 -- the same for the caller and for the log
 abbrev pub twice : Said → Bool → Heard
 twice s jumped = record { said = s; copy = s; jumped = jumped }
+
+abbrev pub both : Told → Heard
+both told = twice told.said told.jumped
 
 -- to a move
 abbrev pub move_said : Result Stand Refusal → Said

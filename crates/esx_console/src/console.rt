@@ -8,7 +8,10 @@ ghost use Rattle.esx_model.specs.Console.{history, next_reply, lined, IsLegal};
 ghost use Rattle.esx_machine.specs.Machine.{Shows, book_in};
 ghost use Rattle.esx_console.specs.Console.{session_gauge};
 
-use crate::hearing::{counted, hear};
+mod keeping;
+
+use crate::hearing::counted;
+use crate::hearing::twice::hear_twice;
 use esx_events::{Call, Line, Refusal, Reply};
 use esx_journal::Journal;
 use esx_machine::Machine;
@@ -64,7 +67,7 @@ impl Console {
     {
         self.log.reserve(1)?;
         let alloc = *self.log.allocator();
-        let heard = hear(&mut self.journal, alloc, &call)?;
+        let heard = hear_twice(&mut self.journal, alloc, &call)?;
         let jumps = counted(self.jumps, heard.jumped);
         self.jumps = jumps;
         self.log.push_reserved(Line {

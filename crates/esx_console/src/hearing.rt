@@ -4,13 +4,15 @@ ghost use Rattle.std.specs.Prelude.{◌≡◌, ◌+◌, ◌<◌, ◌^◌, if◌t
 ghost use Rattle.esx_model.specs.History.{History};
 ghost use Rattle.esx_events.specs.declared.call.Said.TheVariants as said;
 ghost use Rattle.esx_journal.specs.Journal.{Holds};
-ghost use Rattle.esx_console.specs.Hearing.{Hears, MayLackMemory, ComesToMemory, twice};
+ghost use Rattle.esx_console.specs.Calls.{OnlyAsks};
+ghost use Rattle.esx_console.specs.Hearing.{Hears, MayLackMemory, ComesToMemory, MovesOrPrunes, IsShort, once, both};
 
 mod events;
 mod marks;
 mod moves;
 mod questions;
 mod trials;
+pub mod twice;
 
 use crate::hearing::events::hear_event;
 use crate::hearing::marks::{hear_mark, hear_marks, hear_prune};
@@ -23,38 +25,37 @@ use esx_events::{Call, Refusal, Said};
 use esx_journal::Journal;
 use std::alloc::{AllocError, Global};
 
-/// What is said to a call, once for the caller and once for the log, and whether the cursor jumped.
+/// What is told of a call: what is said to it, and whether the cursor jumped.
 #[derive(Drop)]
-pub struct Heard {
+pub struct Told {
     pub said: Said,
-    pub copy: Said,
     pub jumped: bool,
 }
 
-fn refused(refusal: Refusal) -> Heard
-    ensures { result ≡ twice (said.Refused refusal) false }
+fn refused(refusal: Refusal) -> Told
+    ensures { result ≡ once (said.Refused refusal) false }
 {
-    Heard {
+    Told {
         said: Said::Refused { refusal },
-        copy: Said::Refused { refusal },
         jumped: false,
     }
 }
 
-/// What is said to a question whose answer stands on the heap.
-fn told(said: Said) -> Result<Heard, AllocError>
-    ensures { IfOk result (λ heard. heard ≡ twice said false) }
+/// What is said to a question that is answered.
+fn answered(said: Said) -> Told
+    ensures { result ≡ once said false }
 {
-    Ok(Heard {
-        copy: said.copy()?,
+    Told {
         said,
         jumped: false,
-    })
+    }
 }
 
 /// Makes a call. Where memory runs out the journal is as it was.
-pub fn hear(journal: &mut Journal, alloc: Global, call: &Call) -> Result<Heard, AllocError>
-    ensures ok { IfOk result (λ heard. (h : History) → Holds journal.old h → Hears journal.new h call.now heard) }
+pub fn hear(journal: &mut Journal, alloc: Global, call: &Call) -> Result<Told, AllocError>
+    ensures ok { IfOk result (λ told. (h : History) → Holds journal.old h → Hears journal.new h call.now (both told)) }
+    ensures asked { OnlyAsks call.now → journal.new ≡ journal.old }
+    ensures short { MovesOrPrunes call.now → IfOk result (λ told. IsShort told.said) }
     ensures err { (h : History) → Holds journal.old h → OnErr result (journal.new ≡ journal.old) }
     ensures room { OnErr result (MayLackMemory call.now) }
     ensures there { (h : History) → Holds journal.old h → OnErr result (ComesToMemory h call.now) }

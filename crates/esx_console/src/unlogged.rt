@@ -53,7 +53,7 @@ impl Unlogged {
     }
 
     /// Makes a call. The reply is that of the console whose session it answers as, and so is all that comes
-    /// after it, whoever called. Where memory runs out nothing changes.
+    /// after it, whoever called. Where memory runs out nothing changes. No copy is made of what is said.
     pub fn call(&mut self, call: &Call) -> Result<Reply, AllocError>
         requires { self.old.jumps < 2 ^ 63 }
         ensures ok { IfOk result (λ reply. (s : Session) → AnswersAs self.old s → reply ≡ next_reply s call.now) }
@@ -63,12 +63,12 @@ impl Unlogged {
         ensures room { OnErr result (MayLackMemory call.now) }
         ensures there { (s : Session) → AnswersAs self.old s → OnErr result (ComesToMemory (history s) call.now) }
     {
-        let heard = hear(&mut self.journal, self.alloc, call)?;
-        let jumps = counted(self.jumps, heard.jumped);
+        let told = hear(&mut self.journal, self.alloc, call)?;
+        let jumps = counted(self.jumps, told.jumped);
         self.jumps = jumps;
         Ok(Reply {
             jumps,
-            said: heard.said,
+            said: told.said,
         })
     }
 }

@@ -173,3 +173,8 @@ pub record Refused (old new : Kept) (e : Refusal) (d : Result (Answer × History
 abbrev pub Does : Result (Answer × Answer) Refusal → Kept → Kept → Result (Answer × History) Refusal → Type 0
 Does (Ok answers) old new d = Accepted new answers d
 Does (Err e) old new d = Refused old new e d
+
+-- the same of an event whose answer is told once
+abbrev pub DoesOnce : Result Answer Refusal → Kept → Kept → Result (Answer × History) Refusal → Type 0
+DoesOnce (Ok answer) old new d = Accepted new (answer, answer) d
+DoesOnce (Err e) old new d = Refused old new e d

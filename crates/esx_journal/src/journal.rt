@@ -11,6 +11,8 @@ ghost use Rattle.esx_machine.specs.Machine.{Shows, book_in};
 ghost use Rattle.esx_journal.specs.Journal.{Aims, Holds, Moves, Goes, Names, Prunes, Does, stand_at, kept_at};
 ghost use Rattle.esx_journal.specs.Ways.{Climbed};
 
+mod once;
+
 use crate::marks::Marks;
 use crate::row::{Row, add_child, child_of, drop_below, flip_row, revert, take_room};
 use crate::trial::try_events;

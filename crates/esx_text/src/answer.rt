@@ -38,7 +38,7 @@ fn call_of_line(alloc: Global, line: &[u8]) -> Result<Option<Call>, AllocError>
     }
 }
 
-/// Makes a call and writes its reply. Between the two no memory is taken.
+/// Makes a call and writes its reply from the log. Between the two no memory is taken.
 fn answer_call<W: Sink>(
     console: &mut Console,
     caller: u16,
@@ -54,10 +54,11 @@ fn answer_call<W: Sink>(
     ensures flushes { W.flushes writer.new ≡ W.flushes writer.old }
     ensures reads { IsErrOf result ServeFault.Read → ⊥ }
 {
-    let Ok(reply) = console.call(caller, call) else {
+    let Ok(()) = console.call_kept(caller, call) else {
         return Err(ServeFault::OutOfMemory);
     };
-    match write_reply(writer, held, &reply) {
+    let reply = console.last_reply().unwrap();
+    match write_reply(writer, held, reply) {
         Ok(()) => Ok(()),
         Err(_) => Err(ServeFault::Write),
     }

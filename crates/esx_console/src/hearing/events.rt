@@ -4,22 +4,21 @@ ghost use Rattle.std.specs.Prelude.{◌≡◌, IfOk, IsOk, OnErr};
 ghost use Rattle.esx_model.specs.History.{History, do_event};
 ghost use Rattle.esx_events.specs.declared.call.Call.TheVariants as calls;
 ghost use Rattle.esx_journal.specs.Journal.{Holds};
-ghost use Rattle.esx_console.specs.Hearing.{Hears};
+ghost use Rattle.esx_console.specs.Hearing.{Hears, both};
 
-use crate::hearing::{Heard, refused};
+use crate::hearing::{Told, refused};
 use esx_events::{Event, Refusal, Said};
 use esx_journal::Journal;
 use std::alloc::AllocError;
 
-pub fn hear_event(journal: &mut Journal, event: &Event) -> Result<Heard, AllocError>
-    ensures ok { IfOk result (λ heard. (h : History) → Holds journal.old h → Hears journal.new h (calls.Do event.now) heard) }
+pub fn hear_event(journal: &mut Journal, event: &Event) -> Result<Told, AllocError>
+    ensures ok { IfOk result (λ told. (h : History) → Holds journal.old h → Hears journal.new h (calls.Do event.now) (both told)) }
     ensures err { (h : History) → Holds journal.old h → OnErr result (journal.new ≡ journal.old) }
     ensures late { (h : History) → Holds journal.old h → OnErr result (IsOk (do_event event.now h)) }
 {
-    match journal.apply(event) {
-        Ok((answer, copy)) => Ok(Heard {
+    match journal.apply_once(event) {
+        Ok(answer) => Ok(Told {
             said: Said::Done { answer },
-            copy: Said::Done { answer: copy },
             jumped: false,
         }),
         Err(refusal) => match refusal {

@@ -7,102 +7,83 @@ ghost use Rattle.esx_model.specs.Readings.{activity};
 ghost use Rattle.esx_model.specs.Console.{page_said, activity_said, help_said};
 ghost use Rattle.esx_events.specs.declared.call.Call.TheVariants as calls;
 ghost use Rattle.esx_journal.specs.Journal.{Holds};
-ghost use Rattle.esx_console.specs.Hearing.{Hears, twice};
+ghost use Rattle.esx_console.specs.Hearing.{Hears, once, both};
 
-use crate::hearing::{Heard, refused, told};
+use crate::hearing::{Told, answered, refused};
 use esx_events::{Activity, Boxed, Help, PageState, Refusal, Said};
 use esx_journal::Journal;
 use esx_types::VmId;
 use std::alloc::{AllocError, Global};
 
-fn page_heard(found: Result<PageState, Refusal>) -> Heard
-    ensures { result ≡ twice (page_said found) false }
+fn page_heard(found: Result<PageState, Refusal>) -> Told
+    ensures { result ≡ once (page_said found) false }
 {
     match found {
-        Ok(state) => Heard {
-            said: Said::Page { state },
-            copy: Said::Page { state },
-            jumped: false,
-        },
+        Ok(state) => answered(Said::Page { state }),
         Err(refusal) => refused(refusal),
     }
 }
 
-fn activity_heard(alloc: Global, found: Result<Activity, Refusal>) -> Result<Heard, AllocError>
-    ensures value { IfOk result (λ heard. heard ≡ twice (activity_said found) false) }
+fn activity_heard(alloc: Global, found: Result<Activity, Refusal>) -> Result<Told, AllocError>
+    ensures value { IfOk result (λ told. told ≡ once (activity_said found) false) }
     ensures there { OnErr result (IsOk found) }
 {
     match found {
-        Ok(activity) => told(Said::Activity {
+        Ok(activity) => Ok(answered(Said::Activity {
             activity: Boxed::new(alloc, activity)?,
-        }),
+        })),
         Err(refusal) => Ok(refused(refusal)),
     }
 }
 
-fn help_heard(found: Result<Help, Refusal>) -> Heard
-    ensures { result ≡ twice (help_said found) false }
+fn help_heard(found: Result<Help, Refusal>) -> Told
+    ensures { result ≡ once (help_said found) false }
 {
     match found {
-        Ok(help) => {
-            let copy = help;
-            Heard {
-                said: Said::Help { help },
-                copy: Said::Help { help: copy },
-                jumped: false,
-            }
-        }
+        Ok(help) => answered(Said::Help { help }),
         Err(refusal) => refused(refusal),
     }
 }
 
-pub fn hear_sum(journal: &Journal) -> Heard
-    ensures { (h : History) → Holds journal.now h → Hears journal.now h calls.Sum result }
+pub fn hear_sum(journal: &Journal) -> Told
+    ensures { (h : History) → Holds journal.now h → Hears journal.now h calls.Sum (both result) }
 {
     let sum = journal.machine().sum();
-    Heard {
-        said: Said::Sum { sum },
-        copy: Said::Sum { sum },
-        jumped: false,
-    }
+    answered(Said::Sum { sum })
 }
 
-pub fn hear_table(journal: &Journal, alloc: Global) -> Result<Heard, AllocError>
-    ensures { IfOk result (λ heard. (h : History) → Holds journal.now h → Hears journal.now h calls.Table heard) }
+pub fn hear_table(journal: &Journal, alloc: Global) -> Result<Told, AllocError>
+    ensures { IfOk result (λ told. (h : History) → Holds journal.now h → Hears journal.now h calls.Table (both told)) }
 {
     let machine = journal.machine();
     let rows = Boxed::new(alloc, machine.table()?)?;
     let sum = Boxed::new(alloc, machine.sum())?;
-    told(Said::Table { rows, sum })
+    Ok(answered(Said::Table { rows, sum }))
 }
 
 /// Memory is wanting only where the virtual machine is there.
-pub fn hear_vm(journal: &Journal, alloc: Global, vm: VmId) -> Result<Heard, AllocError>
-    ensures ok { IfOk result (λ heard. (h : History) → Holds journal.now h → Hears journal.now h (calls.OfVm vm) heard) }
+pub fn hear_vm(journal: &Journal, alloc: Global, vm: VmId) -> Result<Told, AllocError>
+    ensures ok { IfOk result (λ told. (h : History) → Holds journal.now h → Hears journal.now h (calls.OfVm vm) (both told)) }
     ensures there { (h : History) → Holds journal.now h → OnErr result (IsOk (activity (book_at h) vm)) }
 {
     activity_heard(alloc, journal.machine().of_vm(vm))
 }
 
-pub fn hear_page(journal: &Journal, vm: VmId, page: u32) -> Heard
-    ensures { (h : History) → Holds journal.now h → Hears journal.now h (calls.OfPage vm page) result }
+pub fn hear_page(journal: &Journal, vm: VmId, page: u32) -> Told
+    ensures { (h : History) → Holds journal.now h → Hears journal.now h (calls.OfPage vm page) (both result) }
 {
     page_heard(journal.machine().of_page(vm, page))
 }
 
-pub fn hear_advise(journal: &Journal, vm: VmId, page: u32) -> Heard
-    ensures { (h : History) → Holds journal.now h → Hears journal.now h (calls.Advise vm page) result }
+pub fn hear_advise(journal: &Journal, vm: VmId, page: u32) -> Told
+    ensures { (h : History) → Holds journal.now h → Hears journal.now h (calls.Advise vm page) (both result) }
 {
     help_heard(journal.machine().advise(vm, page))
 }
 
-pub fn hear_stand(journal: &Journal) -> Heard
-    ensures { (h : History) → Holds journal.now h → Hears journal.now h calls.Stand result }
+pub fn hear_stand(journal: &Journal) -> Told
+    ensures { (h : History) → Holds journal.now h → Hears journal.now h calls.Stand (both result) }
 {
     let stand = journal.stand();
-    Heard {
-        said: Said::Stand { stand },
-        copy: Said::Stand { stand },
-        jumped: false,
-    }
+    answered(Said::Stand { stand })
 }

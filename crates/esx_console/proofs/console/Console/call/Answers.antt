@@ -12,8 +12,8 @@ invariant_of-self-2 c =
     let hears = c.in_ok-heard.ensures.ok (history s) c.self.invariant.journal_holds in
     let lines = kept_lines s _ _ _ c.args.caller c.args.call heard c.counted-jumps.result _ _ c.self.invariant hears c.counted-jumps.ensures
     c.in_ok-reserve.ensures.items c.push_reserved.ensures.items in
-    let P : Session → Type 0 = λ t. IsConsole t c.hear.new.journal c.counted-jumps.result in
-    let Q : ℕ → Type 0 = λ n. IsConsole (lined s c.args.caller c.args.call) c.hear.new.journal n in
+    let P : Session → Type 0 = λ t. IsConsole t c.hear_twice.new.journal c.counted-jumps.result in
+    let Q : ℕ → Type 0 = λ n. IsConsole (lined s c.args.caller c.args.call) c.hear_twice.new.journal n in
     subst P (sym lines) (subst Q (sym c.counted-jumps.ensures) (keeps_line s _ _ _ c.args.caller c.args.call heard c.self.invariant hears))
 
 pub returns-clause-ok : goal.returns-clause-ok

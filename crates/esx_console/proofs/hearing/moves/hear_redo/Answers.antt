@@ -1,11 +1,7 @@
-use Rattle.std.proofs.Common.{sym, subst}
 use Rattle.esx_events.specs.declared.call.Call.TheVariants as calls
-use Rattle.esx_console.specs.declared.hearing.Heard.{Heard}
-use Rattle.esx_console.specs.Hearing.{Hears}
-use Rattle.esx_console.proofs.Outcomes.{hears_redo}
+use Rattle.esx_console.proofs.Outcomes.{hears_redo, told}
 use Rattle.esx_console.proofs.hearing.moves.hear_redo.Goals as goal
 
-pub returns : goal.returns
-returns c = λ h holds.
-    let P : Heard → Type 0 = Hears c.redo.new.self h (calls.Redo c.args.count) in
-    subst P (sym c.moved.ensures) (hears_redo _ _ h c.args.count c.redo.result holds (c.redo.ensures h holds))
+pub returns-clause-hears : goal.returns-clause-hears
+returns-clause-hears c = λ h holds.
+    told _ h (calls.Redo c.args.count) _ _ _ c.moved.ensures.value (hears_redo _ _ h c.args.count c.redo.result holds (c.redo.ensures h holds))

@@ -3,10 +3,10 @@ use Rattle.esx_events.specs.declared.call.Call.TheVariants as calls
 use Rattle.esx_events.specs.declared.call.Said.TheVariants as said
 use Rattle.esx_model.specs.Readings.{sum_of}
 use Rattle.esx_model.specs.Console.{outcome}
-use Rattle.esx_console.proofs.Outcomes.{beside, asked}
+use Rattle.esx_console.proofs.Outcomes.{beside, tells}
 use Rattle.esx_console.proofs.hearing.questions.hear_sum.Goals as goal
 
 pub returns : goal.returns
 unfolding outcome
-returns c = λ h holds.
-    asked _ h calls.Sum (said.Sum c.sum-sum.result) (ap (beside h) (sym (ap said.Sum (c.sum-sum.ensures.value ∙ ap sum_of (c.machine.ensures.book h holds))))) holds
+returns c = tells _ calls.Sum (said.Sum c.sum-sum.result)
+    (λ h holds. ap (beside h) (sym (ap said.Sum (c.sum-sum.ensures.value ∙ ap sum_of (c.machine.ensures.book h holds))))) c.answered.result c.answered.ensures

@@ -1,0 +1,69 @@
+//! Calls whose replies are read where they stand in the log.
+
+ghost use Rattle.std.specs.Prelude.{◌≡◌, ◌++◌, ◌∷◌, [], ℕ, List, Some, None, IfOk, OnOk, OnErr};
+ghost use Rattle.std.specs.Option.{option_copied};
+ghost use Rattle.esx_events.specs.declared.call.Call.{Call};
+ghost use Rattle.esx_events.specs.declared.call.Line.{Line};
+ghost use Rattle.esx_model.specs.Console.{Session, next_reply, lined, IsLegal};
+ghost use Rattle.esx_model.specs.History.{History};
+ghost use Rattle.esx_journal.specs.Journal.{Holds};
+ghost use Rattle.esx_console.specs.Hearing.{Hears, both};
+
+use crate::console::Console;
+use crate::hearing::twice::hear_twice;
+use crate::hearing::{Told, counted, hear};
+use esx_events::{Call, Line, Reply};
+use esx_journal::Journal;
+use std::alloc::{AllocError, Global};
+
+/// What is told of a call in no more room than it needs: of a list that grew as it was made, the copy is kept.
+fn hear_to_keep(journal: &mut Journal, alloc: Global, call: &Call) -> Result<Told, AllocError>
+    ensures ok { IfOk result (λ told. (h : History) → Holds journal.old h → Hears journal.new h call.now (both told)) }
+    ensures err { (h : History) → Holds journal.old h → OnErr result (journal.new ≡ journal.old) }
+{
+    match call {
+        Call::Table | Call::WhatIf { .. } => {
+            let heard = hear_twice(journal, alloc, call)?;
+            Ok(Told {
+                said: heard.copy,
+                jumped: heard.jumped,
+            })
+        }
+        _ => hear(journal, alloc, call),
+    }
+}
+
+impl Console {
+    /// Makes a call and logs it with its reply, as `call` does, and leaves the reply in the log alone, where
+    /// `last_reply` reads it: no copy is made. Where memory runs out nothing changes, and there is no line.
+    pub fn call_kept(&mut self, caller: u16, call: Call) -> Result<(), AllocError>
+        ensures ok { OnOk result (self.new ≡ lined self.old caller call) }
+        ensures err { OnErr result (self.new ≡ self.old) }
+        ensures legal { IsLegal self.new }
+    {
+        self.log.reserve(1)?;
+        let alloc = *self.log.allocator();
+        let told = hear_to_keep(&mut self.journal, alloc, &call)?;
+        let jumps = counted(self.jumps, told.jumped);
+        self.jumps = jumps;
+        self.log.push_reserved(Line {
+            caller,
+            call,
+            reply: Reply {
+                jumps,
+                said: told.said,
+            },
+        });
+        Ok(())
+    }
+
+    /// The reply in the last line of the log, if there is one: after a call it is what was answered to it.
+    pub fn last_reply(&self) -> Option<&Reply>
+        ensures none { self.now.log ≡ [] → option_copied result ≡ None }
+        ensures last { (before : List Line) (line : Line) → self.now.log ≡ before ++ line ∷ [] → option_copied result ≡ Some line.reply }
+        ensures told { (before : Session) (caller : ℕ) (call : Call) → self.now ≡ lined before caller call → option_copied result ≡ Some (next_reply before call) }
+    {
+        let line = self.log.last()?;
+        Some(&line.reply)
+    }
+}
