@@ -1,5 +1,5 @@
 -- The kept keys stay right: where a frame's key is forgotten, where a row keeps its bytes, and where a key is learnt.
-use Rattle.std.proofs.Common.{◌≡◌, ℕ, ◌<◌, List, [], length, set, refl, sym, ap, ◌∙◌, inl, inr, get_or-set_same, slice_index}
+use Rattle.std.proofs.Common.{◌≡◌, ◌≢◌, ℕ, ◌<◌, List, [], length, set, refl, sym, ap, ◌∙◌, inl, inr, get_or-set_same, slice_index}
 use Rattle.std.proofs.lemmas.Bool.{cases_lt, cases_eq}
 use Rattle.std.proofs.lemmas.List.{get_or-set_other, get_or_past, length-set}
 use Rattle.esx_types.specs.declared.table.FrameRow.{FrameRow}
@@ -60,3 +60,18 @@ knows_learnt rows old room i key k same h is = record {
 -- room that is made changes no word
 pub knows_as_before : (rows : List FrameRow) (old room : List ℕ) → KnowsKeys rows old → ((frame : ℕ) → slice_index room frame ≡ slice_index old frame) → KnowsKeys rows room
 knows_as_before rows old room k same = record { right = λ frame some. same frame ∙ k.right frame (λ none. some (same frame ∙ none)) }
+
+-- past the last word none is kept
+kept_is : (words : List ℕ) (i key : ℕ) → slice_index (set words i key) i ≢ 0 → slice_index (set words i key) i ≡ key
+kept_is words i key some = elim (cases_lt i (length words)) [
+  | inl h ↦ get_or-set_same words i key 0 h
+  | inr past ↦ absurd (some (get_or_past (set words i key) i 0 (rw length-set past)))
+]
+
+pub knows_kept : (rows : List FrameRow) (words : List ℕ) (i key : ℕ) → KnowsKeys rows words → key ≡ content_key (bytes_of (frame_at rows i)) → KnowsKeys rows (set words i key)
+knows_kept rows words i key k is = record {
+  right = λ frame some. elim (cases_eq frame i) [
+    | inl e ↦ ap (slice_index (set words i key)) e ∙ kept_is words i key (λ none. some (ap (slice_index (set words i key)) e ∙ none)) ∙ is ∙ ap (λ (f : ℕ). content_key (bytes_of (frame_at rows f))) (sym e)
+    | inr other ↦ rw (get_or-set_other words i frame key 0 other) (k.right frame (rw (get_or-set_other words i frame key 0 other) at some))
+  ];
+}

@@ -1,3 +1,4 @@
 pub mod RowLemmas
 pub mod KnownLemmas
 pub mod Callers
+pub mod PageLemmas

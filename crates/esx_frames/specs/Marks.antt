@@ -1,5 +1,5 @@
 -- What a trade inside a frame leaves of both. Where there is nothing to trade, nothing changes.
-use Rattle.std.specs.Prelude.{ℕ, List, length, nat_lt, if◌then◌else◌}
+use Rattle.std.specs.Prelude.{ℕ, Bool, true, false, List, length, nat_lt, slice_index_or, if◌then◌else◌}
 use Rattle.esx_types.specs.declared.table.FrameRow.{FrameRow}
 use Rattle.esx_types.specs.declared.table.FrameRow.TheVariants.{Free, Overhead, Private, Shared}
 use Rattle.esx_types.specs.declared.table.SlotRow.{SlotRow}
@@ -45,3 +45,13 @@ mark_traded_at f rows mark = place_traded mark_traded rows f Free mark
 
 abbrev pub slot_traded_at : ℕ → List FrameRow → SlotRow → List FrameRow × SlotRow
 slot_traded_at f rows slot = if nat_lt f (length rows) then place_traded slot_traded rows f Free slot else (rows, slot)
+
+-- whether a trade with a slot moves pages: a page of a shared frame stays, and so does an overhead frame
+abbrev pub moves : FrameRow → Bool
+moves Free = true
+moves Overhead = false
+moves (Private bytes) = true
+moves (Shared count bytes) = false
+
+abbrev pub moves_at : ℕ → List FrameRow → Bool
+moves_at f rows = if nat_lt f (length rows) then moves (slice_index_or rows f Free) else false

@@ -4,13 +4,14 @@ ghost use Rattle.std.specs.Prelude.{◌≡◌, ◌≢◌, ◌+◌, ◌^◌, ◌<
 ghost use Rattle.esx_types.specs.declared.table.FrameRow.{FrameRow};
 ghost use Rattle.esx_types.specs.declared.table.FrameRow.TheVariants.{Free};
 ghost use Rattle.esx_types.specs.Frames.{frame_at, least_frame, bytes_of, holds_bytes, ref_count, with_count};
+ghost use Rattle.esx_types.specs.Slots.{held_bytes};
 ghost use Rattle.esx_formulas.specs.Key.{content_key};
 ghost use Rattle.esx_frames.specs.Counts.{counts_of};
-ghost use Rattle.esx_frames.specs.Marks.{bytes_traded_at, mark_traded_at, slot_traded_at};
+ghost use Rattle.esx_frames.specs.Marks.{bytes_traded_at, mark_traded_at, moves_at, slot_traded_at};
 
 use crate::counts::Counts;
 use crate::known::KnownKeys;
-use crate::marks::{Mark, trade_bytes, trade_mark, trade_slot};
+use crate::marks::{Mark, moves, trade_bytes, trade_mark, trade_slot};
 use crate::seen::{Seen, bytes_of};
 use esx_index::FreeIndex;
 use esx_types::{Bytes, FrameRow, SlotRow};
@@ -19,8 +20,8 @@ use std::marker::Model;
 
 /// The machine's frames, seen as the list of their rows; a frame's number is its place.
 ///
-/// No call after `new` takes memory but `learn_key`, which goes on without it. Each other call looks at a few words
-/// whatever the number of frames.
+/// No call after `new` takes memory but `learn_key`, which goes on without it. It and `found_key` go over the bytes of a
+/// page or two; each other call looks at a few words whatever the number of frames.
 #[derive(Drop)]
 pub struct FrameTable {
     rows: Vec<FrameRow>,
@@ -238,6 +239,51 @@ impl FrameTable {
         }
     }
 
+    /// The same, and the keys go along with their pages: `key` is that of the page of the slot, where it is kept, and what
+    /// comes back is that of the page that is in the slot then.
+    pub fn trade_slot_and_key(
+        &mut self,
+        mpn: u32,
+        slot: &mut SlotRow,
+        key: Option<u64>,
+    ) -> Option<u64>
+        requires { IfSome key (λ key. key ≡ content_key (held_bytes slot.old)) }
+        ensures rows { self.new ≡ (slot_traded_at mpn self.old slot.old).0 }
+        ensures slot { slot.new ≡ (slot_traded_at mpn self.old slot.old).1 }
+        ensures key { IfSome result (λ key. key ≡ content_key (held_bytes slot.new)) }
+    {
+        let kept = self.known_key(mpn);
+        if !self.move_pages(mpn, slot) {
+            return key;
+        }
+        if let Some(key) = key {
+            self.keep_key(mpn, key);
+        }
+        kept
+    }
+
+    /// The same trade, and whether it moved the page of the frame, or none, and that of the slot.
+    fn move_pages(&mut self, mpn: u32, slot: &mut SlotRow) -> bool
+        ensures rows { self.new ≡ (slot_traded_at mpn self.old slot.old).0 }
+        ensures slot { slot.new ≡ (slot_traded_at mpn self.old slot.old).1 }
+        ensures moved { result ≡ moves_at mpn self.old }
+    {
+        let moved = match self.get(mpn) {
+            Some(row) => moves(row),
+            None => false,
+        };
+        self.trade_slot(mpn, slot);
+        moved
+    }
+
+    /// Keeps the key of the page in a frame, where there is room for it.
+    fn keep_key(&mut self, mpn: u32, key: u64)
+        requires { key ≡ content_key (bytes_of (frame_at self.old mpn)) }
+        ensures { self.new ≡ self.old }
+    {
+        self.known.learn(mpn, key);
+    }
+
     /// Counts one more page that is mapped to a shared frame.
     pub fn add_ref(&mut self, mpn: u32)
         requires in_range { mpn < length self.old }
@@ -355,6 +401,28 @@ mod tests {
             assert_eq!(rt; table.known_key(mpn), Some(content_key(&[31 * seed; 16])));
         }
         assert_eq!(rt; table.known_key(8), None);
+        Ok(())
+    }
+
+    #[test]
+    fn a_key_goes_along_with_its_page(rt: HostRuntime) -> Result<(), Fail> {
+        let mut table = FrameTable::new(rt.alloc(), 2, 4)?;
+        let bytes = Bytes::from_vec(vec![in rt.alloc(); 7; 4]?);
+        table.trade(1, &mut FrameRow::Private { bytes });
+        table.learn_key(1);
+        let mut slot = SlotRow::Free;
+        let key = table.trade_slot_and_key(1, &mut slot, None);
+        assert_eq!(rt; key, Some(content_key(&[7; 4])));
+        assert_eq!(rt; table.known_key(1), None);
+        let key = table.trade_slot_and_key(0, &mut slot, key);
+        assert_eq!(rt; key, None);
+        assert_eq!(rt; table.known_key(0), Some(content_key(&[7; 4])));
+
+        let mut mark = Mark::Shared { count: 2 };
+        table.trade_mark(0, &mut mark);
+        let key = table.trade_slot_and_key(0, &mut slot, None);
+        assert_eq!(rt; key, None);
+        assert!(rt; slot.is_empty());
         Ok(())
     }
 

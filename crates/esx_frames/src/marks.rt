@@ -2,7 +2,7 @@
 
 ghost use Rattle.std.specs.Prelude.{◌≡◌};
 ghost use Rattle.esx_lists.specs.Trades.{part_traded};
-ghost use Rattle.esx_frames.specs.Marks.{bytes_traded, marked, mark_traded, slot_traded};
+ghost use Rattle.esx_frames.specs.Marks.{bytes_traded, marked, mark_traded, moves, slot_traded};
 
 use esx_types::{Bytes, FrameRow, SlotRow};
 use std::mem;
@@ -78,4 +78,11 @@ pub fn trade_slot(row: &mut FrameRow, slot: &mut SlotRow)
         FrameRow::Overhead => *row = FrameRow::Overhead,
         FrameRow::Shared { count, bytes } => *row = FrameRow::Shared { count, bytes },
     }
+}
+
+/// Does a trade with a slot move pages?
+pub fn moves(row: &FrameRow) -> bool
+    ensures { result ≡ moves row.now }
+{
+    matches!(row, FrameRow::Free | FrameRow::Private { .. })
 }

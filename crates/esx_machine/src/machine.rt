@@ -114,11 +114,11 @@ impl Machine {
         Ok((plan.answer, Record { level, changes }))
     }
 
-    /// Keeps the key of the page that a scan is going to look for.
+    /// Keeps the key of the page that a scan or a swap-out is going to look for.
     fn learn(&mut self, event: &Event)
         ensures { self.new ≡ self.old }
     {
-        learn(&mut self.tables, event);
+        learn(&mut self.tables, self.level, self.config.page, event);
     }
 
     /// Trades the record's changes and level with the machine's tables and level.

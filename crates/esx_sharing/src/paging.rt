@@ -1,6 +1,6 @@
 //! Pages leave for the swap area.
 
-ghost use Rattle.std.specs.Prelude.{◌≡◌, IfOk};
+ghost use Rattle.std.specs.Prelude.{◌≡◌, IfOk, IfSome};
 ghost use Rattle.esx_types.specs.Frames.{frame_at};
 ghost use Rattle.esx_types.specs.Slots.{least_slot};
 ghost use Rattle.esx_model.specs.event.Paging.{is_too_early};
@@ -228,4 +228,21 @@ pub fn plan_swap_out(
         return Err(Refusal::AtTarget);
     };
     leave_row(tables, alloc, vm, page, row.page(page))
+}
+
+/// The page that a swap-out looks at, and its frame; none where it is refused before it looks.
+#[tactic(auto, unfolding(crate::specs::Paging::swap_out_plan))]
+pub fn leaving_page(tables: &SiteTables, level: Level, vm: VmId, word: u64) -> Option<(u32, u32)>
+    ensures { IfSome result (λ p. swap_out_plan tables.now level vm word ≡ leave_frame tables.now vm p.0 p.1 (frame_at tables.now.frames p.1)) }
+{
+    let row = tables.vm(vm)?;
+    let standing = row.standing();
+    if is_too_early(level, &standing) || standing.resident <= standing.target {
+        return None;
+    }
+    let page = drawn_page(row, word)?;
+    match row.page(page) {
+        MapRow::Here { frame } => Some((page, frame)),
+        MapRow::Untouched | MapRow::Out { .. } | MapRow::Lent { .. } => None,
+    }
 }

@@ -1,2 +1,3 @@
 pub use Rattle.esx_types.specs.Slots
+pub mod Known
 pub mod Table

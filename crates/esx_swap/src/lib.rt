@@ -1,6 +1,7 @@
 //! The table of swap slots.
 #![tactic(auto)]
 
+mod known;
 pub mod laws;
 mod slots;
 

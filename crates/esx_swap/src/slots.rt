@@ -1,10 +1,12 @@
 //! The table: its rows, an index of the free ones, and their number.
 
-ghost use Rattle.std.specs.Prelude.{◌≡◌, ◌<◌, IfOk, count_by, length, option_copied, replicate, slice_get, slice_index_or, slice_set};
+ghost use Rattle.std.specs.Prelude.{◌≡◌, ◌<◌, IfOk, IfSome, count_by, length, option_copied, replicate, slice_get, slice_index_or, slice_set};
 ghost use Rattle.esx_types.specs.declared.table.SlotRow.{SlotRow};
 ghost use Rattle.esx_types.specs.declared.table.SlotRow.TheVariants.{Free};
-ghost use Rattle.esx_types.specs.Slots.{is_empty, slot_at, least_slot};
+ghost use Rattle.esx_types.specs.Slots.{held_bytes, is_empty, slot_at, least_slot};
+ghost use Rattle.esx_formulas.specs.Key.{content_key};
 
+use crate::known::KnownKeys;
 use esx_index::FreeIndex;
 use esx_lists::recount;
 use esx_types::SlotRow;
@@ -13,24 +15,26 @@ use std::marker::Model;
 
 /// The swap slots, seen as the list of their rows; a slot's number is its place.
 ///
-/// No call after `new` takes memory, and each looks at a few words whatever the number of slots.
+/// No call after `new` takes memory but `make_key_room`, which goes on without it. Each other call looks at a few words
+/// whatever the number of slots.
 #[derive(Drop)]
 pub struct Slots {
     rows: Vec<SlotRow>,
     free: FreeIndex,
     count: u32,
+    known: KnownKeys,
 }
 
 impl Model for Slots {
     ghost use Rattle.std.specs.Prelude.{List};
     ghost use Rattle.esx_types.specs.declared.table.SlotRow.{SlotRow};
-    ghost use Rattle.esx_swap.specs.Table.{IsTable};
+    ghost use Rattle.esx_swap.specs.Known.{IsKeyed};
 
     ghost Value = { List SlotRow };
 
     ghost view = { λ a. a.rows.items };
 
-    ghost invariant = { λ a. IsTable a.rows.items a.free a.count };
+    ghost invariant = { λ a. IsKeyed a.rows.items a.free a.count a.known.words.items };
 }
 
 impl Slots {
@@ -44,6 +48,7 @@ impl Slots {
             rows,
             free,
             count: slots,
+            known: KnownKeys::new(alloc),
         })
     }
 
@@ -75,6 +80,30 @@ impl Slots {
         self.rows.get(slot as usize)
     }
 
+    /// The key of the page in a slot, where it is kept.
+    pub fn known_key(&self, slot: u32) -> Option<u64>
+        ensures { IfSome result (λ key. key ≡ content_key (held_bytes (slot_at self.now slot))) }
+    {
+        self.known.get(slot)
+    }
+
+    /// Makes room for the key of the page in a slot. It may take memory; where that is refused no key is kept there.
+    pub fn make_key_room(&mut self, slot: u32)
+        ensures { self.new ≡ self.old }
+    {
+        if slot < self.len() {
+            self.known.make_room(slot);
+        }
+    }
+
+    /// Keeps the key of the page in a slot until its row changes, where there is room for it.
+    pub fn keep_key(&mut self, slot: u32, key: u64)
+        requires { key ≡ content_key (held_bytes (slot_at self.old slot)) }
+        ensures { self.new ≡ self.old }
+    {
+        self.known.keep(slot, key);
+    }
+
     /// The least slot that is free; none where no slot is.
     pub fn least_free(&self) -> Option<u32>
         ensures { result ≡ least_slot self.now }
@@ -96,6 +125,7 @@ impl Slots {
         if is != was {
             self.free.set(at, is);
         }
+        self.known.forget(slot);
         std::mem::swap(&mut self.rows[at], row);
     }
 
@@ -123,6 +153,7 @@ fn free_rows(alloc: Global, slots: u32) -> Result<Vec<SlotRow>, AllocError>
 #[cfg(test)]
 mod tests {
     use super::*;
+    use esx_formulas::content_key;
     use esx_types::Bytes;
     use std::test::Fail;
 
@@ -150,6 +181,30 @@ mod tests {
         assert_eq!(rt; slots.free(), 1);
         assert_eq!(rt; slots.rows().len(), 2);
         assert!(rt; slots.get(1).is_some());
+        Ok(())
+    }
+
+    #[test]
+    fn keeps_a_key_until_the_row_changes(rt: HostRuntime) -> Result<(), Fail> {
+        let mut slots = Slots::new(rt.alloc(), 3)?;
+        let bytes = Bytes::from_vec(vec![in rt.alloc(); 7; 16]?);
+        let key = content_key(bytes.as_slice());
+        let mut row = SlotRow::Held { bytes };
+        slots.trade(1, &mut row);
+        slots.keep_key(1, key);
+        assert_eq!(rt; slots.known_key(1), None);
+
+        slots.make_key_room(1);
+        slots.keep_key(1, key);
+        assert_eq!(rt; slots.known_key(1), Some(key));
+        assert_eq!(rt; slots.known_key(0), None);
+        slots.make_key_room(3);
+        assert_eq!(rt; slots.known_key(1), Some(key));
+
+        slots.trade(1, &mut row);
+        assert_eq!(rt; slots.known_key(1), None);
+        slots.trade(1, &mut row);
+        assert_eq!(rt; slots.known_key(1), None);
         Ok(())
     }
 }

@@ -1,6 +1,8 @@
 //! Changes that are made, each in trade for what stood in its place.
 
-ghost use Rattle.std.specs.Prelude.{◌≡◌};
+ghost use Rattle.std.specs.Prelude.{◌≡◌, IfSome};
+ghost use Rattle.esx_types.specs.Slots.{held_bytes, slot_at};
+ghost use Rattle.esx_formulas.specs.Key.{content_key};
 ghost use Rattle.esx_tables.specs.Machines.{vm_traded};
 ghost use Rattle.esx_tables.specs.Changes.{slots_traded, traded, exchanged};
 
@@ -73,17 +75,29 @@ fn trade_part(vm: &mut Option<VmTable>, part: &mut VmPart)
     }
 }
 
-/// Trades the page of a private frame, or none, for that of a slot, or none. Where there is no such frame
-/// or slot nothing changes.
+/// Trades the page of a private frame, or none, for that of a slot, or none; the keys that are kept go along. Where there
+/// is no such frame or slot nothing changes.
 #[tactic(auto, unfolding(crate::specs::Changes::slots_traded))]
 fn trade_slots(frames: &mut FrameTable, slots: &mut Slots, frame: u32, slot: u32)
     ensures frames { frames.new ≡ (slots_traded frame slot frames.old slots.old).0 }
     ensures slots { slots.new ≡ (slots_traded frame slot frames.old slots.old).1 }
 {
     if slot < slots.len() {
+        let key = slots.known_key(slot);
         let mut row = SlotRow::Free;
         slots.swap_row(slot, &mut row);
-        frames.trade_slot(frame, &mut row);
+        let key = frames.trade_slot_and_key(frame, &mut row, key);
         slots.swap_row(slot, &mut row);
+        keep_key(slots, slot, key);
+    }
+}
+
+/// Keeps the key of the page in a slot, where one is handed over.
+fn keep_key(slots: &mut Slots, slot: u32, key: Option<u64>)
+    requires { IfSome key (λ key. key ≡ content_key (held_bytes (slot_at slots.old slot))) }
+    ensures { slots.new ≡ slots.old }
+{
+    if let Some(key) = key {
+        slots.keep_key(slot, key);
     }
 }

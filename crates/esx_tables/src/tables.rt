@@ -24,8 +24,8 @@ use std::marker::Model;
 
 /// Every table of a site, and the idle memory tax.
 ///
-/// No change takes memory but `learn_key`, which goes on without it. A reading of one row, of a count or of the
-/// least free frame or slot takes the same time whatever the size of the site.
+/// No change takes memory but `learn_key` and `make_key_room`, which go on without it. A reading of one row, of a count or
+/// of the least free frame or slot takes the same time whatever the size of the site.
 #[derive(Drop)]
 pub struct SiteTables {
     pub(crate) frames: FrameTable,
@@ -156,6 +156,14 @@ impl SiteTables {
         ensures { self.new ≡ self.old }
     {
         self.frames.learn_key(frame);
+    }
+
+    /// Makes room for the key of the page that comes into a slot. It may take memory; where that is refused the key is
+    /// not kept there.
+    pub fn make_key_room(&mut self, slot: u32)
+        ensures { self.new ≡ self.old }
+    {
+        self.slots.make_key_room(slot);
     }
 
     /// The row of a slot; none past the end.

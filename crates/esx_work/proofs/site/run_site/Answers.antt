@@ -4,6 +4,7 @@ use Rattle.esx_events.specs.declared.call.Line.{Line}
 use Rattle.esx_scenario.specs.declared.plan.Guest.{Guest}
 use Rattle.esx_scenario.specs.Plans.{Plan}
 use Rattle.esx_opening.specs.Orders.{in_order}
+use Rattle.esx_opening.specs.declared.opening.SiteFault.TheVariants as faults
 use Rattle.esx_opening.proofs.InTurn.{handed_on}
 use Rattle.esx_workers.specs.declared.end.End.{End}
 use Rattle.esx_workers.specs.declared.machine.Machine.{Machine}
@@ -22,6 +23,13 @@ machines_of-requires g c =
 
 pub returns-in_err-console-clause-refused : goal.returns-in_err-console-clause-refused
 returns-in_err-console-clause-refused g c = handed_on c.from_residual.result c.in_err-console.field-0.0 _ c.from_residual.ensures.1 (λ e is. c.in_err-console.ensures.refused e is)
+
+-- want of memory is no refusal
+pub returns-in_err-machines-clause-refused : goal.returns-in_err-machines-clause-refused
+returns-in_err-machines-clause-refused g c = handed_on c.from_residual-in_err-machines.result faults.OutOfMemory _ c.from_residual-in_err-machines.ensures.1 (λ e is. cc)
+
+pub returns-in_err-workers-clause-refused : goal.returns-in_err-workers-clause-refused
+returns-in_err-workers-clause-refused g c = handed_on c.from_residual-in_err-workers.result faults.OutOfMemory _ c.from_residual-in_err-workers.ensures.1 (λ e is. cc)
 
 pub returns : goal.returns
 returns g c =

@@ -1,6 +1,11 @@
 use Rattle.std.proofs.Common.{arith}
 use Rattle.esx_swap.proofs.RowLemmas.{table_new}
+use Rattle.esx_swap.proofs.KnownLemmas.{knows_none}
 use Rattle.esx_swap.proofs.slots.Slots.new.Goals as goal
 
 pub invariant_of-result : goal.invariant_of-result
-invariant_of-result c = rw (c.in_ok-free.ensures, c.in_ok-rows.ensures) (table_new c.args.slots (omega arith))
+invariant_of-result c =
+    record {
+      table = rw (c.in_ok-free.ensures, c.in_ok-rows.ensures) (table_new c.args.slots (omega arith));
+      keys = rw c.new-2.ensures (knows_none _);
+    }
