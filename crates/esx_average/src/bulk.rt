@@ -8,6 +8,7 @@ ghost use Rattle.std.specs.Prelude.{◌≡◌, ℕ, ◌-◌, ◌*◌, ◌≤◌,
 ghost use Rattle.esx_formulas.specs.Ratio.{IsRow, AreRows, row_at};
 ghost use Rattle.esx_average.specs.Bulk.{kept, dearer, WereRevoked};
 
+use crate::limit::find_limit;
 use esx_formulas::Row;
 
 /// Where chunks take at most so many steps, nothing is revoked in bulk: a step looks at every row once, and so
@@ -55,7 +56,7 @@ fn chunk_steps(rows: usize, left: u32) -> u32
 }
 
 /// What each page of a machine costs, in units of 1/6,553,600: the less of its memory is in use, the more.
-fn price(tau: u32, active: u32) -> u64
+pub(crate) fn price(tau: u32, active: u32) -> u64
     requires { (tau ≤ 99) × (active ≤ 65536) }
     ensures value { result ≡ 6553600 - tau * active }
     ensures least { 65536 ≤ result }
@@ -106,63 +107,4 @@ fn revoke_dearer(tau: u32, rows: &[Row], targets: &mut Vec<u32>, limit: u64)
     for (i, row) in rows.iter().enumerate() {
         targets[i] = kept(tau, row, targets[i], limit);
     }
-}
-
-/// What the dearest page of all rows costs, rounded up.
-fn highest_cost(tau: u32, rows: &[Row], targets: &[u32]) -> u64
-    requires tax { tau ≤ 99 }
-    requires rows { AreRows rows.now }
-    requires count { length targets.now ≡ length rows.now }
-    requires most { (i : ℕ) → i < length targets.now → slice_index targets.now i ≤ 65536 }
-    ensures { result ≤ 549755813888 }
-{
-    let mut highest = 0;
-    for (i, row) in rows.iter().enumerate() {
-        let cost = u64::from(targets[i]) * price(tau, row.active) / u64::from(row.shares) + 1;
-        highest = cost.max(highest);
-    }
-    highest
-}
-
-/// A limit that `left` pages or a few less cost more than, mostly. It is sought between two limits: at the
-/// share of the way that their counts tell, and every other time in the middle. After `most_tries` limits
-/// between them it is the upper one, and fewer pages may cost more.
-fn find_limit(tau: u32, rows: &[Row], targets: &[u32], left: u32, most_tries: u32) -> u64
-    requires tax { tau ≤ 99 }
-    requires rows { AreRows rows.now }
-    requires count { length targets.now ≡ length rows.now }
-    requires most { (i : ℕ) → i < length targets.now → slice_index targets.now i ≤ 65536 }
-    requires left { left ≤ 2097152 }
-    ensures { result ≤ 549755813888 }
-{
-    let mut low = 0;
-    let mut above_low = count_dearer(tau, rows, targets, low);
-    if above_low <= left {
-        return low;
-    }
-    let mut high = highest_cost(tau, rows, targets);
-    let mut above_high = 0;
-    let mut halves = false;
-    let mut tries = 0;
-    while low + 1 < high && rows.len() as u32 / 4 < left - above_high && tries < most_tries {
-        let range = high - low;
-        let share = u64::from(left - above_high);
-        let step = if halves {
-            range / 2
-        } else {
-            range * share / u64::from(above_low - above_high)
-        };
-        let limit = high - step.max(1).min(range - 1);
-        let above = count_dearer(tau, rows, targets, limit);
-        if above <= left {
-            high = limit;
-            above_high = above;
-        } else {
-            low = limit;
-            above_low = above;
-        }
-        halves = !halves;
-        tries += 1;
-    }
-    high
 }

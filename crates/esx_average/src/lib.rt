@@ -4,6 +4,7 @@
 
 pub mod averages;
 mod bulk;
+mod limit;
 pub mod revoke;
 
 pub use averages::Averages;

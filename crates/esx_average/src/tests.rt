@@ -76,6 +76,22 @@ fn many_pages_leave_each_machine_in_line_with_its_shares(rt: HostRuntime) -> Res
 }
 
 #[test]
+fn pages_that_are_revoked_in_bulk_leave_the_same_targets(rt: HostRuntime) -> Result<(), Fail> {
+    let rows = [
+        row(0, 1000, 1000, 2, 0)?,
+        row(1, 2000, 1010, 3, 8192)?,
+        row(2, 3000, 1020, 4, 16384)?,
+        row(3, 4000, 1030, 5, 24576)?,
+        row(4, 5000, 1040, 6, 32768)?,
+        row(5, 6000, 1050, 7, 40960)?,
+        row(6, 7000, 1060, 8, 49152)?,
+        row(7, 8000, 1070, 9, 57344)?,
+    ];
+    let expected = [67, 149, 250, 377, 542, 765, 1060, 1070];
+    expect_targets(&rt, rt.alloc(), &rows, 4000, &expected)
+}
+
+#[test]
 fn no_target_is_below_its_floor(rt: HostRuntime) -> Result<(), Fail> {
     let rows = [row(0, 1000, 10, 2, 65536)?, row(1, 1000, 6, 2, 65536)?];
     expect_targets(&rt, rt.alloc(), &rows, 100, &[2, 2])
