@@ -29,6 +29,8 @@ fn digits_len(values: u8x16) -> usize
 }
 
 /// The number that eight digits write, from those of each two.
+///
+/// The factor is 100 * 65,536 + 1: the upper half of each product joins two pairs.
 #[inline(always)]
 fn eight_digits(pairs: u64) -> u64
     ensures { (a b c d : ℕ) → a < 100 → b < 100 → c < 100 → d < 100 → pairs ≡ a + 65536 * (b + 65536 * (c + 65536 * d))
@@ -39,6 +41,8 @@ fn eight_digits(pairs: u64) -> u64
 }
 
 /// The number that sixteen digits write.
+///
+/// The factor is 10 * 256 + 1: the upper byte of each product joins two digits.
 #[inline(always)]
 fn number_of_sixteen(digits: u8x16) -> u64
     requires { Each1 (λ d. d < 10) digits }

@@ -133,8 +133,7 @@ fn some_digits_in_front(bytes: &[u8], many: bool) -> Option<(u64, usize)>
 }
 
 /// The number that is the first field, and the text behind it. `None` where that is no number, and for the largest
-/// of 64 bits. `many` says that many digits are likely; the
-/// result is the same.
+/// of 64 bits. `many` says that many digits are likely; the result is the same.
 #[inline(always)]
 fn number_in_front<'a>(text: &'a str, many: bool) -> Option<(u64, Option<&'a str>)>
     ensures small { IfSome result (λ p. p.0 < 2 ^ 64) }

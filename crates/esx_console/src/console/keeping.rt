@@ -35,7 +35,8 @@ fn hear_to_keep(journal: &mut Journal, alloc: Global, call: &Call) -> Result<Tol
 
 impl Console {
     /// Makes a call and logs it with its reply, as `call` does, and leaves the reply in the log alone, where
-    /// `last_reply` reads it: no copy is made. Where memory runs out nothing changes, and there is no line.
+    /// `last_reply` reads it: no copy is made but of a list that grew, which is logged in exact room. Where memory
+    /// runs out nothing changes, and there is no line.
     pub fn call_kept(&mut self, caller: u16, call: Call) -> Result<(), AllocError>
         ensures ok { OnOk result (self.new ≡ lined self.old caller call) }
         ensures err { OnErr result (self.new ≡ self.old) }
