@@ -17,15 +17,21 @@ pub enum Job {
     Targets,
     /// What a site was asked, printed as a session, checked and replayed.
     Records,
+    /// Scenarios of large sites are read and opened, one after another; large machines come and go there, and a person asks for tables.
+    Opening,
+    /// Guests go through the traces of a scenario by turns, beside those that share, page out and set targets, and what they did is told.
+    Traces,
 }
 
-pub const JOBS: [Job; 6] = [
+pub const JOBS: [Job; 8] = [
     Job::Accesses,
     Job::Pressure,
     Job::Sharing,
     Job::Branches,
     Job::Targets,
     Job::Records,
+    Job::Opening,
+    Job::Traces,
 ];
 
 /// How the machines of a job are admitted: `count` machines alike, but for their shares.
@@ -46,10 +52,12 @@ impl Job {
             Job::Branches => "branches",
             Job::Targets => "targets",
             Job::Records => "records",
+            Job::Opening => "opening",
+            Job::Traces => "traces",
         }
     }
 
-    /// The site of a job.
+    /// The site of a job, of several the largest.
     pub fn site(self) -> Config {
         let (frames, page, slots) = match self {
             Job::Accesses => (65536, 4096, 0),
@@ -58,6 +66,8 @@ impl Job {
             Job::Branches => (8192, 64, 6000),
             Job::Targets => (12288, 64, 24576),
             Job::Records => (2048, 256, 3584),
+            Job::Opening => (1048576, 4096, 1048576),
+            Job::Traces => (4700, 256, 6144),
         };
         Config {
             frames,
@@ -80,6 +90,8 @@ impl Job {
             Job::Branches => (2, 1000, 4000, 0),
             Job::Targets => (32, 256, 1024, 0),
             Job::Records => (4, 128, 1024, 100),
+            Job::Opening => (8, 16384, 65536, 0),
+            Job::Traces => (8, 256, 1024, 200),
         };
         Guests {
             count,

@@ -21,7 +21,7 @@ pub fn put_opening(job: Job, text: &mut LineText) -> Result<(), AllocError> {
     Ok(())
 }
 
-/// The command of a turn, from 0 on.
+/// The command of a turn, from 0 on; of traces their next line.
 pub fn put_turn(
     job: Job,
     draws: &mut Draws,
@@ -36,6 +36,8 @@ pub fn put_turn(
         Job::Branches => put_branch_turn(draws, turn, text),
         Job::Targets => put_target_turn(draws, turn, text),
         Job::Records => put_record_turn(draws, turn, text),
+        Job::Opening => put_large_turn(draws, text),
+        Job::Traces => put_trace_line(draws, text),
     }
 }
 
@@ -264,5 +266,55 @@ fn put_record_turn(draws: &mut Draws, turn: u64, text: &mut LineText) -> Result<
         92..=95 => text.line("advise", &[vm, page]),
         96..=98 => text.line("sum", &[]),
         _ => text.line("table", &[]),
+    }
+}
+
+/// A large machine comes or goes beside those of the scenario, or what was done is undone, or one of them is asked about.
+fn put_large_turn(draws: &mut Draws, text: &mut LineText) -> Result<(), AllocError> {
+    let vm = draws.below(4);
+    let page = draws.below(65536);
+    let back = 1 + draws.below(4);
+    match draws.below(100) {
+        0..=29 => put_coming(draws, 8 + vm, text),
+        30..=49 => {
+            text.line("stop", &[8 + vm])?;
+            text.line("gone", &[8 + vm])
+        }
+        50..=57 => text.line("undo", &[back]),
+        58..=67 => {
+            text.line("undo", &[back])?;
+            text.line("redo", &[back])
+        }
+        68..=81 => put_write(draws, vm, page, 4096, text),
+        82..=87 => text.line("table", &[]),
+        88..=93 => text.line("sum", &[]),
+        _ => text.line("page", &[vm, page]),
+    }
+}
+
+/// Lets a large machine in, with 8,192 to 65,536 reserved frames.
+fn put_coming(draws: &mut Draws, vm: u64, text: &mut LineText) -> Result<(), AllocError> {
+    let least = 8192 * (1 + draws.below(8));
+    text.line("admit", &[vm, least, 65536, 1, 1000, 0])?;
+    text.line("start", &[vm])
+}
+
+/// A line of a trace, without an end.
+fn put_trace_line(draws: &mut Draws, text: &mut LineText) -> Result<(), AllocError> {
+    let page = draws.skewed(1024);
+    let at = draws.below(248);
+    match draws.below(100) {
+        0..=59 => {
+            let length = 1 + draws.below(8);
+            text.words("read", &[page, at, length])
+        }
+        60..=94 => {
+            let word = draws.word();
+            text.words("write", &[page, at])?;
+            text.hex(word)
+        }
+        95..=96 => text.word("ask"),
+        97..=98 => text.words("lend", &[page]),
+        _ => text.words("takeback", &[page]),
     }
 }

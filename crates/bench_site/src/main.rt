@@ -9,7 +9,10 @@ mod draws;
 mod job;
 mod line_text;
 mod lines;
+mod opening;
 mod play;
+mod scenarios;
+mod traces;
 
 use anyhow::{Context, Result, bail};
 use job::{JOBS, Job};

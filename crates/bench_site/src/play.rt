@@ -7,6 +7,8 @@ use crate::draws::Draws;
 use crate::job::Job;
 use crate::line_text::LineText;
 use crate::lines::{put_opening, put_turn};
+use crate::opening::play_openings;
+use crate::traces::play_traces;
 use anyhow::{Result, bail};
 use esx_check::{Again, Checked, check_text, replay_calls};
 use esx_console::Console;
@@ -77,8 +79,9 @@ fn replies<L: Ledger>(
     }
 }
 
-/// The same, with counts that begin here.
-fn served(
+/// Serves the lines of a text with counts that begin here, and gives how many they are and the answers, in a room that is
+/// handed over.
+pub fn served(
     alloc: Global,
     console: &mut Console,
     text: &[u8],
@@ -112,8 +115,8 @@ fn go_through(alloc: Global, console: &Console, digest: &mut Digest) -> Result<(
     Ok(())
 }
 
-/// Plays a job of so many drawn commands.
-pub fn play(alloc: Global, job: Job, seed: u32, turns: u32) -> Result<Played> {
+/// Plays a job whose commands all go to one site.
+fn play_lines(alloc: Global, job: Job, seed: u32, turns: u32) -> Result<Played> {
     let Ok(mut console) = Console::open(alloc, job.site()) else {
         bail!("the site is not opened");
     };
@@ -144,4 +147,13 @@ pub fn play(alloc: Global, job: Job, seed: u32, turns: u32) -> Result<Played> {
         bytes: digest.bytes,
         digest: digest.hash,
     })
+}
+
+/// Plays a job of so many drawn commands.
+pub fn play(alloc: Global, job: Job, seed: u32, turns: u32) -> Result<Played> {
+    match job {
+        Job::Opening => play_openings(alloc, seed, turns),
+        Job::Traces => play_traces(alloc, seed, turns),
+        _ => play_lines(alloc, job, seed, turns),
+    }
 }
