@@ -10,10 +10,10 @@ ghost use Rattle.esx_frames.specs.Counts.{counts_of};
 ghost use Rattle.esx_frames.specs.Marks.{bytes_traded_at, mark_traded_at, moves_at, slot_traded_at};
 
 use crate::counts::Counts;
-use crate::known::KnownKeys;
 use crate::marks::{Mark, moves, trade_bytes, trade_mark, trade_slot};
 use crate::seen::{Seen, bytes_of};
 use esx_index::FreeIndex;
+use esx_known::KnownKeys;
 use esx_types::{Bytes, FrameRow, SlotRow};
 use std::alloc::{AllocError, Global};
 use std::marker::Model;
@@ -40,7 +40,7 @@ impl Model for FrameTable {
 
     ghost view = { λ a. a.rows.items };
 
-    ghost invariant = { λ a. IsKeyed a.rows.items a.free a.counts a.known.words.items };
+    ghost invariant = { λ a. IsKeyed a.rows.items a.free a.counts a.known };
 }
 
 impl FrameTable {
@@ -133,7 +133,7 @@ impl FrameTable {
                 let key = self
                     .seen
                     .key(&self.rows, &self.known, mpn, bytes.as_slice());
-                self.known.learn(mpn, key);
+                self.known.keep(mpn, key);
             }
         }
     }
@@ -281,7 +281,7 @@ impl FrameTable {
         requires { key ≡ content_key (bytes_of (frame_at self.old mpn)) }
         ensures { self.new ≡ self.old }
     {
-        self.known.learn(mpn, key);
+        self.known.keep(mpn, key);
     }
 
     /// Counts one more page that is mapped to a shared frame.

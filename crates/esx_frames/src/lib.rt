@@ -3,7 +3,6 @@
 
 mod counts;
 mod frames;
-mod known;
 pub mod laws;
 mod marks;
 mod seen;

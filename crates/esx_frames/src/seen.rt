@@ -3,10 +3,11 @@
 ghost use Rattle.std.specs.Prelude.{◌≡◌, ◌+◌, ◌<◌, ◌≤◌, ◌^◌, IfSome, length};
 ghost use Rattle.esx_types.specs.Frames.{bytes_of};
 ghost use Rattle.esx_formulas.specs.Key.{content_key};
-ghost use Rattle.esx_frames.specs.Known.{KnowsKeys};
+ghost use Rattle.esx_known.specs.Known.{KnowsKeys};
+ghost use Rattle.esx_frames.specs.Known.{bytes_in};
 
-use crate::known::KnownKeys;
 use esx_formulas::content_key;
+use esx_known::KnownKeys;
 use esx_types::FrameRow;
 use std::alloc::Global;
 
@@ -54,7 +55,7 @@ impl Seen {
 
     /// The key of these bytes, where a page that was seen has them and its key is kept.
     pub(crate) fn find(&self, rows: &[FrameRow], known: &KnownKeys, bytes: &[u8]) -> Option<u64>
-        requires { KnowsKeys rows.now known.now.words.items }
+        requires { KnowsKeys (bytes_in rows.now) known.now }
         ensures { IfSome result (λ key. key ≡ content_key bytes.now) }
     {
         if bytes.len() < LONG_PAGE {
@@ -71,7 +72,7 @@ impl Seen {
         mpn: u32,
         bytes: &[u8],
     ) -> u64
-        requires { KnowsKeys rows.now known.now.words.items }
+        requires { KnowsKeys (bytes_in rows.now) known.now }
         ensures { result ≡ content_key bytes.now }
     {
         if bytes.len() < LONG_PAGE {
@@ -99,7 +100,7 @@ pub(crate) fn bytes_of(row: &FrameRow) -> &[u8]
 
 /// The key of the page in a frame, where it is kept and the page has these bytes.
 fn key_of_equal(rows: &[FrameRow], known: &KnownKeys, mpn: u32, bytes: &[u8]) -> Option<u64>
-    requires { KnowsKeys rows.now known.now.words.items }
+    requires { KnowsKeys (bytes_in rows.now) known.now }
     ensures { IfSome result (λ key. key ≡ content_key bytes.now) }
 {
     let key = known.get(mpn)?;

@@ -1,7 +1,6 @@
 //! The table of swap slots.
 #![tactic(auto)]
 
-mod known;
 pub mod laws;
 mod slots;
 

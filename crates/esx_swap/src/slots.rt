@@ -6,8 +6,8 @@ ghost use Rattle.esx_types.specs.declared.table.SlotRow.TheVariants.{Free};
 ghost use Rattle.esx_types.specs.Slots.{held_bytes, is_empty, slot_at, least_slot};
 ghost use Rattle.esx_formulas.specs.Key.{content_key};
 
-use crate::known::KnownKeys;
 use esx_index::FreeIndex;
+use esx_known::KnownKeys;
 use esx_lists::recount;
 use esx_types::SlotRow;
 use std::alloc::{AllocError, Global};
@@ -34,7 +34,7 @@ impl Model for Slots {
 
     ghost view = { λ a. a.rows.items };
 
-    ghost invariant = { λ a. IsKeyed a.rows.items a.free a.count a.known.words.items };
+    ghost invariant = { λ a. IsKeyed a.rows.items a.free a.count a.known };
 }
 
 impl Slots {
@@ -92,7 +92,7 @@ impl Slots {
         ensures { self.new ≡ self.old }
     {
         if slot < self.len() {
-            self.known.make_room(slot);
+            let _has_room = self.known.make_room(slot);
         }
     }
 

@@ -6,7 +6,7 @@ use Rattle.esx_types.specs.declared.table.FrameRow.TheVariants.{Free}
 use Rattle.esx_types.specs.Frames.{is_free, frame_at}
 use Rattle.esx_frames.specs.Counts.{with_row, without_row}
 use Rattle.esx_frames.proofs.RowLemmas.{count_fits, table_set}
-use Rattle.esx_frames.proofs.KnownLemmas.{knows_forgotten}
+use Rattle.esx_frames.proofs.KnownLemmas.{row_forgotten}
 use Rattle.esx_frames.proofs.frames.FrameTable.swap_row.Goals as goal
 use Rattle.esx_frames.proofs.frames.FrameTable.swap_row.Goals.{then-free-is_free, else-free-is_free}
 
@@ -27,12 +27,12 @@ invariant_of-self c =
           let free = w.set.ensures ∙ rw (c.is_free-free.ensures, c.self.invariant.table.free) (sym (map-set is_free c.self.inside.rows.items c.args.mpn c.args.row.now)) in
           record {
             table = rw (w.self-inside-is, c.swap.ensures.x_after) (table_set _ _ _ _ _ _ _ c.self.invariant.table h free counts);
-            keys = rw (c.forget.ensures, w.self-inside-is) (knows_forgotten _ _ _ _ c.self.invariant.keys);
+            keys = rw (c.forget.ensures, w.self-inside-is) (row_forgotten _ _ _ _ c.self.invariant.keys);
           }
       | else-free-is_free w ↦
           let same : is_free c.args.row.now ≡ is_free (frame_at c.self.inside.rows.items c.args.mpn) = sym c.is_free-free.ensures ∙ (same_tests _ _ w.if-free-is_free.false ∙ (c.is_free.ensures ∙ ap is_free row-2)) in
           record {
             table = rw (w.self-inside-is, c.swap.ensures.x_after) (table_set _ _ _ _ _ _ _ c.self.invariant.table h (c.self.invariant.table.free ∙ sym (map-set_same is_free c.self.inside.rows.items c.args.mpn c.args.row.now Free same)) counts);
-            keys = rw (c.forget.ensures, w.self-inside-is) (knows_forgotten _ _ _ _ c.self.invariant.keys);
+            keys = rw (c.forget.ensures, w.self-inside-is) (row_forgotten _ _ _ _ c.self.invariant.keys);
           }
     ]

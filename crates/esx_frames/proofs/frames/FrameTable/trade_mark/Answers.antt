@@ -5,7 +5,7 @@ use Rattle.esx_types.specs.declared.table.FrameRow.TheVariants.{Free}
 use Rattle.esx_types.specs.Frames.{is_free, frame_at, bytes_of}
 use Rattle.esx_frames.specs.Counts.{with_row, without_row}
 use Rattle.esx_frames.proofs.RowLemmas.{count_fits, table_set, mark_free}
-use Rattle.esx_frames.proofs.KnownLemmas.{knows_alike, mark_bytes}
+use Rattle.esx_frames.proofs.KnownLemmas.{row_alike, mark_bytes}
 use Rattle.esx_frames.proofs.frames.FrameTable.trade_mark.Goals as goal
 
 pub add-requires : goal.add-requires
@@ -28,5 +28,5 @@ invariant_of-self c =
     let bytes : bytes_of c.trade_mark.new.row ≡ bytes_of (frame_at rows c.args.mpn) = ap bytes_of c.trade_mark.ensures.row ∙ mark_bytes c.index_mut.result.now c.args.mark.now ∙ ap bytes_of traded in
     record {
       table = table_set rows c.args.mpn c.trade_mark.new.row _ _ _ _ c.self.invariant.table h (c.self.invariant.table.free ∙ sym (map-set_same is_free rows c.args.mpn c.trade_mark.new.row Free same)) counts;
-      keys = knows_alike rows _ c.args.mpn c.trade_mark.new.row c.self.invariant.keys h bytes;
+      keys = row_alike rows _ c.args.mpn c.trade_mark.new.row c.self.invariant.keys h bytes;
     }

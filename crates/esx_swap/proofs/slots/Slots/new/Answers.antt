@@ -1,6 +1,6 @@
 use Rattle.std.proofs.Common.{arith}
+use Rattle.esx_known.proofs.Callers.{knows_none}
 use Rattle.esx_swap.proofs.RowLemmas.{table_new}
-use Rattle.esx_swap.proofs.KnownLemmas.{knows_none}
 use Rattle.esx_swap.proofs.slots.Slots.new.Goals as goal
 
 pub invariant_of-result : goal.invariant_of-result

@@ -4,8 +4,7 @@ use Rattle.std.proofs.lemmas.List.{get_or_read, map-set}
 use Rattle.esx_lists.proofs.Counts.{count_by-set-fits, counted_there, same_tests}
 use Rattle.esx_types.specs.declared.table.SlotRow.TheVariants.{Free}
 use Rattle.esx_types.specs.Slots.{is_empty, slot_at}
-use Rattle.esx_swap.proofs.RowLemmas.{table_set}
-use Rattle.esx_swap.proofs.KnownLemmas.{knows_forgotten}
+use Rattle.esx_swap.proofs.RowLemmas.{table_set, row_forgotten}
 use Rattle.esx_swap.proofs.slots.Slots.swap_row.Goals as goal
 use Rattle.esx_swap.proofs.slots.Slots.swap_row.Goals.{then-is-was, else-is-was}
 
@@ -28,12 +27,12 @@ invariant_of-self c =
           let free = w.set.ensures ∙ rw (c.is_empty-is.ensures, c.self.invariant.table.free) (sym (map-set is_empty rows c.args.slot row)) in
           record {
             table = rw (w.self-inside-is, c.swap.ensures.x_after) (table_set rows c.args.slot row _ _ _ _ c.self.invariant.table h free counted);
-            keys = rw (c.forget.ensures, w.self-inside-is) (knows_forgotten _ _ _ _ c.self.invariant.keys);
+            keys = rw (c.forget.ensures, w.self-inside-is) (row_forgotten _ _ _ _ c.self.invariant.keys);
           }
       | else-is-was w ↦
           let same : is_empty row ≡ is_empty (slot_at rows c.args.slot) = sym c.is_empty-is.ensures ∙ (same_tests _ _ w.if-is-was.false ∙ was) in
           record {
             table = rw (w.self-inside-is, c.swap.ensures.x_after) (table_set rows c.args.slot row _ _ _ _ c.self.invariant.table h (c.self.invariant.table.free ∙ sym (map-set_same is_empty rows c.args.slot row Free same)) counted);
-            keys = rw (c.forget.ensures, w.self-inside-is) (knows_forgotten _ _ _ _ c.self.invariant.keys);
+            keys = rw (c.forget.ensures, w.self-inside-is) (row_forgotten _ _ _ _ c.self.invariant.keys);
           }
     ]
