@@ -1,5 +1,5 @@
 -- The kept keys stay right: where a frame's row changes and its key is forgotten, and where a row keeps its bytes.
-use Rattle.std.proofs.Common.{◌≡◌, ◌≢◌, ℕ, ◌<◌, List, length, set, refl, ap, ◌∙◌, sym, inl, inr, get_or-set_same}
+use Rattle.std.proofs.Common.{◌≡◌, ℕ, ◌<◌, List, length, set, refl, ap, ◌∙◌, sym, inl, inr, get_or-set_same}
 use Rattle.std.proofs.lemmas.Bool.{cases_eq}
 use Rattle.std.proofs.lemmas.List.{get_or-set_other}
 use Rattle.esx_types.specs.declared.table.FrameRow.{FrameRow}

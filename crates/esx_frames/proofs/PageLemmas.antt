@@ -1,6 +1,7 @@
 -- What a trade with a slot does to pages: where it moves them each stands in the other's place, else nothing changes.
-use Rattle.std.proofs.Common.{◌≡◌, ℕ, true, false, true≢false, List, length, refl, sym, ap, ◌∙◌, inl, inr, get_or-set_same}
+use Rattle.std.proofs.Common.{◌≡◌, ℕ, true, false, true≢false, List, length, set, refl, sym, ap, ◌∙◌, inl, inr, ◌<◌, get_or-set_same}
 use Rattle.std.proofs.lemmas.Bool.{cases_lt, lt-ltb, le-ltb}
+use Rattle.std.proofs.lemmas.List.{set-get_or}
 use Rattle.esx_types.specs.declared.table.FrameRow.{FrameRow}
 use Rattle.esx_types.specs.declared.table.FrameRow.TheVariants.{Free, Overhead, Private, Shared}
 use Rattle.esx_types.specs.declared.table.SlotRow.{SlotRow}
@@ -26,7 +27,7 @@ row_in (Private bytes) (slots.Held other) m = refl
 row_in Overhead slot m = absurd (true≢false (sym m))
 row_in (Shared count bytes) slot m = absurd (true≢false (sym m))
 
-row_stays : (row : FrameRow) (slot : SlotRow) → moves row ≡ false → (slot_traded row slot).1 ≡ slot
+row_stays : (row : FrameRow) (slot : SlotRow) → moves row ≡ false → slot_traded row slot ≡ (row, slot)
 row_stays Free slot m = absurd (true≢false m)
 row_stays (Private bytes) slot m = absurd (true≢false m)
 row_stays Overhead slot m = refl
@@ -44,8 +45,20 @@ page_in f rows slot m = elim (cases_lt f (length rows)) [
   | inr past ↦ absurd (true≢false (sym (rw (le-ltb f (length rows) past) at m)))
 ]
 
-pub page_stays : (f : ℕ) (rows : List FrameRow) (slot : SlotRow) → moves_at f rows ≡ false → (slot_traded_at f rows slot).1 ≡ slot
-page_stays f rows slot m = elim (cases_lt f (length rows)) [
-  | inl h ↦ rw (slot_traded_inside f rows slot h) (row_stays (frame_at rows f) slot (rw (lt-ltb f (length rows) h) at m))
-  | inr past ↦ rw (slot_traded_past f rows slot past) refl
+pub moves_inside : (f : ℕ) (rows : List FrameRow) → moves_at f rows ≡ true → f < length rows
+moves_inside f rows m = elim (cases_lt f (length rows)) [
+  | inl h ↦ h
+  | inr past ↦ absurd (true≢false (sym (rw (le-ltb f (length rows) past) at m)))
 ]
+
+pub pages_stay : (f : ℕ) (rows : List FrameRow) (slot : SlotRow) → moves_at f rows ≡ false → slot_traded_at f rows slot ≡ (rows, slot)
+pages_stay f rows slot m = elim (cases_lt f (length rows)) [
+  | inl h ↦
+      slot_traded_inside f rows slot h
+      ∙ ap (λ (r : FrameRow × SlotRow). (set rows f r.0, r.1)) (row_stays (frame_at rows f) slot (rw (lt-ltb f (length rows) h) at m))
+      ∙ ap (λ (l : List FrameRow). (l, slot)) (set-get_or rows f Free)
+  | inr past ↦ slot_traded_past f rows slot past
+]
+
+pub page_stays : (f : ℕ) (rows : List FrameRow) (slot : SlotRow) → moves_at f rows ≡ false → (slot_traded_at f rows slot).1 ≡ slot
+page_stays f rows slot m = ap (λ (r : List FrameRow × SlotRow). r.1) (pages_stay f rows slot m)

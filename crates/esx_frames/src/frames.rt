@@ -231,12 +231,7 @@ impl FrameTable {
         ensures rows { self.new ≡ (slot_traded_at mpn self.old slot.old).0 }
         ensures slot { slot.new ≡ (slot_traded_at mpn self.old slot.old).1 }
     {
-        if mpn < self.len() {
-            let mut held = FrameRow::Free;
-            self.swap_row(mpn, &mut held);
-            trade_slot(&mut held, slot);
-            self.swap_row(mpn, &mut held);
-        }
+        let _moved = self.move_pages(mpn, slot);
     }
 
     /// The same, and the keys go along with their pages: `key` is that of the page of the slot, where it is kept, and what
@@ -262,18 +257,37 @@ impl FrameTable {
         kept
     }
 
-    /// The same trade, and whether it moved the page of the frame, or none, and that of the slot.
+    /// The same trade, and whether it moved the page of the frame, or none, and that of the slot. The row stays in its place,
+    /// and where nothing moves no row is touched.
     fn move_pages(&mut self, mpn: u32, slot: &mut SlotRow) -> bool
         ensures rows { self.new ≡ (slot_traded_at mpn self.old slot.old).0 }
         ensures slot { slot.new ≡ (slot_traded_at mpn self.old slot.old).1 }
         ensures moved { result ≡ moves_at mpn self.old }
     {
-        let moved = match self.get(mpn) {
+        if !self.moves_at(mpn) {
+            return false;
+        }
+        let at = mpn as usize;
+        let was = self.rows[at].is_free();
+        self.counts.remove(&self.rows[at]);
+        trade_slot(&mut self.rows[at], slot);
+        self.counts.add(&self.rows[at]);
+        let is = self.rows[at].is_free();
+        if is != was {
+            self.free.set(at, is);
+        }
+        self.known.forget(mpn);
+        true
+    }
+
+    /// Does a trade with a slot move pages there?
+    fn moves_at(&self, mpn: u32) -> bool
+        ensures { result ≡ moves_at mpn self.now }
+    {
+        match self.get(mpn) {
             Some(row) => moves(row),
             None => false,
-        };
-        self.trade_slot(mpn, slot);
-        moved
+        }
     }
 
     /// Keeps the key of the page in a frame, where there is room for it.

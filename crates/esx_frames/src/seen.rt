@@ -11,8 +11,8 @@ use esx_known::KnownKeys;
 use esx_types::FrameRow;
 use std::alloc::Global;
 
-/// A page of fewer bytes is hashed at once.
-const LONG_PAGE: usize = 256;
+/// Where a page has so many bytes or more, a page with the same bytes is looked for before it is hashed.
+const FINGERPRINTED_FROM: usize = 384;
 
 /// How many fingerprints there are.
 const FINGERPRINTS: usize = 16384;
@@ -58,7 +58,7 @@ impl Seen {
         requires { KnowsKeys (bytes_in rows.now) known.now }
         ensures { IfSome result (λ key. key ≡ content_key bytes.now) }
     {
-        if bytes.len() < LONG_PAGE {
+        if bytes.len() < FINGERPRINTED_FROM {
             return None;
         }
         key_of_equal(rows, known, self.get(fingerprint(bytes)), bytes)
@@ -75,7 +75,7 @@ impl Seen {
         requires { KnowsKeys (bytes_in rows.now) known.now }
         ensures { result ≡ content_key bytes.now }
     {
-        if bytes.len() < LONG_PAGE {
+        if bytes.len() < FINGERPRINTED_FROM {
             return content_key(bytes);
         }
         let fingerprint = fingerprint(bytes);
@@ -178,9 +178,9 @@ mod tests {
         Ok(are_right)
     }
 
-    /// A page of 256 bytes that begins with a number.
-    fn numbered(number: u32) -> [u8; 256] {
-        let mut page = [7; 256];
+    /// A page that begins with a number, of as few bytes as those that are looked for.
+    fn numbered(number: u32) -> [u8; 384] {
+        let mut page = [7; 384];
         page[..4].copy_from_slice(&number.to_le_bytes());
         page
     }
@@ -188,7 +188,7 @@ mod tests {
     #[test]
     fn equal_pages_have_one_key(rt: HostRuntime) -> Result<(), Fail> {
         let bytes = [9; 4096];
-        for len in [1, 255, 256, 257, 300, 4096] {
+        for len in [1, 256, 383, 384, 385, 400, 4096] {
             let page = &bytes[..len];
             assert!(rt; are_learnt(rt.alloc(), &[page, page, page])?);
         }
@@ -203,7 +203,7 @@ mod tests {
             other[at] = 8;
             assert!(rt; are_learnt(rt.alloc(), &[&page, &other, &page, &other])?);
         }
-        assert!(rt; are_learnt(rt.alloc(), &[&page[..256], &page[..257], &page[..255]])?);
+        assert!(rt; are_learnt(rt.alloc(), &[&page[..384], &page[..385], &page[..383]])?);
         Ok(())
     }
 
@@ -225,7 +225,7 @@ mod tests {
 
     #[test]
     fn finds_the_key_of_an_equal_page(rt: HostRuntime) -> Result<(), Fail> {
-        let mut table = FrameTable::new(rt.alloc(), 3, 256)?;
+        let mut table = FrameTable::new(rt.alloc(), 3, 384)?;
         for (mpn, number) in [(0, 1), (1, 2), (2, 1)] {
             let bytes = Bytes::copy_of(rt.alloc(), &numbered(number))?;
             table.trade(mpn, &mut FrameRow::Private { bytes });
@@ -241,7 +241,7 @@ mod tests {
 
     #[test]
     fn a_page_seen_has_changed(rt: HostRuntime) -> Result<(), Fail> {
-        let mut table = FrameTable::new(rt.alloc(), 2, 256)?;
+        let mut table = FrameTable::new(rt.alloc(), 2, 384)?;
         let first = numbered(1);
         let second = numbered(2);
         for page in [&first, &second, &first] {
