@@ -17,7 +17,7 @@ const BITS: u32 = 1024;
 
 const WORDS: usize = BITS as usize / 64;
 
-/// Of more marks no summary is made, so that a period is traded in a fixed time; no event opens one with as many.
+/// Of more marks no summary is made, so that an access makes one in a fixed time; no event opens a period with as many.
 const MOST: usize = 128;
 
 /// What marks tell at once: bit `page % BITS` is set for each page that one of them names, and so many of
@@ -66,13 +66,15 @@ impl Summary {
 /// The open sample period, or none, seen as its row.
 ///
 /// Most accesses are to pages that the period does not sample: a summary of its marks tells so without a look
-/// at each.
+/// at each. It is made once accesses go on in the period, so that a period comes and goes in a trade alone.
 #[derive(Drop)]
 pub struct OpenPeriod {
     row: Option<PeriodRow>,
     summary: Summary,
     // Is the summary that of the marks?
     is_told: bool,
+    // Was it asked for since the period came in?
+    is_asked: bool,
 }
 
 impl Model for OpenPeriod {
@@ -96,6 +98,7 @@ impl OpenPeriod {
             row: None,
             summary: Summary::of(&[]),
             is_told: true,
+            is_asked: false,
         }
     }
 
@@ -126,16 +129,28 @@ impl OpenPeriod {
         }
     }
 
+    /// An access is to come: the second since the period came in has the summary made.
+    pub fn tell(&mut self)
+        ensures { self.new ≡ self.old }
+    {
+        if self.is_told {
+            return;
+        }
+        if self.is_asked && is_short(&self.row) {
+            self.summary = summary_of(&self.row);
+            self.is_told = true;
+        }
+        self.is_asked = true;
+    }
+
     /// Trades the period for another, or none.
     pub fn trade(&mut self, period: &mut Boxed<Option<PeriodRow>>)
         ensures own { self.new ≡ period.old }
         ensures period { period.new ≡ self.old }
     {
         period.trade(&mut self.row);
-        self.is_told = is_short(&self.row);
-        if self.is_told {
-            self.summary = summary_of(&self.row);
-        }
+        self.is_told = false;
+        self.is_asked = false;
     }
 
     /// Trades how many accesses are done. Where no period is open nothing changes.

@@ -72,6 +72,14 @@ fn no_machines(alloc: Global) -> Result<Rows<Option<VmTable>>, AllocError>
     Ok(Rows::from_vec(rows))
 }
 
+fn tell_period(vm: &mut Option<VmTable>)
+    ensures { vm.new ≡ vm.old }
+{
+    if let Some(vm) = vm {
+        vm.tell_period();
+    }
+}
+
 impl SiteTables {
     /// The tables of a site with no machines.
     #[tactic(auto, using(crate::proofs::Opening::opening_shown))]
@@ -164,6 +172,17 @@ impl SiteTables {
         ensures { self.new ≡ self.old }
     {
         self.slots.make_key_room(slot);
+    }
+
+    /// An access of a machine is to come: where accesses go on in its open sample period, what its marks tell is summed
+    /// up.
+    pub fn tell_period(&mut self, vm: VmId)
+        ensures { self.new ≡ self.old }
+    {
+        let at = usize::from(vm.number());
+        if at < self.vms.len() {
+            tell_period(self.vms.row_mut(at));
+        }
     }
 
     /// The row of a slot; none past the end.

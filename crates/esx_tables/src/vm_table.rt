@@ -180,6 +180,14 @@ impl VmTable {
         self.fields.period.touched_marks()
     }
 
+    /// An access of the machine is to come: where accesses go on in an open sample period, what its marks tell is summed
+    /// up.
+    pub fn tell_period(&mut self)
+        ensures { self.new ≡ self.old }
+    {
+        self.fields.period.tell();
+    }
+
     /// Trades a part of the row. Where there is no such part nothing changes.
     pub fn trade(&mut self, part: &mut VmPart)
         ensures vm { self.new ≡ (part_traded self.old part.old).0 }
