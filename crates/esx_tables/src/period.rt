@@ -66,7 +66,7 @@ impl Summary {
 /// The open sample period, or none, seen as its row.
 ///
 /// Most accesses are to pages that the period does not sample: a summary of its marks tells so without a look
-/// at each. It is made once accesses go on in the period, so that a period comes and goes in a trade alone.
+/// at each. It is made once accesses go on in the period; a trade of periods makes none.
 #[derive(Drop)]
 pub struct OpenPeriod {
     row: Option<PeriodRow>,
