@@ -1,6 +1,6 @@
-//! Sixteen digits, read as one in the lanes of a vector.
+//! Digits in front of sixteen bytes: one or two by themselves, more as one in the lanes of a vector.
 
-ghost use Rattle.std.specs.Prelude.{◌≡◌, ◌+◌, ◌*◌, ◌%◌, ◌<◌, ◌≤◌, ◌^◌, ℕ, List, length, map, take};
+ghost use Rattle.std.specs.Prelude.{◌≡◌, ◌+◌, ◌*◌, ◌%◌, ◌<◌, ◌≤◌, ◌^◌, ℕ, List, get_or, length, map, take, IfSome};
 ghost use Rattle.std.specs.Int.Digits.{number_from_digits};
 ghost use Rattle.std.specs.Simd.Lanes.{Each1, number_l};
 ghost use Rattle.std.specs.Str.Parse.{AllDigits, digits_value};
@@ -96,4 +96,23 @@ pub(crate) fn digits_of_sixteen(bytes: &[u8; 16]) -> (u64, usize)
     }
     let few = count.min(8);
     (number_of_few(values, few), few)
+}
+
+/// The number of one digit or two that a space ends, and how many they are. `None` where other bytes stand in front.
+#[inline(always)]
+pub(crate) fn one_or_two_digits(bytes: &[u8; 16]) -> Option<(u64, usize)>
+    ensures within { IfSome result (λ p. p.1 ≤ 2) }
+    ensures small { IfSome result (λ p. p.0 < 100) }
+    ensures digits { IfSome result (λ p. AllDigits 10 (take p.1 bytes.now) × (p.0 ≡ digits_value 10 (take p.1 bytes.now))) }
+    ensures end { IfSome result (λ p. get_or bytes.now p.1 0 ≡ 32) }
+{
+    let first = u64::from(bytes[0]).wrapping_sub(48);
+    if bytes[1] == b' ' {
+        return if first > 9 { None } else { Some((first, 1)) };
+    }
+    let second = u64::from(bytes[1]).wrapping_sub(48);
+    if bytes[2] != b' ' || first > 9 || second > 9 {
+        return None;
+    }
+    Some((first * 10 + second, 2))
 }

@@ -5,7 +5,7 @@ ghost use Rattle.esx_types.specs.declared.config.TheConstants.{VM_NUMBERS};
 ghost use Rattle.std.specs.Str.Parse.{AllDigits, digits_value};
 ghost use Rattle.esx_reading.specs.Fields.{HasNoSpace, fields, fields_left};
 
-use crate::digits::digits_of_sixteen;
+use crate::digits::{digits_of_sixteen, one_or_two_digits};
 use crate::space::first_space;
 use esx_types::{VM_NUMBERS, VmId};
 use std::marker::Model;
@@ -102,7 +102,7 @@ fn digits_in_front(bytes: &[u8]) -> Option<(u64, usize)>
 }
 
 /// As `digits_in_front`, for numbers that mostly have many digits: where sixteen bytes are left, eight digits or sixteen
-/// are read as one.
+/// are read as one, and fewer as far as a space.
 #[inline(always)]
 fn many_digits_in_front(bytes: &[u8]) -> Option<(u64, usize)>
     ensures within { IfSome result (λ p. p.1 ≤ length bytes.now) }
@@ -113,7 +113,17 @@ fn many_digits_in_front(bytes: &[u8]) -> Option<(u64, usize)>
     let Some((sixteen, _)) = bytes.split_first_chunk::<16>() else {
         return digits_in_front(bytes);
     };
+    if let Some(read) = one_or_two_digits(sixteen) {
+        return Some(read);
+    }
     let (front, count) = digits_of_sixteen(sixteen);
+    if count < 8 {
+        return if sixteen[count] == b' ' {
+            Some((front, count))
+        } else {
+            None
+        };
+    }
     digits_from(bytes, count, front)
 }
 
