@@ -7,5 +7,6 @@ mod learning;
 pub mod machine;
 mod reading;
 mod table;
+mod telling;
 
 pub use machine::{Machine, Record};

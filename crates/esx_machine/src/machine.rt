@@ -4,6 +4,7 @@ use crate::advice::advise;
 use crate::learning::learn;
 use crate::reading::{activity, page_state};
 use crate::table::table_of;
+use crate::telling::tell;
 use esx_events::{Activity, Answer, Event, Help, PageState, Refusal, Sum, TableRow};
 use esx_level::Thresholds;
 use esx_model::Book;
@@ -101,6 +102,7 @@ impl Machine {
         ensures event { (scene : Scene) → Shows self.old scene → Applies result self.old self.new (next self.old.config scene event.now) }
         ensures exchanges { IfOk result (λ r. Exchanges self.old self.new event.now r.1) }
     {
+        self.tell(event);
         self.learn(event);
         let plan = match plan_event(&self.tables, self.alloc, &self.config, self.level, event) {
             Ok(plan) => plan,
@@ -112,6 +114,13 @@ impl Machine {
         let free = self.tables.counts().free;
         self.level = Thresholds::of(self.config).next(level, free);
         Ok((plan.answer, Record { level, changes }))
+    }
+
+    /// Has the open sample period of a machine that accesses a page summed up, where accesses go on in it.
+    fn tell(&mut self, event: &Event)
+        ensures { self.new ≡ self.old }
+    {
+        tell(&mut self.tables, event);
     }
 
     /// Keeps the key of the page that a scan or a swap-out is going to look for.

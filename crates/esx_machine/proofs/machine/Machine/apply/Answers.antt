@@ -15,14 +15,14 @@ pub plan_event-requires : goal.plan_event-requires
 plan_event-requires c =
     let k : Kept = record { config = c.self.inside.config; level = c.self.inside.level; tables = c.self.inside.tables } in
     let P : Kept → Type 0 = λ k. CanEpochsRise k.tables in
-    record { whole = kept_plannable k c.self.invariant; rise = subst P (sym (c.self.view_is ∙ c.learn.ensures)) c.requires.rise }
+    record { whole = kept_plannable k c.self.invariant; rise = subst P (sym (c.self.view_is ∙ c.learn.ensures ∙ c.tell.ensures)) c.requires.rise }
 
 pub returns-in-Err-clause-event : goal.returns-in-Err-clause-event
 returns-in-Err-clause-event c =
     let k : Kept = record { config = c.self.inside.config; level = c.self.inside.level; tables = c.self.inside.tables } in
     let P : Kept → Type 0 = λ k. (scene : Scene) → Shows k scene → Refuses k k c.in-Err.refusal (next k.config scene c.args.event.now) in
     let Q : Kept → Type 0 = λ old. (scene : Scene) → Shows old scene → Refuses old c.learn.new.self c.in-Err.refusal (next old.config scene c.args.event.now) in
-    subst Q c.learn.ensures (subst P c.self.view_is (refused k c.args.event.now c.in-Err.refusal c.in-Err.ensures.named c.in-Err.ensures.plans))
+    subst Q (c.learn.ensures ∙ c.tell.ensures) (subst P c.self.view_is (refused k c.args.event.now c.in-Err.refusal c.in-Err.ensures.named c.in-Err.ensures.plans))
 
 pub invariant_of-self : goal.invariant_of-self
 invariant_of-self c =
@@ -44,7 +44,7 @@ returns-clause-event c =
     let follows : level ≡ next_level k.config k.level (count_by is_free t.frames) =
     c.next-self-inside.ensures ∙ ap (λ (site : Config). next_level site k.level c.counts-free.result.free) c.of.ensures ∙ ap (λ (n : ℕ). next_level k.config k.level n) free in
     let P : Kept → Type 0 = λ old. (scene : Scene) → Shows old scene → Accepts old (after k t level) c.in-Ok.plan.answer (back k c.exchange.new.back) (next old.config scene c.args.event.now) in
-    subst P (c.self.view_is ∙ c.learn.ensures) (accepted k c.args.event.now c.in-Ok.plan.answer c.in-Ok.plan.changes t c.exchange.new.back level c.self.invariant
+    subst P (c.self.view_is ∙ c.learn.ensures ∙ c.tell.ensures) (accepted k c.args.event.now c.in-Ok.plan.answer c.in-Ok.plan.changes t c.exchange.new.back level c.self.invariant
     (record { named = c.in-Ok.ensures.named; plan = c.in-Ok.ensures.plans; tables = c.exchange.ensures.tables; changes = c.exchange.ensures.back; follows = follows }))
 
 pub returns-clause-exchanges : goal.returns-clause-exchanges
@@ -53,7 +53,7 @@ returns-clause-exchanges c =
     let t = c.exchange.new.self in
     let level = c.next-self-inside.result in
     let P : Kept → Type 0 = λ old. Exchanges old (after k t level) c.args.event.now (back k c.exchange.new.back) in
-    subst P (c.self.view_is ∙ c.learn.ensures) (record {
+    subst P (c.self.view_is ∙ c.learn.ensures ∙ c.tell.ensures) (record {
       plan = (c.in-Ok.plan.answer, c.in-Ok.plan.changes);
       planned = c.in-Ok.ensures.plans;
       tables = c.exchange.ensures.tables;
