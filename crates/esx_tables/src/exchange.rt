@@ -1,7 +1,7 @@
 //! Changes that are made, each in trade for what stood in its place.
 
-ghost use Rattle.std.specs.Prelude.{◌≡◌, IfSome};
-ghost use Rattle.esx_types.specs.Slots.{held_bytes, slot_at};
+ghost use Rattle.std.specs.Prelude.{◌≡◌, ◌<◌, IfSome, length, not, slice_set};
+ghost use Rattle.esx_types.specs.Slots.{held_bytes, is_empty, slot_at};
 ghost use Rattle.esx_formulas.specs.Key.{content_key};
 ghost use Rattle.esx_tables.specs.Machines.{vm_traded};
 ghost use Rattle.esx_tables.specs.Changes.{slots_traded, traded, exchanged};
@@ -84,11 +84,42 @@ fn trade_slots(frames: &mut FrameTable, slots: &mut Slots, frame: u32, slot: u32
 {
     if slot < slots.len() {
         let key = slots.known_key(slot);
-        let mut row = SlotRow::Free;
-        slots.swap_row(slot, &mut row);
+        let mut row = take_row(slots, slot);
         let key = frames.trade_slot_and_key(frame, &mut row, key);
-        slots.swap_row(slot, &mut row);
+        put_row(slots, slot, &mut row);
         keep_key(slots, slot, key);
+    }
+}
+
+/// Takes the page of a slot, or none. A slot that is free is not touched.
+fn take_row(slots: &mut Slots, slot: u32) -> SlotRow
+    requires { slot < length slots.old }
+    ensures slots { slots.new ≡ slice_set slots.old slot SlotRow.Free }
+    ensures row { result ≡ slot_at slots.old slot }
+{
+    let mut row = SlotRow::Free;
+    if holds_page(slots, slot) {
+        slots.swap_row(slot, &mut row);
+    }
+    row
+}
+
+/// Does a slot hold a page?
+fn holds_page(slots: &Slots, slot: u32) -> bool
+    requires { slot < length slots.now }
+    ensures { result ≡ not (is_empty (slot_at slots.now slot)) }
+{
+    !slots.rows()[slot as usize].is_empty()
+}
+
+/// Puts a page, or none, into a free slot.
+fn put_row(slots: &mut Slots, slot: u32, row: &mut SlotRow)
+    requires there { slot < length slots.old }
+    requires free { slot_at slots.old slot ≡ SlotRow.Free }
+    ensures { slots.new ≡ slice_set slots.old slot row.old }
+{
+    if !row.is_empty() {
+        slots.swap_row(slot, row);
     }
 }
 

@@ -15,6 +15,6 @@ returns-then-slot-len-clause-slots c =
     let slots = c.args.slots.now in
     let i = c.args.slot in
     let h : i < length slots = omega (arith, c.if-slot-len.true, c.len.ensures) in
-    let row : c.trade_slot_and_key-key.new.slot ≡ (slot_traded_at c.args.frame frames (slot_at slots i)).1 = rw c.swap_row.ensures.row at c.trade_slot_and_key-key.ensures.slot in
-    let now : c.keep_key.new.slots ≡ set slots i c.trade_slot_and_key-key.new.slot = c.keep_key.ensures ∙ c.swap_row-then-slot-len.ensures.rows ∙ rw c.swap_row.ensures.rows (set-set slots i Free c.trade_slot_and_key-key.new.slot) in
+    let row : c.trade_slot_and_key-key.new.slot ≡ (slot_traded_at c.args.frame frames (slot_at slots i)).1 = rw c.take_row-row.ensures.row at c.trade_slot_and_key-key.ensures.slot in
+    let now : c.keep_key.new.slots ≡ set slots i c.trade_slot_and_key-key.new.slot = c.keep_key.ensures ∙ c.put_row.ensures ∙ rw c.take_row-row.ensures.slots (set-set slots i Free c.trade_slot_and_key-key.new.slot) in
     now ∙ rw row (ap (λ (r : List FrameRow × List SlotRow). r.1) (sym (slots_there c.args.frame i frames slots h)))
