@@ -1,12 +1,12 @@
 //! Pages leave for the swap area.
 
-ghost use Rattle.std.specs.Prelude.{◌≡◌, IfOk, IfSome};
+ghost use Rattle.std.specs.Prelude.{◌≡◌, ◌≢◌, IfOk, IfErr, IfSome};
 ghost use Rattle.esx_types.specs.Frames.{frame_at};
 ghost use Rattle.esx_types.specs.Slots.{least_slot};
 ghost use Rattle.esx_model.specs.event.Paging.{is_too_early};
 ghost use Rattle.esx_changes.specs.Planned.{Plans};
 ghost use Rattle.esx_sharing.specs.Sharing.{HasCounts};
-ghost use Rattle.esx_sharing.specs.Paging.{move_changes, copy_changes, last_changes, out_changes, to_slot, leave_frame, leave_row, swap_out_plan};
+ghost use Rattle.esx_sharing.specs.Paging.{move_changes, copy_changes, last_changes, out_changes, to_slot, leave_frame, swap_out_plan};
 
 use crate::sharing::{look_by_frame, look_changes};
 use esx_changes::Plan;
@@ -157,7 +157,7 @@ fn frame_to_slot(
 
 /// A page that can be shared is shared; any other goes to a slot. Where nothing stands under a key there is no page to
 /// share with, and its bytes are not hashed.
-fn leave_frame(
+pub fn leave_frame(
     tables: &SiteTables,
     alloc: Global,
     vm: VmId,
@@ -185,34 +185,12 @@ fn leave_frame(
     }
 }
 
-/// The same of a page by its row.
-fn leave_row(
-    tables: &SiteTables,
-    alloc: Global,
-    vm: VmId,
-    page: u32,
-    at: MapRow,
-) -> Result<Plan, Refusal>
-    requires { HasCounts tables.now }
-    ensures { Plans result (leave_row tables.now vm page at) }
-{
-    let MapRow::Here { frame } = at else {
-        return Err(Refusal::AtTarget);
-    };
-    leave_frame(tables, alloc, vm, page, frame)
-}
-
-/// A page that the word draws is paged out, where its machine has more than its target.
+/// The page that a swap-out draws, and its frame; or why it is refused before it looks.
 #[tactic(auto, unfolding(crate::specs::Paging::swap_out_plan))]
-pub fn plan_swap_out(
-    tables: &SiteTables,
-    alloc: Global,
-    level: Level,
-    vm: VmId,
-    word: u64,
-) -> Result<Plan, Refusal>
-    requires { HasCounts tables.now }
-    ensures { Plans result (swap_out_plan tables.now level vm word) }
+fn leaving(tables: &SiteTables, level: Level, vm: VmId, word: u64) -> Result<(u32, u32), Refusal>
+    ensures draws { IfOk result (λ p. swap_out_plan tables.now level vm word ≡ leave_frame tables.now vm p.0 p.1 (frame_at tables.now.frames p.1)) }
+    ensures refused { IfErr result (λ e. swap_out_plan tables.now level vm word ≡ Err e) }
+    ensures told { IfErr result (λ e. e ≢ Refusal.OutOfMemory) }
 {
     let Some(row) = tables.vm(vm) else {
         return Err(Refusal::NoVm);
@@ -227,22 +205,33 @@ pub fn plan_swap_out(
     let Some(page) = drawn_page(row, word) else {
         return Err(Refusal::AtTarget);
     };
-    leave_row(tables, alloc, vm, page, row.page(page))
+    match row.page(page) {
+        MapRow::Here { frame } => Ok((page, frame)),
+        MapRow::Untouched | MapRow::Out { .. } | MapRow::Lent { .. } => Err(Refusal::AtTarget),
+    }
+}
+
+/// A page that the word draws is paged out, where its machine has more than its target.
+pub fn plan_swap_out(
+    tables: &SiteTables,
+    alloc: Global,
+    level: Level,
+    vm: VmId,
+    word: u64,
+) -> Result<Plan, Refusal>
+    requires { HasCounts tables.now }
+    ensures { Plans result (swap_out_plan tables.now level vm word) }
+{
+    let (page, frame) = match leaving(tables, level, vm, word) {
+        Ok(drawn) => drawn,
+        Err(refusal) => return Err(refusal),
+    };
+    leave_frame(tables, alloc, vm, page, frame)
 }
 
 /// The page that a swap-out looks at, and its frame; none where it is refused before it looks.
-#[tactic(auto, unfolding(crate::specs::Paging::swap_out_plan))]
 pub fn leaving_page(tables: &SiteTables, level: Level, vm: VmId, word: u64) -> Option<(u32, u32)>
     ensures { IfSome result (λ p. swap_out_plan tables.now level vm word ≡ leave_frame tables.now vm p.0 p.1 (frame_at tables.now.frames p.1)) }
 {
-    let row = tables.vm(vm)?;
-    let standing = row.standing();
-    if is_too_early(level, &standing) || standing.resident <= standing.target {
-        return None;
-    }
-    let page = drawn_page(row, word)?;
-    match row.page(page) {
-        MapRow::Here { frame } => Some((page, frame)),
-        MapRow::Untouched | MapRow::Out { .. } | MapRow::Lent { .. } => None,
-    }
+    leaving(tables, level, vm, word).ok()
 }

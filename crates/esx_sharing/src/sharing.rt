@@ -1,12 +1,12 @@
 //! Pages with equal bytes come to share one frame.
 
-ghost use Rattle.std.specs.Prelude.{◌≡◌, IfOk};
+ghost use Rattle.std.specs.Prelude.{◌≡◌, ◌≢◌, IfOk, IfErr};
 ghost use Rattle.std.specs.List.{position_from};
 ghost use Rattle.esx_types.specs.Frames.{bytes_of, frame_at};
 ghost use Rattle.esx_types.specs.Listings.{is_shared_under};
 ghost use Rattle.esx_formulas.specs.Key.{content_key};
 ghost use Rattle.esx_changes.specs.Planned.{Plans};
-ghost use Rattle.esx_sharing.specs.Sharing.{look_at_shared, look_at_hinted, look_at_hint, look_by_key, look_in, key_in, join_changes, pair_changes, hint_changes, count_with, look_changes, look_said, scan_frame, scan_row, scan_plan, HasCounts};
+ghost use Rattle.esx_sharing.specs.Sharing.{look_at_shared, look_at_hinted, look_at_hint, look_by_key, look_in, key_in, join_changes, pair_changes, hint_changes, count_with, look_changes, look_said, scan_frame, scan_plan, HasCounts};
 
 use esx_changes::Plan;
 use esx_changes::changes::{page_at, unlisted};
@@ -291,7 +291,7 @@ fn look_said(tables: &SiteTables, look: Look) -> Scanned
 }
 
 /// A page is looked for, and shared or remembered, by its frame.
-fn scan_frame(
+pub fn scan_frame(
     tables: &SiteTables,
     alloc: Global,
     vm: VmId,
@@ -311,28 +311,12 @@ fn scan_frame(
     })
 }
 
-/// The same of a page by its row.
-fn scan_row(
-    tables: &SiteTables,
-    alloc: Global,
-    vm: VmId,
-    page: u32,
-    at: MapRow,
-) -> Result<Plan, Refusal>
-    requires { HasCounts tables.now }
-    ensures { Plans result (scan_row tables.now vm page at) }
-{
-    let MapRow::Here { frame } = at else {
-        return Err(Refusal::NotResident);
-    };
-    scan_frame(tables, alloc, vm, page, frame)
-}
-
-/// Another page with the bytes of a page is looked for, to share one frame with it.
+/// The frame of the page that a scan looks for; or why it is refused before it looks.
 #[tactic(auto, unfolding(crate::specs::Sharing::scan_plan))]
-pub fn plan_scan(tables: &SiteTables, alloc: Global, vm: VmId, page: u32) -> Result<Plan, Refusal>
-    requires { HasCounts tables.now }
-    ensures { Plans result (scan_plan tables.now vm page) }
+pub fn scanned_frame(tables: &SiteTables, vm: VmId, page: u32) -> Result<u32, Refusal>
+    ensures looks { IfOk result (λ frame. scan_plan tables.now vm page ≡ scan_frame tables.now vm page frame (frame_at tables.now.frames frame)) }
+    ensures refused { IfErr result (λ e. scan_plan tables.now vm page ≡ Err e) }
+    ensures told { IfErr result (λ e. e ≢ Refusal.OutOfMemory) }
 {
     let Some(row) = tables.vm(vm) else {
         return Err(Refusal::NoVm);
@@ -344,5 +328,20 @@ pub fn plan_scan(tables: &SiteTables, alloc: Global, vm: VmId, page: u32) -> Res
     if row.spec().max <= page {
         return Err(Refusal::OutOfRange);
     }
-    scan_row(tables, alloc, vm, page, row.page(page))
+    match row.page(page) {
+        MapRow::Here { frame } => Ok(frame),
+        MapRow::Untouched | MapRow::Out { .. } | MapRow::Lent { .. } => Err(Refusal::NotResident),
+    }
+}
+
+/// Another page with the bytes of a page is looked for, to share one frame with it.
+pub fn plan_scan(tables: &SiteTables, alloc: Global, vm: VmId, page: u32) -> Result<Plan, Refusal>
+    requires { HasCounts tables.now }
+    ensures { Plans result (scan_plan tables.now vm page) }
+{
+    let frame = match scanned_frame(tables, vm, page) {
+        Ok(frame) => frame,
+        Err(refusal) => return Err(refusal),
+    };
+    scan_frame(tables, alloc, vm, page, frame)
 }
