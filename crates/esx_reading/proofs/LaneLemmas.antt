@@ -4,7 +4,7 @@ use Rattle.std.specs.Char.{digit_value}
 use Rattle.std.specs.Int.Digits.{number_from_digits, number_from_digits_after}
 use Rattle.std.specs.Str.Parse.{AllDigits, digits_value, digits_value_after}
 use Rattle.std.proofs.lemmas.Str.{digit_value_digit}
-use Rattle.std.proofs.lemmas.List.{get_or-take, length-take-le, length-map, take-map}
+use Rattle.std.proofs.lemmas.List.{get_or-take, length-take-le, length-map, take-map, take-take}
 use Rattle.std.proofs.lemmas.List.Sums.{prefix_len-le-length, prefix_len_passes}
 use Rattle.std.proofs.lemmas.Simd.{Each1-from_get_or, zip2_splat_left, map-map, mask_l-mod, leading_from_mask_l, trailing_mask_l}
 use Rattle.std.specs.List.{prefix_len}
@@ -278,3 +278,13 @@ front_read bytes vs count n fits values digits is =
     let lanes : take count vs ≡ map less_zero (take count bytes) = ap (take count) values ∙ take-map less_zero count bytes in
     let read = bytes_are 0 (take count bytes) (each_of_front (λ b. b < 256) count bytes fits) (subst (Each1 (λ d. d < 10)) lanes digits) in
     (read.0, is ∙ ap (number_from_digits 10) lanes ∙ read.1)
+
+-- the same where the lanes are the first sixteen of more bytes
+pub front_of_more : (bytes sixteen vs : List ℕ) (count n : ℕ) → ((i : ℕ) → get_or bytes i 0 < 256) → sixteen ≡ take 16 bytes → count ≤ 16
+    → vs ≡ map less_zero sixteen → Each1 (λ d. d < 10) (take count vs) → n ≡ number_from_digits 10 (take count vs)
+    → AllDigits 10 (take count bytes) × (n ≡ digits_value 10 (take count bytes))
+front_of_more bytes sixteen vs count n fits e within values digits is =
+    let each = each_of_front (λ b. b < 256) 16 bytes (Each1-from_get_or (λ b. b < 256) bytes 0 (λ i lt. fits i)) in
+    let read = front_read sixteen vs count n (subst (Each1 (λ b. b < 256)) (sym e) each) values digits is in
+    let same : take count sixteen ≡ take count bytes = ap (take count) e ∙ take-take count 16 bytes within in
+    (subst (AllDigits 10) same read.0, read.1 ∙ ap (digits_value 10) same)

@@ -9,7 +9,7 @@ use std::simd::prelude::*;
 
 /// The value of each byte as a digit, and 10 or more where it is none.
 #[inline(always)]
-fn values(bytes: &[u8; 16]) -> u8x16
+pub(crate) fn values(bytes: &[u8; 16]) -> u8x16
     ensures { result ≡ map (λ b. (b + 208) % 256) bytes.now }
 {
     u8x16::from_array(*bytes) - u8x16::splat(b'0')
@@ -17,7 +17,7 @@ fn values(bytes: &[u8; 16]) -> u8x16
 
 /// How many digits stand in front.
 #[inline(always)]
-fn digits_len(values: u8x16) -> usize
+pub(crate) fn digits_len(values: u8x16) -> usize
     ensures within { result ≤ 16 }
     ensures digits { Each1 (λ d. d < 10) (take result values) }
 {
@@ -44,7 +44,7 @@ fn eight_digits(pairs: u64) -> u64
 ///
 /// The factor is 10 * 256 + 1: the upper byte of each product joins two digits.
 #[inline(always)]
-fn number_of_sixteen(digits: u8x16) -> u64
+pub(crate) fn number_of_sixteen(digits: u8x16) -> u64
     requires { Each1 (λ d. d < 10) digits }
     ensures small { result < 10 ^ 16 }
     ensures value { result ≡ number_from_digits 10 digits }
@@ -68,7 +68,7 @@ fn number_of_eight(digits: u64) -> u64
 
 /// The number that so many digits in front write. They go to the end of eight, behind zeros.
 #[inline(always)]
-fn number_of_few(values: u8x16, count: usize) -> u64
+pub(crate) fn number_of_few(values: u8x16, count: usize) -> u64
     requires some { 0 < count }
     requires few { count ≤ 8 }
     requires digits { Each1 (λ d. d < 10) (take count values) }
@@ -76,26 +76,6 @@ fn number_of_few(values: u8x16, count: usize) -> u64
 {
     let [front, _] = u64x2::from_le_bytes(values).to_array();
     number_of_eight(front << (64 - 8 * count))
-}
-
-/// The number that digits in front of sixteen bytes write, and how many they are: all sixteen, or as far as another
-/// byte and eight at most.
-#[inline(always)]
-pub(crate) fn digits_of_sixteen(bytes: &[u8; 16]) -> (u64, usize)
-    ensures within { result.1 ≤ 16 }
-    ensures small { result.0 < 2 ^ 64 }
-    ensures digits { AllDigits 10 (take result.1 bytes.now) × (result.0 ≡ digits_value 10 (take result.1 bytes.now)) }
-{
-    let values = values(bytes);
-    let count = digits_len(values);
-    if count == 0 {
-        return (0, 0);
-    }
-    if count == 16 {
-        return (number_of_sixteen(values), 16);
-    }
-    let few = count.min(8);
-    (number_of_few(values, few), few)
 }
 
 /// The number of one digit or two that a space ends, and how many they are. `None` where other bytes stand in front.

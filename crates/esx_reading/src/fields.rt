@@ -5,7 +5,7 @@ ghost use Rattle.esx_types.specs.declared.config.TheConstants.{VM_NUMBERS};
 ghost use Rattle.std.specs.Str.Parse.{AllDigits, digits_value};
 ghost use Rattle.esx_reading.specs.Fields.{HasNoSpace, fields, fields_left};
 
-use crate::digits::{digits_of_sixteen, one_or_two_digits};
+use crate::digits::{digits_len, number_of_few, number_of_sixteen, one_or_two_digits, values};
 use crate::space::first_space;
 use esx_types::{VM_NUMBERS, VmId};
 use std::marker::Model;
@@ -116,15 +116,18 @@ fn many_digits_in_front(bytes: &[u8]) -> Option<(u64, usize)>
     if let Some(read) = one_or_two_digits(sixteen) {
         return Some(read);
     }
-    let (front, count) = digits_of_sixteen(sixteen);
-    if count < 8 {
-        return if sixteen[count] == b' ' {
-            Some((front, count))
-        } else {
-            None
-        };
+    let values = values(sixteen);
+    let count = digits_len(values);
+    if count == 16 {
+        return digits_from(bytes, 16, number_of_sixteen(values));
     }
-    digits_from(bytes, count, front)
+    if count > 8 {
+        return digits_from(bytes, 8, number_of_few(values, 8));
+    }
+    if count == 0 || sixteen[count] != b' ' {
+        return None;
+    }
+    Some((number_of_few(values, count), count))
 }
 
 /// The one or the other.
