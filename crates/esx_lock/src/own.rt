@@ -26,7 +26,7 @@ use std::sync::atomic::{AtomicU64, Ordering};
 
 /// How many times a take looks at a word that is held before it sleeps: a value is mostly given back sooner than
 /// a thread falls asleep and is woken.
-const LOOKS: u32 = 1000;
+const LOOKS: u32 = 100;
 
 /// A value that threads take in turn, one at a time, for callers with the numbers below `callers`.
 ///
@@ -37,8 +37,8 @@ const LOOKS: u32 = 1000;
 pub struct OwnLock<V: Gauged> {
     table: Table<Option<V>, View, About<V>, Agreed<V>, Global>,
     callers: usize,
-    // How many threads sleep in `take`, or are about to, or have just been woken.
-    sleepers: AtomicU64,
+    // 1 where a give has to wake a thread that sleeps in `take`, 0 where none sleeps or one was just woken.
+    asleep: AtomicU64,
 }
 
 impl<V: Gauged> Model for OwnLock<V> {
@@ -86,7 +86,7 @@ impl<V: Gauged> OwnLock<V> {
         let OwnLock {
             table,
             callers: _,
-            sleepers: _,
+            asleep: _,
         } = self;
         let mut closed = table.close_with(pass.into_seat());
         let value = closed.take(0);
@@ -224,7 +224,7 @@ impl<V: Gauged> OwnLock<V> {
         let lock = OwnLock {
             table,
             callers,
-            sleepers: AtomicU64::new(0),
+            asleep: AtomicU64::new(0),
         };
         Ok((lock, Pass::from_seat(ids, seat)))
     }
@@ -302,31 +302,43 @@ impl<V: Gauged> OwnLock<V> {
         for _ in rt.forever() {
             match self.try_seat(seat) {
                 Ok(value) => return value,
-                Err(word) if word % 2 == 1 => looks = self.wait(rt, word, looks),
+                Err(word) if word % 2 == 1 => looks = self.wait(rt, looks),
                 Err(_) => {}
             }
         }
         unreachable!()
     }
 
-    // Lets a moment pass, and tells how many looks there were now. After the last of them it sleeps if the word is
-    // still the one that was read, until a give wakes it; then they begin anew. It is counted before the word is
-    // looked at again: so a give that finds no sleeper has stored its word before that look.
-    fn wait<R: Wait>(&self, rt: &R, word: u64, looks: u32) -> u32 {
-        if looks < LOOKS {
-            spin_loop();
-            return looks + 1;
+    // Tells how many looks there were now. After the last of them it sleeps, and then they begin anew.
+    fn wait<R: Wait>(&self, rt: &R, looks: u32) -> u32
+        ensures look { looks < LOOKS → result ≡ looks + 1 }
+        ensures sleep { LOOKS ≤ looks → result ≡ 0 }
+    {
+        match next_look(looks) {
+            Some(next) => next,
+            None => {
+                self.sleep(rt);
+                0
+            }
         }
-        self.sleepers.fetch_add(1, Ordering::SeqCst);
-        self.table.shared.park(rt, 0, (word & 0xffff_ffff) as u32);
-        self.sleepers.fetch_sub(1, Ordering::SeqCst);
-        0
     }
 
-    // Wakes one thread that sleeps, if there is one. A give asks for it after its store.
+    // Sleeps until a give wakes it, unless the lock is free by now. It says so before it looks at the word again: a
+    // give that does not find it said has stored its word before that look. After the sleep it says so for those
+    // who sleep still.
+    fn sleep<R: Wait>(&self, rt: &R) {
+        self.asleep.store(1, Ordering::SeqCst);
+        if self.table.shared.peek(0) % 2 == 1 {
+            self.asleep.park(rt, 1);
+            self.asleep.store(1, Ordering::SeqCst);
+        }
+    }
+
+    // Wakes one thread that sleeps, where one has said so since the last wake. A give asks for it after its store.
     fn wake_sleeper(&self) {
-        if self.sleepers.load(Ordering::SeqCst) != 0 {
-            self.table.shared.wake_one(0);
+        if self.asleep.load(Ordering::SeqCst) != 0 {
+            self.asleep.store(0, Ordering::SeqCst);
+            self.asleep.wake_one();
         }
     }
 
@@ -395,4 +407,16 @@ impl<V: Gauged> OwnLock<V> {
         self.table.shared.join_seat::<Glue<P>>(seat, other);
         self.table.shared.load::<Recalls<V>>(seat, 0);
     }
+}
+
+// Lets a moment pass, and tells how many looks there were now; or nothing after the last look.
+fn next_look(looks: u32) -> Option<u32>
+    ensures more { looks < LOOKS → result ≡ Some (looks + 1) }
+    ensures none { LOOKS ≤ looks → result ≡ None }
+{
+    if looks < LOOKS {
+        spin_loop();
+        return Some(looks + 1);
+    }
+    None
 }
