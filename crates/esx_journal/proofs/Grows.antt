@@ -21,10 +21,10 @@ use Rattle.esx_model.specs.Epochs.{AreEpochsWithin}
 use Rattle.esx_model.proofs.Callers.{later_within, path_within}
 use Rattle.esx_journal.specs.declared.row.Row.{Row}
 use Rattle.esx_journal.specs.Row.{row_of, grown, with_child}
-use Rattle.esx_journal.specs.Children.{no_row}
+use Rattle.esx_journal.specs.Children.{no_row, child_of_number}
 use Rattle.esx_journal.specs.Journal.{Kept, Leads, IsAccepted, IsRow, AreDescents, Aims, Holds, kept_after}
 use Rattle.esx_journal.proofs.Lists.{pushed_there, pushed_set, pushed_elsewhere, pushed_length}
-use Rattle.esx_journal.proofs.Paths.{newest, alive_fits, way_self, is_other, parent_new, parent_old, alive_new, alive_old, path_new, path_old, way_new, parent_fits, walk_ends, way_below, path_short}
+use Rattle.esx_journal.proofs.Paths.{newest, alive_fits, way_self, is_other, parent_new, parent_old, alive_new, alive_old, path_new, path_old, way_new, parent_fits, walk_ends, way_below, path_short, some_child}
 use Rattle.esx_journal.proofs.Runs.{accepted_push, accepted_open, opens, grown_is, config_after, shows_after, book_shown, can_rise}
 use Rattle.esx_journal.proofs.Steps.{cursor_fits, descents_of}
 use Rattle.esx_journal.proofs.Moves.{redone_more, redone_stops, redo_none}
@@ -143,7 +143,7 @@ row_new j m e b k first h accepted is trades =
 
 -- an old row, whose last child may be new
 row_old : (j : Kept) (m : History) {aim : List Move} (e : Event) (n : ℕ) (row new : Row) → Aims j m aim → n ≤ length m.nodes → IsRow m aim (cursor m) n row → new.parent ≡ row.parent → new.back ≡ row.back
-    → new.last ≡ cond (n == cursor m) (Some (length m.nodes + 1)) row.last → IsRow (done e m) (Down (length m.nodes + 1) ∷ aim) (length m.nodes + 1) n new
+    → child_of_number new.last ≡ cond (n == cursor m) (Some (length m.nodes + 1)) (child_of_number row.last) → IsRow (done e m) (Down (length m.nodes + 1) ∷ aim) (length m.nodes + 1) n new
 unfolding done
 row_old j m e n row new h fits old up back last =
     let x : Node = node_of m e in
@@ -249,7 +249,7 @@ grew j new m {aim = aim} e a u b d h gives shows config trades rows_are cursor_i
         let Q : Row → Type 0 = λ q. IsRow (done e m) (Down (length m.nodes + 1) ∷ aim) (length m.nodes + 1) y q in
         subst Q (sym (pushed_set j.rows j.cursor y (row_of j.cursor b (slice_index_or j.rows j.cursor d).first) (with_child (slice_index_or j.rows j.cursor d) (length j.rows)) z (omega arith) (omega arith)))
         (row_old j m e y (slice_index_or j.rows y d) (with_child (slice_index_or j.rows j.cursor d) (length j.rows)) h (omega arith) old (ap (λ (q : Row). q.parent) same) (ap (λ (q : Row). q.back) same)
-        (ap (λ i. Some i) h.size ∙ sym (ap (λ t. cond t (Some (length m.nodes + 1)) (slice_index_or j.rows y d).last) o.0))))
+        (ap child_of_number h.size ∙ some_child (length m.nodes + 1) (omega arith) ∙ sym (ap (λ t. cond t (Some (length m.nodes + 1)) (child_of_number (slice_index_or j.rows y d).last)) o.0))))
     each_grown accepted arrives y z (inr k) (inr o) below = (
         let s = h.size in let f = cursor_fits j m _ h in let p = h.place in let t = k.1 in
         let fits : y ≤ length m.nodes = omega arith in
@@ -257,7 +257,7 @@ grew j new m {aim = aim} e a u b d h gives shows config trades rows_are cursor_i
         let Q : Row → Type 0 = λ q. IsRow (done e m) (Down (length m.nodes + 1) ∷ aim) (length m.nodes + 1) y q in
         subst Q (sym (pushed_elsewhere j.rows j.cursor y (row_of j.cursor b (slice_index_or j.rows j.cursor d).first) (with_child (slice_index_or j.rows j.cursor d) (length j.rows)) z (omega arith) (λ q. o.1 (q ∙ h.place))))
         (row_old j m e y (slice_index_or j.rows y z) (slice_index_or j.rows y z) h fits old refl refl
-        (sym (ap (λ t. cond t (Some (length m.nodes + 1)) (slice_index_or j.rows y z).last) o.0))))
+        (sym (ap (λ t. cond t (Some (length m.nodes + 1)) (child_of_number (slice_index_or j.rows y z).last)) o.0))))
 
 not_full : (limit size : ℕ) → size < limit → nat_le limit size ≡ false
 not_full limit size h = grind (arith, nat_tests)

@@ -6,6 +6,9 @@ pub mod Ways
 pub mod Sinking
 pub mod Pruning
 pub mod Linking
+pub mod Losing
+pub mod ByLinks
+pub mod ByNumbers
 pub mod Dropping
 pub mod Runs
 pub mod Steps

@@ -1,11 +1,10 @@
 -- The links of nodes, as rows change.
-use Rattle.std.proofs.Common.{◌≡◌, ◌≢◌, ℕ, zero, suc, ◌+◌, ◌<◌, ◌≤◌, ◌==◌, Bool, true, false, List, [], ◌∷◌, length, slice_set, slice_index_or, is_some, refl, sym, ap, ◌∙◌, arith, ◌⊎◌, inl, inr, sum_by}
+use Rattle.std.proofs.Common.{◌≡◌, ◌≢◌, ℕ, zero, suc, ◌+◌, ◌<◌, ◌≤◌, ◌==◌, Bool, true, false, List, [], ◌∷◌, length, slice_set, slice_index_or, is_some, refl, sym, ap, ◌∙◌, arith, ◌⊎◌, inl, inr}
 use Rattle.std.proofs.lemmas.Bool.Decides.{eqb_tells}
-use Rattle.std.proofs.lemmas.List.Sums.{sum_by-set}
 use Rattle.esx_machine.specs.Machine.{Back}
 use Rattle.esx_journal.specs.declared.row.Row.{Row}
 use Rattle.esx_journal.specs.Row.{row_of, with_child, grown}
-use Rattle.esx_journal.specs.Children.{AreLinked, FirstsFit, parent_of, has_record, first_of, next_of, no_row, unlinked}
+use Rattle.esx_journal.specs.Children.{AreLinked, parent_of, has_record, first_of, next_of, no_row, unlinked}
 use Rattle.esx_journal.proofs.Lists.{set_there, set_elsewhere, set_length, pushed_there, pushed_set, pushed_elsewhere, pushed_length}
 use Rattle.esx_journal.proofs.Pruning.{false_by}
 
@@ -87,31 +86,55 @@ first_there rows p next n fits e = ap (λ (x : Row). x.first) (set_there rows p 
 pub first_elsewhere : (rows : List Row) (p next n : ℕ) → n ≢ p → first_of (unlinked rows p next) n ≡ first_of rows n
 first_elsewhere rows p next n e = ap (λ (x : Row). x.first) (set_elsewhere rows p n (record (slice_index_or rows p no_row) { first = next }) no_row e)
 
-pub linked_off : (rows : List Row) (p c : ℕ) → AreLinked rows → p < length rows → first_of rows p ≡ c → 0 < c → has_record rows c ≡ false → AreLinked (unlinked rows p (next_of rows c))
-linked_off rows p c h fits is some gone = record {
+pub record_off : (rows : List Row) (p next : ℕ) → p < length rows → (n : ℕ) → has_record (unlinked rows p next) n ≡ has_record rows n
+record_off rows p next fits n = part_set (λ x. is_some x.back) rows p (record (slice_index_or rows p no_row) { first = next }) n fits refl
+
+-- another child, or none, is the first of a node, and no child past it has a record
+pub linked_first : (rows : List Row) (p next : ℕ) → AreLinked rows → p < length rows → (0 < next → (next < length rows) × (parent_of rows next ≡ p))
+    → ((b : ℕ) → 0 < b → b < length rows → parent_of rows b ≡ p → next < b → has_record rows b ≡ false) → AreLinked (unlinked rows p next)
+linked_first rows p next h fits child gone = record {
   older = λ n more f. (let e = up n in let o = h.older n more (omega (arith, same, f)) in omega arith);
   first = λ q f more. first q (omega (arith, same, f)) more (eqb_tells q p);
-  next = λ b f more. (let e = next b in let o = h.next b (omega (arith, same, f)) (omega arith) in
+  next = λ b f more. (let e = after b in let o = h.next b (omega (arith, same, f)) (omega arith) in
       ((let u = o.0 in omega arith), up (next_of less b) ∙ ap (parent_of rows) e ∙ o.1 ∙ sym (up b)));
-  past = λ b more f beyond. record_is b ∙ past b more (omega (arith, same, f)) (ap (first_of less) (up b)) beyond (eqb_tells (parent_of rows b) p);
-  between = λ a b f more after before alike. (let e = next a in record_is b ∙ h.between a b (omega (arith, same, f)) more (omega arith) before (sym (up b) ∙ alike ∙ up a));
+  past = λ b more f beyond. record_off rows p next fits b ∙ past b more (omega (arith, same, f)) (ap (first_of less) (up b)) beyond (eqb_tells (parent_of rows b) p);
+  between = λ a b f more above before alike. (let e = after a in record_off rows p next fits b ∙ h.between a b (omega (arith, same, f)) more (omega arith) before (sym (up b) ∙ alike ∙ up a));
 }
   where
     less : List Row
-    less = unlinked rows p (next_of rows c)
+    less = unlinked rows p next
 
     same : length less ≡ length rows
-    same = set_length rows p (record (slice_index_or rows p no_row) { first = next_of rows c })
+    same = set_length rows p (record (slice_index_or rows p no_row) { first = next })
 
     up : (n : ℕ) → parent_of less n ≡ parent_of rows n
-    up n = part_set (λ x. x.parent) rows p (record (slice_index_or rows p no_row) { first = next_of rows c }) n fits refl
+    up n = part_set (λ x. x.parent) rows p (record (slice_index_or rows p no_row) { first = next }) n fits refl
 
-    next : (n : ℕ) → next_of less n ≡ next_of rows n
-    next n = part_set (λ x. x.next) rows p (record (slice_index_or rows p no_row) { first = next_of rows c }) n fits refl
+    after : (n : ℕ) → next_of less n ≡ next_of rows n
+    after n = part_set (λ x. x.next) rows p (record (slice_index_or rows p no_row) { first = next }) n fits refl
 
-    record_is : (n : ℕ) → has_record less n ≡ has_record rows n
-    record_is n = part_set (λ x. is_some x.back) rows p (record (slice_index_or rows p no_row) { first = next_of rows c }) n fits refl
+    first : (q : ℕ) → q < length rows → 0 < first_of less q → (((q == p) ≡ true) × (q ≡ p)) ⊎ (((q == p) ≡ false) × (q ≢ p))
+        → (first_of less q < length less) × (parent_of less (first_of less q) ≡ q)
+    first q f more (inl e) = (
+        let n : first_of less q ≡ next = first_there rows p next q fits e.1 in
+        let o = child (omega (arith, n, more)) in
+        (omega (arith, same, n, o.0), up (first_of less q) ∙ ap (parent_of rows) n ∙ o.1 ∙ sym e.1))
+    first q f more (inr e) = (
+        let n : first_of less q ≡ first_of rows q = first_elsewhere rows p next q e.1 in
+        let o = h.first q f (omega (arith, n, more)) in
+        (omega (arith, same, n, o.0), up (first_of less q) ∙ ap (parent_of rows) n ∙ o.1))
 
+    past : (b : ℕ) → 0 < b → b < length rows → first_of less (parent_of less b) ≡ first_of less (parent_of rows b) → first_of less (parent_of less b) < b
+        → (((parent_of rows b == p) ≡ true) × (parent_of rows b ≡ p)) ⊎ (((parent_of rows b == p) ≡ false) × (parent_of rows b ≢ p)) → has_record rows b ≡ false
+    past b more f at beyond (inl e) = (let n : first_of less (parent_of rows b) ≡ next = first_there rows p next (parent_of rows b) fits e.1 in
+        gone b more f e.1 (omega (arith, at, n, beyond)))
+    past b more f at beyond (inr e) = (let n : first_of less (parent_of rows b) ≡ first_of rows (parent_of rows b) = first_elsewhere rows p next (parent_of rows b) e.1 in
+        h.past b more f (omega (arith, at, n, beyond)))
+
+-- the first child is taken off, once it has no record
+pub linked_off : (rows : List Row) (p c : ℕ) → AreLinked rows → p < length rows → first_of rows p ≡ c → 0 < c → has_record rows c ≡ false → AreLinked (unlinked rows p (next_of rows c))
+linked_off rows p c h fits is some lacks = linked_first rows p (next_of rows c) h fits child gone
+  where
     there : (first_of rows p < length rows) × (parent_of rows (first_of rows p) ≡ p)
     there = h.first p fits (omega (arith, is, some))
 
@@ -121,30 +144,16 @@ linked_off rows p c h fits is some gone = record {
     up_is : parent_of rows c ≡ p
     up_is = ap (parent_of rows) (sym is) ∙ there.1
 
-    first : (q : ℕ) → q < length rows → 0 < first_of less q → (((q == p) ≡ true) × (q ≡ p)) ⊎ (((q == p) ≡ false) × (q ≢ p))
-        → (first_of less q < length less) × (parent_of less (first_of less q) ≡ q)
-    first q f more (inl e) = (
-        let n : first_of less q ≡ next_of rows c = first_there rows p (next_of rows c) q fits e.1 in
-        let o = h.next c inside (omega (arith, n, more)) in
-        (omega (arith, same, n, o.0, inside), up (first_of less q) ∙ ap (parent_of rows) n ∙ o.1 ∙ up_is ∙ sym e.1))
-    first q f more (inr e) = (
-        let n : first_of less q ≡ first_of rows q = first_elsewhere rows p (next_of rows c) q e.1 in
-        let o = h.first q f (omega (arith, n, more)) in
-        (omega (arith, same, n, o.0), up (first_of less q) ∙ ap (parent_of rows) n ∙ o.1))
+    child : 0 < next_of rows c → (next_of rows c < length rows) × (parent_of rows (next_of rows c) ≡ p)
+    child more = (let o = h.next c inside more in (omega (arith, o.0, inside), o.1 ∙ up_is))
 
-    past : (b : ℕ) → 0 < b → b < length rows → first_of less (parent_of less b) ≡ first_of less (parent_of rows b) → first_of less (parent_of less b) < b
-        → (((parent_of rows b == p) ≡ true) × (parent_of rows b ≡ p)) ⊎ (((parent_of rows b == p) ≡ false) × (parent_of rows b ≢ p)) → has_record rows b ≡ false
-    past b more f at beyond (inr e) = (let n : first_of less (parent_of rows b) ≡ first_of rows (parent_of rows b) = first_elsewhere rows p (next_of rows c) (parent_of rows b) e.1 in
-        h.past b more f (omega (arith, at, n, beyond)))
-    past b more f at beyond (inl e) = of (order c b) (eqb_tells b c)
+    gone : (b : ℕ) → 0 < b → b < length rows → parent_of rows b ≡ p → next_of rows c < b → has_record rows b ≡ false
+    gone b more f up beyond = of (order c b) (eqb_tells b c)
       where
-        n : first_of less (parent_of rows b) ≡ next_of rows c
-        n = first_there rows p (next_of rows c) (parent_of rows b) fits e.1
-
         of : (c < b) ⊎ (b ≤ c) → (((b == c) ≡ true) × (b ≡ c)) ⊎ (((b == c) ≡ false) × (b ≢ c)) → has_record rows b ≡ false
-        of (inr l) (inl s) = ap (has_record rows) s.1 ∙ gone
-        of (inr l) (inr s) = (let k = s.1 in h.between c b inside more (omega (arith, at, n, beyond)) (omega arith) (e.1 ∙ sym up_is))
-        of (inl l) s = (let q : first_of rows (parent_of rows b) ≡ c = ap (first_of rows) e.1 ∙ is in h.past b more f (omega (arith, q, l)))
+        of (inr l) (inl s) = ap (has_record rows) s.1 ∙ lacks
+        of (inr l) (inr s) = (let k = s.1 in h.between c b inside more beyond (omega arith) (up ∙ sym up_is))
+        of (inl l) s = (let q : first_of rows (parent_of rows b) ≡ c = ap (first_of rows) up ∙ is in h.past b more f (omega (arith, q, l)))
 
 -- A node is added.
 
@@ -260,14 +269,6 @@ linked_grown rows at b h fits = record {
         let g : d < n = omega (arith, fewer, f) in
         record_old d g ∙ h.between c d f some (omega (arith, next_old c f, more)) fewer (sym (parent_old d g) ∙ same ∙ parent_old c f))
 
--- the next older child is older
-pub next_less : (rows : List Row) (c : ℕ) → AreLinked rows → 0 < c → c < length rows → next_of rows c < c
-next_less rows c h some fits = of (order 0 (next_of rows c))
-  where
-    of : (0 < next_of rows c) ⊎ (next_of rows c ≤ 0) → next_of rows c < c
-    of (inl more) = (h.next c fits more).0
-    of (inr none) = omega arith
-
 -- the opening has no links
 pub linked_opening : AreLinked (no_row ∷ [])
 linked_opening = record {
@@ -283,27 +284,3 @@ linked_opening = record {
 
     no_next : (c : ℕ) → c ≡ 0 → 0 < next_of (no_row ∷ []) c → ⊥
     no_next c e some = (let z : next_of (no_row ∷ []) c ≡ 0 = ap (next_of (no_row ∷ [])) e in omega arith)
-
--- first children are rows, and younger than their parents
-pub firsts_fit : (rows : List Row) → AreLinked rows → FirstsFit rows
-firsts_fit rows h p f some = (
-    let o = h.first p f some in
-    let up = o.1 in
-    let inside : first_of rows p < length rows = o.0 in
-    let k = h.older (first_of rows p) some inside in
-    (omega arith, inside))
-
--- the numbers of all first children
-abbrev pub firsts : List Row → ℕ
-firsts rows = sum_by (λ (r : Row). r.first) rows
-
-pub firsts_same : (rows : List Row) (at : ℕ) (r : Row) → at < length rows → r.first ≡ first_of rows at → firsts (slice_set rows at r) ≡ firsts rows
-firsts_same rows at r fits same =
-    let e = sum_by-set (λ (x : Row). x.first) rows at r no_row fits in
-    omega arith
-
--- they sum up to less once one is taken off
-pub firsts_less : (rows : List Row) (p next : ℕ) → p < length rows → next < first_of rows p → firsts (unlinked rows p next) < firsts rows
-firsts_less rows p next fits less =
-    let e = sum_by-set (λ (x : Row). x.first) rows p (record (slice_index_or rows p no_row) { first = next }) no_row fits in
-    omega arith

@@ -1,10 +1,11 @@
 -- Several moves.
-use Rattle.std.proofs.Common.{◌≡◌, ◌≢◌, ℕ, zero, suc, ◌+◌, ◌<◌, ◌≤◌, ◌==◌, true, false, cond, List, [], ◌∷◌, length, length-append, is_some, refl, sym, ap, ◌∙◌, arith, Option, Some, None, option_map, ◌⊎◌, inl, inr, add-one}
+use Rattle.std.proofs.Common.{◌≡◌, ◌≢◌, ℕ, zero, suc, ◌+◌, ◌<◌, ◌≤◌, ◌==◌, true, false, cond, List, [], ◌∷◌, length, length-append, slice_index_or, is_some, refl, sym, ap, ◌∙◌, arith, Option, Some, None, option_map, ◌⊎◌, inl, inr, add-one}
 use Rattle.std.proofs.lemmas.Bool.Decides.{eqb_tells, nat_tests}
 use Rattle.esx_model.specs.Tree.{Move, Down, parent, path, at, last_descent, IsTree, IsWalk}
 use Rattle.esx_model.specs.History.{History, cursor, here, up_once, down_once, down_to, child, if_alive, undone, redone, undo, redo, then_go, jumped}
 use Rattle.esx_journal.specs.declared.row.Row.{Row}
 use Rattle.esx_journal.specs.Row.{LastsFit, kept_child, child_at}
+use Rattle.esx_journal.specs.Children.{child_of_number}
 use Rattle.esx_journal.specs.Journal.{Kept, Holds, Aims}
 use Rattle.esx_journal.proofs.Paths.{walk_ends, path_short, path_child}
 use Rattle.esx_journal.proofs.Steps.{cursor_fits, descents_of, cursor_of_child, same_descents, chosen, IsChild}
@@ -58,12 +59,16 @@ depth_below j m aim n h k =
     omega arith
 
 pub lasts_fit : (j : Kept) (m : History) (aim : List Move) → Aims j m aim → LastsFit j.rows
-lasts_fit j m aim h at c d below e =
-    let s = h.size in
-    let row = h.each at d (omega arith) in
-    let k = cursor_of_child m.nodes aim at c h.lasts (sym row.last ∙ e) in
-    let f = k.2 in
-    omega arith
+lasts_fit j m aim h at d below = of (slice_index_or j.rows at d).last refl
+  where
+    of : (n : ℕ) → (slice_index_or j.rows at d).last ≡ n → n < length j.rows
+    of zero e = omega arith
+    of (suc n) e = (
+        let s = h.size in
+        let row = h.each at d (omega arith) in
+        let k = cursor_of_child m.nodes aim at (suc n) h.lasts (sym row.last ∙ ap child_of_number e) in
+        let f = k.2 in
+        omega arith)
 
 -- what the rows say of a node's child
 pub child_kept : (j : Kept) (m : History) (aim : List Move) (x : ℕ) (d : Row) → Aims j m aim → x ≤ length m.nodes → child_at j.rows x d ≡ if_alive m.nodes (last_descent m.nodes aim x)

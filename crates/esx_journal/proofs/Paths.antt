@@ -1,9 +1,15 @@
 -- A tree's numbers, paths and ways.
-use Rattle.std.proofs.Common.{◌≡◌, ◌≢◌, ℕ, zero, suc, ◌+◌, ◌<◌, ◌≤◌, ◌==◌, ◌||◌, Bool, true, false, cond, List, [], ◌∷◌, ◌++◌, length, refl, sym, ap, ◌∙◌, arith, length-append, ◌⊎◌, inl, inr}
+use Rattle.std.proofs.Common.{◌≡◌, ◌≢◌, ℕ, zero, suc, ◌+◌, ◌<◌, ◌≤◌, ◌==◌, ◌||◌, Bool, true, false, cond, List, [], ◌∷◌, ◌++◌, length, refl, sym, ap, ◌∙◌, arith, length-append, Some, ◌⊎◌, inl, inr}
 use Rattle.std.proofs.lemmas.Bool.Decides.{eqb_tells}
 use Rattle.std.proofs.lemmas.Bool.{eq-eqb, eqb-true}
 use Rattle.esx_events.specs.declared.event.Event.{Event}
 use Rattle.esx_model.specs.Tree.{Node, Move, Up, Down, parent, alive, path, on_way, at, IsTree, IsWalk}
+use Rattle.esx_journal.specs.Children.{child_of_number}
+
+-- each number but 0 is that of a child
+pub some_child : (n : ℕ) → 0 < n → child_of_number n ≡ Some n
+some_child zero some = absurd (omega arith)
+some_child (suc n) some = refl
 
 pub newest : (n k : ℕ) → n ≤ k + 1 → (n ≡ k + 1) ⊎ (n ≤ k)
 newest n k h = elim (eqb_tells n (k + 1)) as (λ _. (n ≡ k + 1) ⊎ (n ≤ k)) [ inl e ↦ inl e.1 | inr e ↦ inr (let f = e.1 in omega arith) ]

@@ -4,7 +4,7 @@ use Rattle.std.proofs.lemmas.Bool.Decides.{eqb_tells}
 use Rattle.std.proofs.lemmas.Bool.{eqb-true}
 use Rattle.esx_model.specs.Tree.{Node, Move, Up, Down, parent, alive, path, on_way, at, last_descent, IsTree, IsWalk}
 use Rattle.esx_model.specs.Branching.{dropped, standing_below}
-use Rattle.esx_journal.proofs.Paths.{newest, way_new, way_old, alive_new, alive_old, way_below}
+use Rattle.esx_journal.proofs.Paths.{alive_zero, newest, way_new, way_old, alive_new, alive_old, way_below}
 
 pub dropped_length : (n : ℕ) (nodes : List Node) → length (dropped n nodes) ≡ length nodes
 unfolding dropped
@@ -69,11 +69,11 @@ dropped_alive n (x ∷ older) m = ap (λ k. cond (m == k + 1) (x.alive && not (o
     of (inr e) = ap (λ b. cond b (x.alive && not (on_way (x ∷ older) (length older + 1) n)) (alive older m && not (on_way older m n))) e.0
         ∙ sym (ap (λ b. cond b x.alive (alive older m) && not (cond b ((n == m) || on_way older x.parent n) (on_way older m n))) e.0)
 
-both_true : (a b : Bool) → (a && b) ≡ true → (a ≡ true) × (b ≡ true)
+pub both_true : (a b : Bool) → (a && b) ≡ true → (a ≡ true) × (b ≡ true)
 both_true true b h = (refl, h)
 both_true false b h = cc
 
-not_by : (b : Bool) → not b ≡ true → b ≡ false
+pub not_by : (b : Bool) → not b ≡ true → b ≡ false
 not_by true h = cc
 not_by false h = refl
 
@@ -131,6 +131,20 @@ under_all (x ∷ older) n =
     let size : length (x ∷ older) + 1 ≡ suc k = omega arith in
     ap (under (x ∷ older) n) size ∙ ap (λ a. cond (a && on_way (x ∷ older) k n) 1 0 + under (x ∷ older) n k) (alive_new x older k refl)
     ∙ ap (λ u. cond (x.alive && on_way (x ∷ older) k n) 1 0 + u) (under_old x older n k (omega arith) ∙ under_all older n)
+
+-- no more than there are
+pub under_most : (nodes : List Node) (n k : ℕ) → under nodes n (suc k) ≤ k
+unfolding under
+under_most nodes n zero = none (alive nodes 0) (on_way nodes 0 n) (alive_zero nodes)
+  where
+    none : (a w : Bool) → a ≡ false → cond (a && w) 1 0 + 0 ≤ 0
+    none true w h = cc
+    none false w h = omega arith
+under_most nodes n (suc k) = (let i = under_most nodes n k in let z = one (alive nodes (suc k) && on_way nodes (suc k) n) in omega arith)
+  where
+    one : (b : Bool) → cond b 1 0 ≤ 1
+    one true = omega arith
+    one false = omega arith
 
 pub false_by : (b : Bool) → (b ≡ true → ⊥) → b ≡ false
 false_by true h = absurd (h refl)

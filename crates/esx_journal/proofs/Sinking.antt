@@ -12,7 +12,7 @@ use Rattle.esx_journal.specs.declared.row.Row.{Row}
 use Rattle.esx_journal.specs.Journal.{Kept, IsRow, Aims, Holds}
 use Rattle.esx_journal.specs.Ways.{ups, downs, Climbed}
 use Rattle.esx_journal.proofs.Lists.{set_there, set_elsewhere, set_length}
-use Rattle.esx_journal.proofs.Paths.{alive_fits, is_other, path_child, parent_below, parent_zero}
+use Rattle.esx_journal.proofs.Paths.{alive_fits, is_other, path_child, parent_below, parent_zero, some_child}
 use Rattle.esx_journal.proofs.Steps.{cursor_fits, descents_of, aims_same}
 use Rattle.esx_journal.proofs.Back.{above_parent, lasts_ups}
 use Rattle.esx_journal.proofs.Ways.{way_from, way_to, way_none}
@@ -204,10 +204,10 @@ depth_some j m aim h some =
 
 -- the rows, with a node as its parent's last child
 pub aims_at : (j : Kept) (m : History) (aim : List Move) (n p : ℕ) (row d : Row) → Aims j m aim → 0 < n → n ≤ length m.nodes → p ≡ parent m.nodes n → row ≡ slice_index_or j.rows p d
-    → Aims (record j { rows = slice_set j.rows p (record row { last = Some n }) }) m (Down n ∷ aim)
+    → Aims (record j { rows = slice_set j.rows p (record row { last = n }) }) m (Down n ∷ aim)
 unfolding last_descent
 aims_at j m aim n p row d h some fits up is =
-    let new : Row = record row { last = Some n } in
+    let new : Row = record row { last = n } in
     let below = parent_below m.nodes n h.tree some fits in
     let s = h.size in
     let room : p < length j.rows = omega arith in
@@ -226,7 +226,7 @@ aims_at j m aim n p row d h some fits up is =
       each = λ x e within. of x e within room (eqb_tells x p);
     }
   where
-    there : (x : ℕ) → x ≤ length m.nodes → x ≡ p → IsRow m (Down n ∷ aim) (cursor m) x (record row { last = Some n })
+    there : (x : ℕ) → x ≤ length m.nodes → x ≡ p → IsRow m (Down n ∷ aim) (cursor m) x (record row { last = n })
     there x within k =
         let old : IsRow m aim (cursor m) x (slice_index_or j.rows x d) = h.each x d within in
         let same : slice_index_or j.rows x d ≡ row = ap (λ i. slice_index_or j.rows i d) k ∙ sym is in
@@ -234,7 +234,7 @@ aims_at j m aim n p row d h some fits up is =
         let at_x : IsRow m aim (cursor m) x row = subst P same old in
         record {
           up = at_x.up;
-          last = sym (ap (λ b. cond b (Some n) (last_descent m.nodes aim x)) (eq-eqb x (parent m.nodes n) (k ∙ up)));
+          last = some_child n some ∙ sym (ap (λ b. cond b (Some n) (last_descent m.nodes aim x)) (eq-eqb x (parent m.nodes n) (k ∙ up)));
           live = at_x.live;
           accepted = at_x.accepted;
           back = at_x.back;
@@ -252,9 +252,9 @@ aims_at j m aim n p row d h some fits up is =
         }
 
     of : (x : ℕ) (e : Row) → x ≤ length m.nodes → p < length j.rows → (((x == p) ≡ true) × (x ≡ p)) ⊎ (((x == p) ≡ false) × (x ≢ p))
-        → IsRow m (Down n ∷ aim) (cursor m) x (slice_index_or (slice_set j.rows p (record row { last = Some n })) x e)
-    of x e within room (inl k) = (let P : Row → Type 0 = IsRow m (Down n ∷ aim) (cursor m) x in subst P (sym (set_there j.rows p x (record row { last = Some n }) e room k.1)) (there x within k.1))
-    of x e within room (inr k) = (let P : Row → Type 0 = IsRow m (Down n ∷ aim) (cursor m) x in subst P (sym (set_elsewhere j.rows p x (record row { last = Some n }) e k.1)) (elsewhere x e within k.1))
+        → IsRow m (Down n ∷ aim) (cursor m) x (slice_index_or (slice_set j.rows p (record row { last = n })) x e)
+    of x e within room (inl k) = (let P : Row → Type 0 = IsRow m (Down n ∷ aim) (cursor m) x in subst P (sym (set_there j.rows p x (record row { last = n }) e room k.1)) (there x within k.1))
+    of x e within room (inr k) = (let P : Row → Type 0 = IsRow m (Down n ∷ aim) (cursor m) x in subst P (sym (set_elsewhere j.rows p x (record row { last = n }) e k.1)) (elsewhere x e within k.1))
 
 -- after so many moves down
 abbrev pub sunk : (h : History) (goal : ℕ) (j : Kept) (down : ℕ) → Climbed h goal j down → ℕ → History

@@ -1,10 +1,15 @@
 -- How the children of each node are found.
-use Rattle.std.specs.Prelude.{◌≡◌, ℕ, ◌<◌, Bool, false, List, length, None, is_some, slice_index_or, slice_set}
+use Rattle.std.specs.Prelude.{◌≡◌, ℕ, zero, suc, ◌<◌, Bool, false, List, length, Option, Some, None, is_some, slice_index_or, slice_set}
 use Rattle.esx_journal.specs.declared.row.Row.{Row}
+
+-- the child of a number, and none of 0: the opening is nobody's child
+abbrev pub child_of_number : ℕ → Option ℕ
+child_of_number zero = None
+child_of_number (suc n) = Some (suc n)
 
 -- a row for the place where there is none
 abbrev pub no_row : Row
-no_row = record { parent = 0; back = None; last = None; first = 0; next = 0 }
+no_row = record { parent = 0; last = 0; first = 0; next = 0; back = None }
 
 abbrev pub parent_of : List Row → ℕ → ℕ
 parent_of rows n = (slice_index_or rows n no_row).parent
@@ -25,15 +30,6 @@ pub record AreLinked (rows : List Row) : Type 0 where
   pub next : (c : ℕ) → c < length rows → 0 < next_of rows c → (next_of rows c < c) × (parent_of rows (next_of rows c) ≡ parent_of rows c)
   pub past : (c : ℕ) → 0 < c → c < length rows → first_of rows (parent_of rows c) < c → has_record rows c ≡ false
   pub between : (c b : ℕ) → c < length rows → 0 < b → next_of rows c < b → b < c → parent_of rows b ≡ parent_of rows c → has_record rows b ≡ false
-
--- each first child is younger than its parent, and has a row
-abbrev pub FirstsFit : List Row → Type 0
-FirstsFit rows = (p : ℕ) → p < length rows → 0 < first_of rows p → (p < first_of rows p) × (first_of rows p < length rows)
-
--- from a node down, each time to the first child
-pub data Reaches (rows : List Row) (from : ℕ) : ℕ → Type 0 where
-  Here : Reaches rows from from
-  Deeper : (p : ℕ) → Reaches rows from p → p < length rows → 0 < first_of rows p → Reaches rows from (first_of rows p)
 
 -- the rows without the first child of a place, which is followed by another
 abbrev pub unlinked : List Row → ℕ → ℕ → List Row

@@ -18,7 +18,7 @@ use Rattle.esx_machine.specs.Machine as machines
 use Rattle.esx_machine.specs.Machine.{Back}
 use Rattle.esx_machine.specs.Machine.{Trades}
 use Rattle.esx_journal.specs.declared.row.Row.{Row}
-use Rattle.esx_journal.specs.Children.{AreLinked}
+use Rattle.esx_journal.specs.Children.{AreLinked, child_of_number}
 
 pub record Kept : Type 0 where
   pub machine : machines.Kept
@@ -54,7 +54,7 @@ Leads false back node above = Trades back above node
 -- what is kept of node n, where the cursor is at node c and the last children are those of a walk
 pub record IsRow (h : History) (aim : List Move) (c n : ℕ) (row : Row) : Type 0 where
   pub up : row.parent ≡ parent h.nodes n
-  pub last : row.last ≡ last_descent h.nodes aim n
+  pub last : child_of_number row.last ≡ last_descent h.nodes aim n
   pub live : is_some row.back ≡ alive h.nodes n
   pub accepted : IsAccepted h.config (path h.nodes n)
   pub back : (r : Back) → row.back ≡ Some r → Leads (on_way h.nodes c n) r (kept_after h.config (path h.nodes n)) (kept_after h.config (path h.nodes (parent h.nodes n)))

@@ -58,10 +58,10 @@ impl Journal {
         let mut rows = Vec::new(alloc);
         rows.push(Row {
             parent: 0,
-            back: None,
-            last: None,
+            last: 0,
             first: 0,
             next: 0,
+            back: None,
         })?;
         Ok(Journal {
             machine,
@@ -211,7 +211,7 @@ impl Journal {
         ensures holds { (h : History) (aim : List Move) → Aims self.old h aim → (result ≡ parent h.nodes node) × Aims self.new h (Down node ∷ aim) }
     {
         let parent = self.rows[node as usize].parent;
-        self.rows[parent as usize].last = Some(node);
+        self.rows[parent as usize].last = node;
         parent
     }
 
@@ -283,7 +283,8 @@ impl Journal {
 
     /// Drops a node and all below it, and answers how many there were. `NoSuchNode` where it was never
     /// made or was pruned, `OnPath` where the cursor stands on it or below it. Their numbers are not used again.
-    /// It costs the nodes that go, the children of theirs that were dropped before, and the cursor's depth.
+    /// It costs the cursor's depth, and the nodes that go with the children of theirs that were dropped before,
+    /// or, where these are many, a look at each node that was made later.
     pub fn prune(&mut self, node: u32) -> Result<u32, Refusal>
         ensures { (h : History) → Holds self.old h → Prunes result self.old self.new (prune node h) }
     {

@@ -1,32 +1,43 @@
 //! What is kept of each node.
 
-ghost use Rattle.std.specs.Prelude.{◌≡◌, ◌<◌, ◌≤◌, ◌^◌, OnOk, IfOk, Some, List, if◌then◌else◌, length, slice_index_or, slice_set, vec_len, vec_capacity};
+ghost use Rattle.std.specs.Prelude.{◌≡◌, ◌<◌, ◌≤◌, ◌+◌, ◌^◌, ℕ, true, OnOk, IfOk, Some, List, if◌then◌else◌, length, slice_index_or, slice_set, vec_len, vec_capacity};
 ghost use Rattle.esx_model.specs.Tree.{Node};
 ghost use Rattle.esx_machine.specs.Machine.{Back};
 ghost use Rattle.esx_machine.specs.Machine.{Trades};
 ghost use Rattle.esx_machine.specs.Machine as machines;
 ghost use Rattle.esx_journal.specs.declared.row.Row.{Row};
-ghost use Rattle.esx_journal.specs.Row.{FlipsAt, Flipped, LastsFit, child_at, grown, AreNodes, Drops, emptied};
+ghost use Rattle.esx_journal.specs.Row.{FlipsAt, Flipped, LastsFit, child_at, grown, AreNodes, Lost, Drops, emptied, lost_parent};
 ghost use Rattle.esx_journal.specs.Children.{AreLinked, has_record, no_row};
 
-use crate::children::{lowest, unlink};
+use crate::children::{forget_children, unlink};
 use esx_events::Answer;
 use esx_machine::{Machine, Record};
 use std::alloc::AllocError;
+use std::mem::size_of;
 
 /// A node. Its number is its place among the rows; node 0, the opening, has no record.
+///
+/// The opening is nobody's child, so 0 stands for no child.
 #[derive(Drop)]
 pub struct Row {
     pub parent: u32,
+    /// The child through which the cursor last went down.
+    pub last: u32,
+    /// The youngest child.
+    pub first: u32,
+    /// The next older child of the same parent.
+    pub next: u32,
     /// Leads over the edge to the parent, from the side where the cursor is.
     pub back: Option<Record>,
-    /// The child through which the cursor last went down.
-    pub last: Option<u32>,
-    /// The youngest child, and 0 where there is none: the opening is nobody's child.
-    pub first: u32,
-    /// The next older child of the same parent, and 0 where there is none.
-    pub next: u32,
 }
+
+const _: () = prove!(size_of::<Row>() == 56);
+
+/// A prune goes along links for one step in so many rows from its node on.
+const ROWS_A_STEP: usize = 128;
+
+/// It goes so many steps more.
+const MORE_STEPS: usize = 16;
 
 /// Trades a node's record with the machine, if it has one.
 pub fn flip_row(machine: &mut Machine, rows: &mut Vec<Row>, at: usize)
@@ -49,8 +60,8 @@ pub fn child_of(rows: &[Row], at: usize) -> Option<u32>
     requires fits { LastsFit rows.now }
     ensures { (d : Row) → result ≡ child_at rows.now at d }
 {
-    let next = rows[at].last?;
-    if rows[next as usize].back.is_some() {
+    let next = rows[at].last;
+    if next != 0 && rows[next as usize].back.is_some() {
         Some(next)
     } else {
         None
@@ -86,19 +97,19 @@ pub fn add_child(rows: &mut Vec<Row>, at: u32, child: u32, back: Record)
     let next = rows[at as usize].first;
     let row = Row {
         parent: at,
-        back: Some(back),
-        last: None,
+        last: 0,
         first: 0,
         next,
+        back: Some(back),
     };
     rows.push(row).unwrap();
     let parent = &mut rows[at as usize];
-    parent.last = Some(child);
+    parent.last = child;
     parent.first = child;
 }
 
-/// Drops the records of a node and of all that stand below it, and answers how many. It looks at these alone,
-/// and at children of theirs that were dropped before, each of which it takes off its parent.
+/// Drops the records of a node and of all that stand below it, and answers how many. It goes along the links to
+/// children for some steps, and where these do not suffice, once through the later rows.
 pub fn drop_below(rows: &mut Vec<Row>, node: u32) -> u32
     requires nodes { (nodes : List Node) × AreNodes rows.old.items nodes }
     requires linked { AreLinked rows.old.items }
@@ -108,15 +119,76 @@ pub fn drop_below(rows: &mut Vec<Row>, node: u32) -> u32
     ensures drops { (nodes : List Node) → AreNodes rows.old.items nodes → Drops result rows.old.items rows.new.items nodes node }
     ensures linked { AreLinked rows.new.items }
 {
-    let mut gone = 0;
-    let mut at = lowest(rows, node);
-    'drop: while at != node {
-        gone += drop_record(rows, at as usize);
-        let parent = rows[at as usize].parent;
-        unlink(rows, parent, at);
-        at = lowest(rows, parent);
+    let steps = (rows.len() - node as usize) / ROWS_A_STEP + MORE_STEPS;
+    let (gone, are_all) = drop_by_links(rows, node, steps);
+    if are_all {
+        gone
+    } else {
+        gone + drop_by_numbers(rows, node)
     }
-    gone + drop_record(rows, node as usize)
+}
+
+/// Drops records of a node and of what stands below it, children before their parents, in so many steps along
+/// the links to children. A child that went is taken off its parent. Answers how many went, and whether they were all.
+fn drop_by_links(rows: &mut Vec<Row>, node: u32, steps: usize) -> (u32, bool)
+    requires nodes { (nodes : List Node) × AreNodes rows.old.items nodes }
+    requires linked { AreLinked rows.old.items }
+    requires some { 0 < node }
+    requires inside { node < length rows.old.items }
+    requires small { length rows.old.items ≤ 2 ^ 32 }
+    ensures lost { (nodes : List Node) → AreNodes rows.old.items nodes → Lost result.0 rows.old.items rows.new.items nodes node }
+    ensures drops { result.1 ≡ true → (nodes : List Node) → AreNodes rows.old.items nodes → Drops result.0 rows.old.items rows.new.items nodes node }
+    ensures linked { AreLinked rows.new.items }
+{
+    let mut gone = 0;
+    let mut at = node;
+    'walk: for _step in 0..steps {
+        let first = rows[at as usize].first;
+        if first != 0 {
+            at = first;
+        } else {
+            gone += drop_record(rows, at as usize);
+            if at == node {
+                return (gone, true);
+            }
+            let parent = rows[at as usize].parent;
+            unlink(rows, parent, at);
+            at = parent;
+        }
+    }
+    (gone, false)
+}
+
+/// Drops the records of a node and of what still stands below it, in the order of numbers: each goes whose parent
+/// went. Answers how many these were. It looks at each row from the node's on once, and leaves no child to the node.
+fn drop_by_numbers(rows: &mut Vec<Row>, node: u32) -> u32
+    requires part { (old : List Row) × (nodes : List Node) × (gone : ℕ) × AreNodes old nodes × Lost gone old rows.old.items nodes node }
+    requires linked { AreLinked rows.old.items }
+    requires some { 0 < node }
+    requires inside { node < length rows.old.items }
+    requires small { length rows.old.items ≤ 2 ^ 32 }
+    ensures drops { (old : List Row) (nodes : List Node) (gone : ℕ) → AreNodes old nodes → Lost gone old rows.old.items nodes node
+        → Drops (gone + result) old rows.new.items nodes node }
+    ensures linked { AreLinked rows.new.items }
+{
+    let mut gone = drop_record(rows, node as usize);
+    'pass: for at in node as usize + 1..rows.len() {
+        if has_lost_parent(rows, at) {
+            gone += drop_record(rows, at);
+        }
+    }
+    forget_children(rows, node);
+    gone
+}
+
+/// Does a node stand below another that went? The opening never goes.
+fn has_lost_parent(rows: &[Row], at: usize) -> bool
+    requires inside { at < length rows.now }
+    requires parent { (d : Row) → (slice_index_or rows.now at d).parent < length rows.now }
+    ensures { (d : Row) → result ≡ lost_parent rows.now at d }
+{
+    let row = &rows[at];
+    row.back.is_some() && row.parent != 0 && rows[row.parent as usize].back.is_none()
 }
 
 /// Lets a node's record go, and answers how many it had: one or none.

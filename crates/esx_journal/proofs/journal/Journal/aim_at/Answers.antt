@@ -1,4 +1,4 @@
-use Rattle.std.proofs.Common.{◌≡◌, ◌<◌, ◌≤◌, ◌∙◌, ◌∷◌, sym, ap, subst, arith, length, List, Some, is_some, slice_index_or}
+use Rattle.std.proofs.Common.{◌≡◌, ◌<◌, ◌≤◌, ◌∙◌, ◌∷◌, sym, ap, subst, arith, length, List, is_some, slice_index_or}
 use Rattle.esx_model.specs.Tree.{Move, Down, parent}
 use Rattle.esx_model.specs.History.{History}
 use Rattle.esx_journal.specs.declared.row.Row.{Row}
@@ -53,7 +53,7 @@ invariant_of-self c =
       holds = aims_at _ k.history k.aim c.args.node c.index.result.now.parent c.index_mut.result.now c.index_mut.result.now k.holds some fits up c.index_mut.ensures.value;
       fits = k.fits;
       limit = k.limit;
-      linked = linked_set c.self.inside.rows.items c.index.result.now.parent (record c.index_mut.result.now { last = Some c.args.node }) k.linked inside
+      linked = linked_set c.self.inside.rows.items c.index.result.now.parent (record c.index_mut.result.now { last = c.args.node }) k.linked inside
           (record {
             up = ap (λ (r : Row). r.parent) here;
             first = ap (λ (r : Row). r.first) here;
