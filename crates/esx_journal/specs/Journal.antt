@@ -178,3 +178,8 @@ Does (Err e) old new d = Refused old new e d
 abbrev pub DoesOnce : Result Answer Refusal → Kept → Kept → Result (Answer × History) Refusal → Type 0
 DoesOnce (Ok answer) old new d = Accepted new (answer, answer) d
 DoesOnce (Err e) old new d = Refused old new e d
+
+-- and where something else is told beside it
+abbrev pub DoesWith : {A : Type 0} → Result (Answer × A) Refusal → Kept → Kept → Result (Answer × History) Refusal → Type 0
+DoesWith (Ok told) old new d = Accepted new (told.0, told.0) d
+DoesWith (Err e) old new d = Refused old new e d

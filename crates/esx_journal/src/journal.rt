@@ -1,6 +1,6 @@
 //! The journal: one row for each node, at its number.
 
-ghost use Rattle.std.specs.Prelude.{◌≡◌, ◌≢◌, ◌<◌, ◌≤◌, ◌+◌, ◌∷◌, ℕ, List, length, IfOk, IfErr, is_some, true, Some, Ok};
+ghost use Rattle.std.specs.Prelude.{◌≡◌, ◌≢◌, ◌<◌, ◌≤◌, ◌+◌, ◌∷◌, ℕ, List, length, IfOk, IfErr, is_some, true, Some, None, Ok, if◌then◌else◌};
 ghost use Rattle.esx_types.specs.Ranges.{IsConfig};
 ghost use Rattle.esx_model.specs.Replay.{replay_of};
 ghost use Rattle.esx_model.specs.Tree.{Move, Down, parent, last_descent};
@@ -8,10 +8,8 @@ ghost use Rattle.esx_model.specs.History.{History, cursor, here, up_once, down_t
 ghost use Rattle.esx_model.specs.Branching.{stands, is_on_path, goto, visit, mark, prune};
 ghost use Rattle.esx_model.specs.WhatIf.{what_if};
 ghost use Rattle.esx_machine.specs.Machine.{Shows, book_in};
-ghost use Rattle.esx_journal.specs.Journal.{Aims, Holds, Moves, Goes, Names, Prunes, Does, stand_at, kept_at};
+ghost use Rattle.esx_journal.specs.Journal.{Aims, Holds, Moves, Goes, Names, Prunes, Does, DoesOnce, DoesWith, stand_at, kept_at};
 ghost use Rattle.esx_journal.specs.Ways.{Climbed};
-
-mod once;
 
 use crate::marks::Marks;
 use crate::row::{Row, add_child, child_of, drop_below, flip_row, revert, take_room};
@@ -80,17 +78,34 @@ impl Journal {
     pub fn apply(&mut self, event: &Event) -> Result<(Answer, Answer), Refusal>
         ensures { (h : History) → Holds self.old h → Does result self.old self.new (do_event event.now h) }
     {
+        let (answer, copy) = self.make(event, true)?;
+        Ok((answer, copy.unwrap()))
+    }
+
+    /// Makes an event as `apply` does, and gives its answer, of which it makes no copy.
+    pub fn apply_once(&mut self, event: &Event) -> Result<Answer, Refusal>
+        ensures { (h : History) → Holds self.old h → DoesOnce result self.old self.new (do_event event.now h) }
+    {
+        let (answer, _) = self.make(event, false)?;
+        Ok(answer)
+    }
+
+    /// Makes an event, and gives its answer, with a copy where one is wanted.
+    fn make(&mut self, event: &Event, with_copy: bool) -> Result<(Answer, Option<Answer>), Refusal>
+        ensures does { (h : History) → Holds self.old h → DoesWith result self.old self.new (do_event event.now h) }
+        ensures copy { IfOk result (λ told. told.1 ≡ (if with_copy then Some told.0 else None)) }
+    {
         let made = self.rows.len();
         if made > self.nodes as usize {
             return Err(Refusal::Full);
         }
         let (answer, back) = self.machine.apply(event)?;
-        match take_room(&mut self.rows, answer) {
-            Ok(answers) => {
+        match take_room(&mut self.rows, answer, with_copy) {
+            Ok(told) => {
                 add_child(&mut self.rows, self.cursor, made as u32, back);
                 self.cursor = made as u32;
                 self.depth += 1;
-                Ok(answers)
+                Ok(told)
             }
             Err(_) => {
                 revert(&mut self.machine, back);

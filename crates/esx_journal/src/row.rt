@@ -1,6 +1,6 @@
 //! What is kept of each node.
 
-ghost use Rattle.std.specs.Prelude.{◌≡◌, ◌<◌, ◌≤◌, ◌+◌, ◌^◌, ℕ, true, OnOk, IfOk, Some, List, if◌then◌else◌, length, slice_index_or, slice_set, vec_len, vec_capacity};
+ghost use Rattle.std.specs.Prelude.{◌≡◌, ◌<◌, ◌≤◌, ◌+◌, ◌^◌, ℕ, true, OnOk, IfOk, Some, None, List, if◌then◌else◌, length, slice_index_or, slice_set, vec_len, vec_capacity};
 ghost use Rattle.esx_model.specs.Tree.{Node};
 ghost use Rattle.esx_machine.specs.Machine.{Back};
 ghost use Rattle.esx_machine.specs.Machine.{Trades};
@@ -76,15 +76,22 @@ pub fn revert(machine: &mut Machine, mut back: Record)
     machine.flip(&mut back);
 }
 
-/// Takes room for one more row, and copies the answer.
-pub fn take_room(rows: &mut Vec<Row>, answer: Answer) -> Result<(Answer, Answer), AllocError>
+/// Takes room for one more row, and hands the answer on, with a copy where one is wanted.
+pub fn take_room(
+    rows: &mut Vec<Row>,
+    answer: Answer,
+    with_copy: bool,
+) -> Result<(Answer, Option<Answer>), AllocError>
     ensures items { rows.new.items ≡ rows.old.items }
     ensures room { OnOk result (vec_len rows.new < vec_capacity rows.new) }
-    ensures answers { IfOk result (λ answers. answers ≡ (answer, answer)) }
+    ensures told { IfOk result (λ told. told ≡ (answer, (if with_copy then Some answer else None))) }
 {
     rows.reserve(1)?;
+    if !with_copy {
+        return Ok((answer, None));
+    }
     let copy = answer.copy()?;
-    Ok((answer, copy))
+    Ok((answer, Some(copy)))
 }
 
 /// Adds a child under a node, in room that was taken, and remembers it there as the last one and the youngest.

@@ -1,4 +1,4 @@
-use Rattle.std.proofs.Common.{rules, ◌≡◌, ◌∙◌, sym, ap, subst, arith, refl, ◌<◌, ◌+◌, ◌^◌, ◌∷◌, length, List, Result, Ok, Err}
+use Rattle.std.proofs.Common.{rules, ◌≡◌, ◌∙◌, sym, ap, subst, arith, refl, ◌<◌, ◌+◌, ◌^◌, ◌∷◌, length, List, cond, Option, Some, None, Result, Ok, Err}
 use Rattle.std.specs.Prelude.{IsErrAnd, IsOk}
 use Rattle.esx_events.specs.declared.event.Answer.{Answer}
 use Rattle.esx_events.specs.declared.event.Refusal.{Refusal}
@@ -7,20 +7,20 @@ use Rattle.esx_model.specs.Tree.{Down}
 use Rattle.esx_model.specs.History.{History, do_event, done}
 use Rattle.esx_journal.specs.declared.row.Row.{Row}
 use Rattle.esx_journal.specs.Row.{grown}
-use Rattle.esx_journal.specs.Journal.{Kept, Holds, IsKept, Does, Refused, Accepted}
+use Rattle.esx_journal.specs.Journal.{Kept, Holds, IsKept, DoesWith, Refused, Accepted}
 use Rattle.esx_journal.proofs.Steps.{cursor_fits}
 use Rattle.esx_journal.specs.Children.{AreLinked, no_row}
 use Rattle.esx_journal.proofs.Linking.{linked_grown}
 use Rattle.esx_journal.proofs.Moves.{depth_small}
 use Rattle.esx_journal.proofs.Grows.{applied, accepted_is, refused, full_is, trades_back, rise_here}
-use Rattle.esx_journal.proofs.journal.Journal.apply.Goals as goal
+use Rattle.esx_journal.proofs.journal.Journal.make.Goals as goal
 
-err_is : (r : Result (Answer × Answer) Refusal) (e : Refusal) → IsErrAnd r (λ x. x ≡ e) → r ≡ Err e
+err_is : (r : Result (Answer × Option Answer) Refusal) (e : Refusal) → IsErrAnd r (λ x. x ≡ e) → r ≡ Err e
 err_is (Err x) e h = ap (λ y. Err y) h
 err_is (Ok x) e h = absurd h
 
-pub returns-then-made-self : goal.returns-then-made-self
-returns-then-made-self c = λ m h. record {
+pub returns-then-made-self-clause-does : goal.returns-then-made-self-clause-does
+returns-then-made-self-clause-does c = λ m h. record {
   same = refl;
   why = λ _. full_is m c.args.event.now (let s = h.size in let l = h.limit in let v = ap (λ (x : Kept). x.nodes) c.self.view_is in let w = ap (λ (x : Kept). length x.rows) c.self.view_is in omega arith);
   late = λ o. cc;
@@ -43,8 +43,8 @@ invariant_of-self c =
     let P : machines.Kept → Type 0 = λ q. IsKept (record old { machine = q }) in
     subst P (sym x.0) k
 
-pub returns-in_err-answer : goal.returns-in_err-answer
-returns-in_err-answer c =
+pub returns-in_err-answer-clause-does : goal.returns-in_err-answer-clause-does
+returns-in_err-answer-clause-does c =
     let r = c.in_err-answer.field-0.0 in
     let old : Kept = record { machine = c.self.inside.machine; rows = c.self.inside.rows.items; cursor = c.self.inside.cursor; depth = c.self.inside.depth; nodes = c.self.inside.nodes; marks = c.self.inside.marks } in
     let new : Kept = record old { machine = c.apply.new.self } in
@@ -54,7 +54,7 @@ returns-in_err-answer c =
     let s = h.size in
     let x = refused old c.apply.new.self m c.args.event.now r no_row h (omega arith) c.in_err-answer.ensures.event in
     record { same = ap (λ q. record old { machine = q }) x.0; why = x.1; late = x.2 }) in
-    let Q : Result (Answer × Answer) Refusal → Type 0 = λ q. (m : History) → Holds c.args.self.now m → Does q c.args.self.now new (do_event c.args.event.now m) in
+    let Q : Result (Answer × Option Answer) Refusal → Type 0 = λ q. (m : History) → Holds c.args.self.now m → DoesWith q c.args.self.now new (do_event c.args.event.now m) in
     subst Q (sym (err_is c.from_residual.result r c.from_residual.ensures.1)) all
 
 pub add_child-requires-clause-inside : goal.add_child-requires-clause-inside
@@ -96,13 +96,12 @@ invariant_of-self-in-Ok c =
           (linked_grown old.rows c.self.inside.cursor c.in_ok-answer.back k.linked inside);
     }
 
-pub returns-in-Ok : goal.returns-in-Ok
+pub returns-in-Ok-clause-does : goal.returns-in-Ok-clause-does
 unfolding done
-returns-in-Ok c =
+returns-in-Ok-clause-does c =
     let old : Kept = record { machine = c.self.inside.machine; rows = c.self.inside.rows.items; cursor = c.self.inside.cursor; depth = c.self.inside.depth; nodes = c.self.inside.nodes; marks = c.self.inside.marks } in
     let new : Kept = record { machine = c.apply.new.self; rows = c.add_child.new.rows.items; cursor = c.len-made.result; depth = c.self.inside.depth + 1; nodes = c.self.inside.nodes; marks = c.self.inside.marks } in
-    let answers : c.in-Ok.answers ≡ (c.in_ok-answer.answer, c.in_ok-answer.answer) = c.in-Ok.ensures.answers in
-    let P : Kept → Type 0 = λ k. (m : History) → Holds k m → Accepted new c.in-Ok.answers (do_event c.args.event.now m) in
+    let P : Kept → Type 0 = λ k. (m : History) → Holds k m → Accepted new (c.in-Ok.told.0, c.in-Ok.told.0) (do_event c.args.event.now m) in
     subst P c.self.view_is (λ m h.
     let l = h.limit in
     let s = h.size in
@@ -110,8 +109,8 @@ returns-in-Ok c =
     (c.add_child.ensures no_row ∙ ap (λ rows. grown rows c.self.inside.cursor c.in_ok-answer.back no_row) c.in-Ok.ensures.items) (omega arith) refl refl refl in
     record {
       after = done c.args.event.now m;
-      gives = x.1 ∙ ap (λ a. Ok (a, done c.args.event.now m)) (sym (ap (λ (a : Answer × Answer). a.0) answers));
-      copy = ap (λ (a : Answer × Answer). a.1) answers ∙ sym (ap (λ (a : Answer × Answer). a.0) answers);
+      gives = x.1 ∙ ap (λ a. Ok (a, done c.args.event.now m)) (sym (ap (λ (t : Answer × Option Answer). t.0) c.in-Ok.ensures.told));
+      copy = refl;
       holds = x.0;
     })
 
@@ -130,8 +129,8 @@ invariant_of-self-in-Err c =
     let R : List Row → Type 0 = λ q. IsKept (record old { rows = q }) in
     subst Q (sym home) (subst R (sym c.in-Err.ensures.items) k)
 
-pub returns-in-Err : goal.returns-in-Err
-returns-in-Err c =
+pub returns-in-Err-clause-does : goal.returns-in-Err-clause-does
+returns-in-Err-clause-does c =
     let k = c.self.invariant in
     let old : Kept = record { machine = c.self.inside.machine; rows = c.self.inside.rows.items; cursor = c.self.inside.cursor; depth = c.self.inside.depth; nodes = c.self.inside.nodes; marks = c.self.inside.marks } in
     let home = c.revert.ensures c.self.inside.machine (trades_back old c.apply.new.self k.history c.args.event.now c.in_ok-answer.answer c.in_ok-answer.back no_row k.holds c.in_ok-answer.ensures.event) in
@@ -144,3 +143,8 @@ returns-in-Err c =
     let Q : Result (Answer × History) Refusal → Type 0 = IsOk in
     subst Q (sym (accepted_is old c.apply.new.self m c.args.event.now c.in_ok-answer.answer c.in_ok-answer.back no_row h (omega arith) c.in_ok-answer.ensures.event)) refl) in
     λ m h. record { same = all ∙ c.self.view_is; why = λ o. absurd (o refl); late = λ o. accepted m h }
+
+pub returns-in-Ok-clause-copy : goal.returns-in-Ok-clause-copy
+returns-in-Ok-clause-copy c =
+    let told : c.in-Ok.told ≡ (c.in_ok-answer.answer, cond c.args.with_copy (Some c.in_ok-answer.answer) None) = c.in-Ok.ensures.told in
+    ap (λ (t : Answer × Option Answer). t.1) told ∙ ap (λ (a : Answer). cond c.args.with_copy (Some a) None) (sym (ap (λ (t : Answer × Option Answer). t.0) told))
