@@ -8,7 +8,7 @@ use Rattle.esx_model.specs.History.{History, opened}
 use Rattle.esx_model.specs.Console.{Session, history, history_from, after, next_reply, lined}
 use Rattle.esx_journal.specs.Journal as journals
 use Rattle.esx_journal.specs.Journal.{Holds}
-use Rattle.esx_console.specs.declared.hearing.twice.Heard.{Heard}
+use Rattle.esx_console.specs.declared.hearing.Heard.{Heard}
 use Rattle.esx_console.specs.Hearing.{Hears}
 use Rattle.esx_console.specs.Calls.{opened_session}
 use Rattle.esx_console.specs.Unlogged.{Kept, AnswersAs}

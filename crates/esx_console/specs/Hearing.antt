@@ -1,5 +1,5 @@
 -- What is heard of a journal at a call.
-use Rattle.std.specs.Prelude.{◌≡◌, ℕ, ◌+◌, Bool, Result, Ok, Err, IsOk, if◌then◌else◌}
+use Rattle.std.specs.Prelude.{◌≡◌, ℕ, ◌+◌, Result, Ok, Err, IsOk, if◌then◌else◌}
 use Rattle.esx_events.specs.declared.event.Refusal.{Refusal}
 use Rattle.esx_events.specs.declared.call.Call.{Call}
 use Rattle.esx_events.specs.declared.call.Call.TheVariants as calls
@@ -10,14 +10,13 @@ use Rattle.esx_model.specs.Readings.{activity}
 use Rattle.esx_model.specs.History.{History, book_at, do_event}
 use Rattle.esx_model.specs.Console.{outcome, after}
 use Rattle.esx_journal.specs.Journal.{Kept, Holds}
-use Rattle.esx_console.specs.declared.hearing.Told.{Told}
-use Rattle.esx_console.specs.declared.hearing.twice.Heard.{Heard}
+use Rattle.esx_console.specs.declared.hearing.Heard.{Heard}
+use Rattle.esx_console.specs.Calls.{OnlyAsks}
 
--- what a journal is left with by a call, and what is said to it, twice
+-- what a journal is left with by a call, and what is heard of it
 pub record Hears (new : Kept) (h : History) (call : Call) (heard : Heard) : Type 0 where
   pub holds : Holds new (after h call)
   pub said_is : heard.said ≡ (outcome h call).0
-  pub copy_is : heard.copy ≡ (outcome h call).0
   pub jumps : (after h call).jumps ≡ h.jumps + (if heard.jumped then 1 else 0)
 
 -- a call that may take memory: an event, a mark, a trial, or a question that is answered by rows or by averages
@@ -56,23 +55,9 @@ ComesToMemory h (calls.Advise n page) = Unit {0}
 ComesToMemory h calls.Stand = Unit {0}
 ComesToMemory h calls.Marks = Unit {0}
 
--- a move of the cursor or a prune
+-- a call that changes a journal and takes no memory: a move of the cursor or a prune
 abbrev pub MovesOrPrunes : Call → Type 0
-MovesOrPrunes (calls.Do e) = ⊥
-MovesOrPrunes (calls.Undo k) = Unit {0}
-MovesOrPrunes (calls.Redo k) = Unit {0}
-MovesOrPrunes (calls.Goto n) = Unit {0}
-MovesOrPrunes (calls.Visit name) = Unit {0}
-MovesOrPrunes (calls.Mark name) = ⊥
-MovesOrPrunes (calls.Prune n) = Unit {0}
-MovesOrPrunes (calls.WhatIf events) = ⊥
-MovesOrPrunes calls.Sum = ⊥
-MovesOrPrunes calls.Table = ⊥
-MovesOrPrunes (calls.OfVm n) = ⊥
-MovesOrPrunes (calls.OfPage n page) = ⊥
-MovesOrPrunes (calls.Advise n page) = ⊥
-MovesOrPrunes calls.Stand = ⊥
-MovesOrPrunes calls.Marks = ⊥
+MovesOrPrunes call = (OnlyAsks call → ⊥) × (MayLackMemory call → ⊥)
 
 -- what is said to one, which is copied with no memory
 abbrev pub IsShort : Said → Type 0
@@ -89,23 +74,12 @@ IsShort (said.Page state) = ⊥
 IsShort (said.Help help) = ⊥
 IsShort (said.Marks marks) = ⊥
 
--- what is said, and whether the cursor jumped
-abbrev pub once : Said → Bool → Told
-once s jumped = record { said = s; jumped = jumped }
-
--- the same for the caller and for the log
-abbrev pub twice : Said → Bool → Heard
-twice s jumped = record { said = s; copy = s; jumped = jumped }
-
-abbrev pub both : Told → Heard
-both told = twice told.said told.jumped
-
--- to a move
+-- what is said to a move
 abbrev pub move_said : Result Stand Refusal → Said
 move_said (Ok stand) = said.Stand stand
 move_said (Err e) = said.Refused e
 
--- to a prune
+-- what is said to a prune
 abbrev pub prune_said : Result ℕ Refusal → Said
 prune_said (Ok count) = said.Pruned count
 prune_said (Err e) = said.Refused e

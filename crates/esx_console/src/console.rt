@@ -67,7 +67,7 @@ impl Console {
     {
         self.log.reserve(1)?;
         let alloc = *self.log.allocator();
-        let heard = hear_twice(&mut self.journal, alloc, &call)?;
+        let (heard, copy) = hear_twice(&mut self.journal, alloc, &call)?;
         let jumps = counted(self.jumps, heard.jumped);
         self.jumps = jumps;
         self.log.push_reserved(Line {
@@ -75,7 +75,7 @@ impl Console {
             call,
             reply: Reply {
                 jumps,
-                said: heard.copy,
+                said: copy.said,
             },
         });
         Ok(Reply {

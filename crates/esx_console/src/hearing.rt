@@ -1,11 +1,11 @@
 //! What a journal answers to a call. What is asked by one kind of call stands in a file of its own.
 
-ghost use Rattle.std.specs.Prelude.{◌≡◌, ◌+◌, ◌<◌, ◌^◌, if◌then◌else◌, IfOk, OnErr, false};
+ghost use Rattle.std.specs.Prelude.{◌≡◌, ◌≢◌, ◌+◌, ◌<◌, ◌^◌, if◌then◌else◌, IfOk, OnErr, false};
 ghost use Rattle.esx_model.specs.History.{History};
 ghost use Rattle.esx_events.specs.declared.call.Said.TheVariants as said;
 ghost use Rattle.esx_journal.specs.Journal.{Holds};
 ghost use Rattle.esx_console.specs.Calls.{OnlyAsks};
-ghost use Rattle.esx_console.specs.Hearing.{Hears, MayLackMemory, ComesToMemory, MovesOrPrunes, IsShort, once, both};
+ghost use Rattle.esx_console.specs.Hearing.{Hears, MayLackMemory, ComesToMemory, MovesOrPrunes, IsShort};
 
 mod events;
 mod marks;
@@ -25,37 +25,46 @@ use esx_events::{Call, Refusal, Said};
 use esx_journal::Journal;
 use std::alloc::{AllocError, Global};
 
-/// What is told of a call: what is said to it, and whether the cursor jumped.
+/// What is heard of a call: what is said to it, and whether the cursor jumped.
 #[derive(Drop)]
-pub struct Told {
+pub struct Heard {
     pub said: Said,
     pub jumped: bool,
 }
 
-fn refused(refusal: Refusal) -> Told
-    ensures { result ≡ once (said.Refused refusal) false }
+/// What is heard where the cursor did not jump.
+fn answered(said: Said) -> Heard
+    ensures { result ≡ record { said = said; jumped = false } }
 {
-    Told {
-        said: Said::Refused { refusal },
-        jumped: false,
-    }
-}
-
-/// What is said to a question that is answered.
-fn answered(said: Said) -> Told
-    ensures { result ≡ once said false }
-{
-    Told {
+    Heard {
         said,
         jumped: false,
     }
 }
 
+fn refused(refusal: Refusal) -> Heard
+    ensures { result ≡ record { said = said.Refused refusal; jumped = false } }
+{
+    answered(Said::Refused { refusal })
+}
+
+/// What is heard of an event or a mark that was refused. To one for which memory was wanting nothing is said.
+fn unchanged(refusal: Refusal) -> Result<Heard, AllocError>
+    ensures value { IfOk result (λ heard. heard ≡ record { said = said.Refused refusal; jumped = false }) }
+    ensures other { IfOk result (λ heard. refusal ≢ Refusal.OutOfMemory) }
+    ensures memory { OnErr result (refusal ≡ Refusal.OutOfMemory) }
+{
+    match refusal {
+        Refusal::OutOfMemory => Err(AllocError),
+        _ => Ok(refused(refusal)),
+    }
+}
+
 /// Makes a call. Where memory runs out the journal is as it was.
-pub fn hear(journal: &mut Journal, alloc: Global, call: &Call) -> Result<Told, AllocError>
-    ensures ok { IfOk result (λ told. (h : History) → Holds journal.old h → Hears journal.new h call.now (both told)) }
+pub fn hear(journal: &mut Journal, alloc: Global, call: &Call) -> Result<Heard, AllocError>
+    ensures ok { IfOk result (λ heard. (h : History) → Holds journal.old h → Hears journal.new h call.now heard) }
     ensures asked { OnlyAsks call.now → journal.new ≡ journal.old }
-    ensures short { MovesOrPrunes call.now → IfOk result (λ told. IsShort told.said) }
+    ensures short { MovesOrPrunes call.now → IfOk result (λ heard. IsShort heard.said) }
     ensures err { (h : History) → Holds journal.old h → OnErr result (journal.new ≡ journal.old) }
     ensures room { OnErr result (MayLackMemory call.now) }
     ensures there { (h : History) → Holds journal.old h → OnErr result (ComesToMemory h call.now) }

@@ -63,12 +63,12 @@ impl Unlogged {
         ensures room { OnErr result (MayLackMemory call.now) }
         ensures there { (s : Session) → AnswersAs self.old s → OnErr result (ComesToMemory (history s) call.now) }
     {
-        let told = hear(&mut self.journal, self.alloc, call)?;
-        let jumps = counted(self.jumps, told.jumped);
+        let heard = hear(&mut self.journal, self.alloc, call)?;
+        let jumps = counted(self.jumps, heard.jumped);
         self.jumps = jumps;
         Ok(Reply {
             jumps,
-            said: told.said,
+            said: heard.said,
         })
     }
 }

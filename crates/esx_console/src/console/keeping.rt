@@ -7,27 +7,24 @@ ghost use Rattle.esx_events.specs.declared.call.Line.{Line};
 ghost use Rattle.esx_model.specs.Console.{Session, next_reply, lined, IsLegal};
 ghost use Rattle.esx_model.specs.History.{History};
 ghost use Rattle.esx_journal.specs.Journal.{Holds};
-ghost use Rattle.esx_console.specs.Hearing.{Hears, both};
+ghost use Rattle.esx_console.specs.Hearing.{Hears};
 
 use crate::console::Console;
 use crate::hearing::twice::hear_twice;
-use crate::hearing::{Told, counted, hear};
+use crate::hearing::{Heard, counted, hear};
 use esx_events::{Call, Line, Reply};
 use esx_journal::Journal;
 use std::alloc::{AllocError, Global};
 
-/// What is told of a call in no more room than it needs: of a list that grew as it was made, the copy is kept.
-fn hear_to_keep(journal: &mut Journal, alloc: Global, call: &Call) -> Result<Told, AllocError>
-    ensures ok { IfOk result (λ told. (h : History) → Holds journal.old h → Hears journal.new h call.now (both told)) }
+/// What is heard of a call, in no more room than it needs: of a list that grew as it was made, the copy is kept.
+fn hear_to_keep(journal: &mut Journal, alloc: Global, call: &Call) -> Result<Heard, AllocError>
+    ensures ok { IfOk result (λ heard. (h : History) → Holds journal.old h → Hears journal.new h call.now heard) }
     ensures err { (h : History) → Holds journal.old h → OnErr result (journal.new ≡ journal.old) }
 {
     match call {
         Call::Table | Call::WhatIf { .. } => {
-            let heard = hear_twice(journal, alloc, call)?;
-            Ok(Told {
-                said: heard.copy,
-                jumped: heard.jumped,
-            })
+            let (_, copy) = hear_twice(journal, alloc, call)?;
+            Ok(copy)
         }
         _ => hear(journal, alloc, call),
     }
@@ -44,15 +41,15 @@ impl Console {
     {
         self.log.reserve(1)?;
         let alloc = *self.log.allocator();
-        let told = hear_to_keep(&mut self.journal, alloc, &call)?;
-        let jumps = counted(self.jumps, told.jumped);
+        let heard = hear_to_keep(&mut self.journal, alloc, &call)?;
+        let jumps = counted(self.jumps, heard.jumped);
         self.jumps = jumps;
         self.log.push_reserved(Line {
             caller,
             call,
             reply: Reply {
                 jumps,
-                said: told.said,
+                said: heard.said,
             },
         });
         Ok(())

@@ -7,16 +7,16 @@ ghost use Rattle.esx_model.specs.Readings.{activity};
 ghost use Rattle.esx_model.specs.Console.{page_said, activity_said, help_said};
 ghost use Rattle.esx_events.specs.declared.call.Call.TheVariants as calls;
 ghost use Rattle.esx_journal.specs.Journal.{Holds};
-ghost use Rattle.esx_console.specs.Hearing.{Hears, once, both};
+ghost use Rattle.esx_console.specs.Hearing.{Hears};
 
-use crate::hearing::{Told, answered, refused};
+use crate::hearing::{Heard, answered, refused};
 use esx_events::{Activity, Boxed, Help, PageState, Refusal, Said};
 use esx_journal::Journal;
 use esx_types::VmId;
 use std::alloc::{AllocError, Global};
 
-fn page_heard(found: Result<PageState, Refusal>) -> Told
-    ensures { result ≡ once (page_said found) false }
+fn page_heard(found: Result<PageState, Refusal>) -> Heard
+    ensures { result ≡ record { said = page_said found; jumped = false } }
 {
     match found {
         Ok(state) => answered(Said::Page { state }),
@@ -24,8 +24,8 @@ fn page_heard(found: Result<PageState, Refusal>) -> Told
     }
 }
 
-fn activity_heard(alloc: Global, found: Result<Activity, Refusal>) -> Result<Told, AllocError>
-    ensures value { IfOk result (λ told. told ≡ once (activity_said found) false) }
+fn activity_heard(alloc: Global, found: Result<Activity, Refusal>) -> Result<Heard, AllocError>
+    ensures value { IfOk result (λ heard. heard ≡ record { said = activity_said found; jumped = false }) }
     ensures there { OnErr result (IsOk found) }
 {
     match found {
@@ -36,8 +36,8 @@ fn activity_heard(alloc: Global, found: Result<Activity, Refusal>) -> Result<Tol
     }
 }
 
-fn help_heard(found: Result<Help, Refusal>) -> Told
-    ensures { result ≡ once (help_said found) false }
+fn help_heard(found: Result<Help, Refusal>) -> Heard
+    ensures { result ≡ record { said = help_said found; jumped = false } }
 {
     match found {
         Ok(help) => answered(Said::Help { help }),
@@ -45,15 +45,15 @@ fn help_heard(found: Result<Help, Refusal>) -> Told
     }
 }
 
-pub fn hear_sum(journal: &Journal) -> Told
-    ensures { (h : History) → Holds journal.now h → Hears journal.now h calls.Sum (both result) }
+pub fn hear_sum(journal: &Journal) -> Heard
+    ensures { (h : History) → Holds journal.now h → Hears journal.now h calls.Sum result }
 {
     let sum = journal.machine().sum();
     answered(Said::Sum { sum })
 }
 
-pub fn hear_table(journal: &Journal, alloc: Global) -> Result<Told, AllocError>
-    ensures { IfOk result (λ told. (h : History) → Holds journal.now h → Hears journal.now h calls.Table (both told)) }
+pub fn hear_table(journal: &Journal, alloc: Global) -> Result<Heard, AllocError>
+    ensures { IfOk result (λ heard. (h : History) → Holds journal.now h → Hears journal.now h calls.Table heard) }
 {
     let machine = journal.machine();
     let rows = Boxed::new(alloc, machine.table()?)?;
@@ -62,27 +62,27 @@ pub fn hear_table(journal: &Journal, alloc: Global) -> Result<Told, AllocError>
 }
 
 /// Memory is wanting only where the virtual machine is there.
-pub fn hear_vm(journal: &Journal, alloc: Global, vm: VmId) -> Result<Told, AllocError>
-    ensures ok { IfOk result (λ told. (h : History) → Holds journal.now h → Hears journal.now h (calls.OfVm vm) (both told)) }
+pub fn hear_vm(journal: &Journal, alloc: Global, vm: VmId) -> Result<Heard, AllocError>
+    ensures ok { IfOk result (λ heard. (h : History) → Holds journal.now h → Hears journal.now h (calls.OfVm vm) heard) }
     ensures there { (h : History) → Holds journal.now h → OnErr result (IsOk (activity (book_at h) vm)) }
 {
     activity_heard(alloc, journal.machine().of_vm(vm))
 }
 
-pub fn hear_page(journal: &Journal, vm: VmId, page: u32) -> Told
-    ensures { (h : History) → Holds journal.now h → Hears journal.now h (calls.OfPage vm page) (both result) }
+pub fn hear_page(journal: &Journal, vm: VmId, page: u32) -> Heard
+    ensures { (h : History) → Holds journal.now h → Hears journal.now h (calls.OfPage vm page) result }
 {
     page_heard(journal.machine().of_page(vm, page))
 }
 
-pub fn hear_advise(journal: &Journal, vm: VmId, page: u32) -> Told
-    ensures { (h : History) → Holds journal.now h → Hears journal.now h (calls.Advise vm page) (both result) }
+pub fn hear_advise(journal: &Journal, vm: VmId, page: u32) -> Heard
+    ensures { (h : History) → Holds journal.now h → Hears journal.now h (calls.Advise vm page) result }
 {
     help_heard(journal.machine().advise(vm, page))
 }
 
-pub fn hear_stand(journal: &Journal) -> Told
-    ensures { (h : History) → Holds journal.now h → Hears journal.now h calls.Stand (both result) }
+pub fn hear_stand(journal: &Journal) -> Heard
+    ensures { (h : History) → Holds journal.now h → Hears journal.now h calls.Stand result }
 {
     let stand = journal.stand();
     answered(Said::Stand { stand })

@@ -1,6 +1,5 @@
 use Rattle.std.proofs.Common.{sym, ◌∙◌, ap, subst, ℕ}
 use Rattle.esx_model.specs.Console.{Session, history, lined, IsLegal}
-use Rattle.esx_console.specs.Hearing.{both}
 use Rattle.esx_console.specs.Console.{IsConsole}
 use Rattle.esx_console.proofs.Logs.{keeps_line, kept_lines}
 use Rattle.esx_console.proofs.console.Console.call_kept.Goals as goal
@@ -8,8 +7,8 @@ use Rattle.esx_console.proofs.console.Console.call_kept.Goals as goal
 pub invariant_of-self-2 : goal.invariant_of-self-2
 invariant_of-self-2 c =
     let s : Session = record { site = c.self.inside.site; log = c.self.inside.log.items } in
-    let heard = both c.in_ok-told.told in
-    let hears = c.in_ok-told.ensures.ok (history s) c.self.invariant.journal_holds in
+    let heard = c.in_ok-heard.heard in
+    let hears = c.in_ok-heard.ensures.ok (history s) c.self.invariant.journal_holds in
     let lines = kept_lines s _ _ _ c.args.caller c.args.call heard c.counted-jumps.result _ _ c.self.invariant hears c.counted-jumps.ensures
     c.in_ok-reserve.ensures.items c.push_reserved.ensures.items in
     let P : Session → Type 0 = λ t. IsConsole t c.hear_to_keep.new.journal c.counted-jumps.result in
@@ -19,8 +18,8 @@ invariant_of-self-2 c =
 pub returns-clause-ok : goal.returns-clause-ok
 returns-clause-ok c =
     let s : Session = record { site = c.self.inside.site; log = c.self.inside.log.items } in
-    let heard = both c.in_ok-told.told in
-    let hears = c.in_ok-told.ensures.ok (history s) c.self.invariant.journal_holds in
+    let heard = c.in_ok-heard.heard in
+    let hears = c.in_ok-heard.ensures.ok (history s) c.self.invariant.journal_holds in
     let lines = kept_lines s _ _ _ c.args.caller c.args.call heard c.counted-jumps.result _ _ c.self.invariant hears c.counted-jumps.ensures
     c.in_ok-reserve.ensures.items c.push_reserved.ensures.items in
     lines ∙ ap (λ t. lined t c.args.caller c.args.call) c.self.view_is
@@ -28,8 +27,8 @@ returns-clause-ok c =
 pub returns-clause-legal : goal.returns-clause-legal
 returns-clause-legal c =
     let s : Session = record { site = c.self.inside.site; log = c.self.inside.log.items } in
-    let heard = both c.in_ok-told.told in
-    let hears = c.in_ok-told.ensures.ok (history s) c.self.invariant.journal_holds in
+    let heard = c.in_ok-heard.heard in
+    let hears = c.in_ok-heard.ensures.ok (history s) c.self.invariant.journal_holds in
     let lines = kept_lines s _ _ _ c.args.caller c.args.call heard c.counted-jumps.result _ _ c.self.invariant hears c.counted-jumps.ensures
     c.in_ok-reserve.ensures.items c.push_reserved.ensures.items in
     subst IsLegal (sym lines) (keeps_line s _ _ _ c.args.caller c.args.call heard c.self.invariant hears).legal

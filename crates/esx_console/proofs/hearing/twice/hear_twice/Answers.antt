@@ -1,19 +1,12 @@
-use Rattle.esx_console.proofs.Twice.{asks_or_moves, where_err, with_copy}
-use Rattle.std.proofs.lemmas.Result.{IfOk-from_err}
+use Rattle.esx_console.proofs.Twice.{asks_or_moves, where_err, err_then, both_heard}
 use Rattle.esx_console.proofs.hearing.twice.hear_twice.Goals as goal
 
-pub returns-in_ok-copy-in_default : goal.returns-in_ok-copy-in_default
-returns-in_ok-copy-in_default c =
+pub returns-in_ok-hear-in_default : goal.returns-in_ok-hear-in_default
+returns-in_ok-hear-in_default c =
+    let hears = c.in_ok-hear-in_default.ensures in
+    let result = c.with_copy.result in
     record {
-      ok = λ h holds. with_copy _ h c.args.call.now c.in_ok-told-in_default.told c.in_ok-copy-in_default.copy (c.in_ok-told-in_default.ensures.ok h holds) c.in_ok-copy-in_default.ensures.ok;
-      err = λ h holds. tt;
-    }
-
-pub returns-in_err-copy-in_default : goal.returns-in_err-copy-in_default
-returns-in_err-copy-in_default c =
-    let result = c.from_residual-in_err-copy-in_default.result in
-    record {
-      ok = IfOk-from_err result _ c.from_residual-in_err-copy-in_default.ensures.0;
-      err = λ h holds. where_err result (asks_or_moves c.args.call.now c.in_default.not-Do c.in_default.not-Mark c.in_ok-told-in_default.ensures.asked
-          (λ moves. absurd (c.in_err-copy-in_default.ensures.long (c.in_ok-told-in_default.ensures.short moves))));
+      ok = both_heard _ _ c.args.call.now _ result c.with_copy.ensures.ok hears.ok;
+      err = λ h holds. asks_or_moves c.args.call.now c.in_default.not-Do c.in_default.not-Mark (λ asks. where_err result (hears.asked asks))
+          (λ moves. err_then result (λ long. absurd (long (hears.short moves))) c.with_copy.ensures.long);
     }
