@@ -4,6 +4,9 @@ ghost use Rattle.std.specs.Prelude.{◌≡◌, IfSome, IfNone, length};
 ghost use Rattle.esx_words.specs.Verbs.{event_word, verb_word};
 ghost use Rattle.esx_words.specs.declared.verbs.EventVerb.{EventVerb};
 ghost use Rattle.esx_words.specs.declared.verbs.Verb.{Verb};
+ghost use Rattle.esx_words.specs.declared.verbs.Verb.TheVariants as verbs;
+ghost use Rattle.esx_words.specs.declared.verbs.EventVerb.TheVariants as events;
+ghost use Rattle.esx_words.specs.declared.verbs.PlaceVerb.TheVariants as places;
 
 /// Events that a virtual machine alone stands behind.
 #[derive(Clone, Copy, Debug, PartialEq, Eq)]
@@ -151,7 +154,7 @@ pub fn verb_of(word: &str) -> Option<Verb>
     }
 }
 
-/// The same, for words of four letters.
+/// The same, for words of four letters: those of accesses and questions first.
 #[inline(always)]
 fn verb_of_four(word: &str) -> Option<Verb>
     requires { length word.now ≡ 4 }
@@ -165,6 +168,20 @@ fn verb_of_four(word: &str) -> Option<Verb>
         "read" => Some(Verb::Event {
             verb: EventVerb::Read,
         }),
+        _ => other_verb_of_four(word),
+    }
+}
+
+/// The same, for the others.
+#[inline(never)]
+fn other_verb_of_four(word: &str) -> Option<Verb>
+    requires four { length word.now ≡ 4 }
+    requires page { word.now ≡ verb_word (verbs.Place places.OfPage) → ⊥ }
+    requires read { word.now ≡ verb_word (verbs.Event events.Read) → ⊥ }
+    ensures found { IfSome result (λ verb. word.now ≡ verb_word verb) }
+    ensures only { IfNone result ((verb : Verb) → word.now ≡ verb_word verb → ⊥) }
+{
+    match word {
         "scan" => Some(Verb::Event {
             verb: EventVerb::Place {
                 verb: PlaceEvent::Scan,
