@@ -33,6 +33,10 @@ use Rattle.esx_machine.specs.Machine.{Kept, IsKept, Shows, Back, Trades, Accepts
 pub kept_plannable : (k : Kept) → IsKept k → ArePlannable k.config k.tables
 kept_plannable k kept = subst (ArePlannable k.config) (sym kept.shows) (plannable k.config kept.site kept.config kept.sound)
 
+-- in the same state the same is planned
+pub planned_alike : (k old : Kept) (e : Event) (p : Answer × List Change) → k ≡ old → plan_of old.config old.tables old.level e ≡ Ok p → plan_of k.config k.tables k.level e ≡ Ok p
+planned_alike k old e p same plan = subst (λ (o : Kept). plan_of o.config o.tables o.level e ≡ Ok p) (sym same) plan
+
 -- the machine's plan refines the event on the scene
 at_scene : (k : Kept) (t : Scene) (e : Event) → Shows k t → NamesVm e → Refines k.config t.site (plan_of k.config k.tables k.level e) (step k.config t.site t.level e)
 at_scene k t e shows named =

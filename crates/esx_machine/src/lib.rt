@@ -3,10 +3,9 @@
 
 mod advice;
 pub mod laws;
-mod learning;
 pub mod machine;
+mod planning;
 mod reading;
 mod table;
-mod telling;
 
 pub use machine::{Machine, Record};

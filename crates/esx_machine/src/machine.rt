@@ -1,14 +1,13 @@
 //! The machine, and the records of its events.
 
 use crate::advice::advise;
-use crate::learning::learn;
+use crate::planning::plan;
 use crate::reading::{activity, page_state};
 use crate::table::table_of;
-use crate::telling::tell;
 use esx_events::{Activity, Answer, Event, Help, PageState, Refusal, Sum, TableRow};
 use esx_level::Thresholds;
 use esx_model::Book;
-use esx_plans::plan::event::plan_event;
+use esx_plans::Plan;
 use esx_tables::{Record as Changes, RecordSize, SiteTables};
 use esx_types::{Config, Level, Rows, VmId};
 use std::alloc::{AllocError, Global};
@@ -70,7 +69,10 @@ impl Machine {
     ghost use Rattle.esx_model.specs.Readings.{sum_of, page_state, activity, table_of};
     ghost use Rattle.esx_model.specs.Advice.{advice};
     ghost use Rattle.esx_model.specs.Replay.{next, opening};
+    ghost use Rattle.esx_model.specs.sound.Sound.{NamesVm};
+    ghost use Rattle.esx_changes.specs.Planned.{Plans};
     ghost use Rattle.esx_plans.specs.plan.Balloon.{CanEpochsRise};
+    ghost use Rattle.esx_plans.specs.plan.Event.{plan_of};
     ghost use Rattle.esx_machine.specs.Machine.{Kept, Shows, Trades, turned, Applies, Exchanges, book_in};
 
     /// A site with no virtual machines. `BadSpec` where one of its numbers is out of its range.
@@ -102,9 +104,7 @@ impl Machine {
         ensures event { (scene : Scene) → Shows self.old scene → Applies result self.old self.new (next self.old.config scene event.now) }
         ensures exchanges { IfOk result (λ r. Exchanges self.old self.new event.now r.1) }
     {
-        self.tell(event);
-        self.learn(event);
-        let plan = match plan_event(&self.tables, self.alloc, &self.config, self.level, event) {
+        let plan = match self.plan(event) {
             Ok(plan) => plan,
             Err(refusal) => return Err(refusal),
         };
@@ -116,18 +116,20 @@ impl Machine {
         Ok((plan.answer, Record { level, changes }))
     }
 
-    /// Has the open sample period of a machine that accesses a page summed up, where accesses go on in it.
-    fn tell(&mut self, event: &Event)
-        ensures { self.new ≡ self.old }
+    /// The plan of an event. What is kept while it is made is seen in no table.
+    fn plan(&mut self, event: &Event) -> Result<Plan, Refusal>
+        requires { CanEpochsRise self.old.tables }
+        ensures plans { Plans result (plan_of self.old.config self.old.tables self.old.level event.now) }
+        ensures named { NamesVm event.now }
+        ensures same { self.new ≡ self.old }
     {
-        tell(&mut self.tables, event);
-    }
-
-    /// Keeps the key of the page that a scan or a swap-out is going to look for.
-    fn learn(&mut self, event: &Event)
-        ensures { self.new ≡ self.old }
-    {
-        learn(&mut self.tables, self.level, self.config.page, event);
+        plan(
+            &mut self.tables,
+            self.alloc,
+            &self.config,
+            self.level,
+            event,
+        )
     }
 
     /// Trades the record's changes and level with the machine's tables and level.
