@@ -1,7 +1,17 @@
 -- Revoking the pages of rows that cost more than a limit, for each share.
-use Rattle.std.specs.Prelude.{◌≡◌, ℕ, ◌+◌, ◌-◌, ◌*◌, ◌/◌, ◌<◌, min, max, List, [], ◌∷◌, length, slice_index}
+use Rattle.std.specs.Prelude.{◌≡◌, ℕ, ◌+◌, ◌-◌, ◌*◌, ◌/◌, ◌<◌, ◌≤◌, min, max, List, [], ◌∷◌, length, slice_index}
 use Rattle.esx_formulas.specs.declared.targets.Row.{Row}
+use Rattle.esx_average.specs.declared.limit.Part.{Part}
 use Rattle.esx_formulas.specs.Ratio.{row_at}
+
+-- how many of a row's pages cost no more than a limit of one, in units of 1/2^43
+abbrev pub rate : ℕ → Row → ℕ
+rate tau row = row.shares * 8796093022208 / (6553600 - tau * row.active)
+
+-- the numbers of a row in a search are in their ranges
+pub record IsPart (part : Part) : Type 0 where
+  pub rate : part.rate ≤ 140737488355328
+  pub pages : part.pages ≤ 65536
 
 -- what a row keeps of so many pages
 abbrev pub kept : ℕ → Row → ℕ → ℕ → ℕ

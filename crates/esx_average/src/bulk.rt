@@ -10,18 +10,17 @@ ghost use Rattle.esx_average.specs.Bulk.{kept, dearer, WereRevoked};
 
 use crate::limit::find_limit;
 use esx_formulas::Row;
+use esx_types::VM_NUMBERS;
 
-/// Where chunks take at most so many steps, nothing is revoked in bulk: a step looks at every row once, and so
-/// does each limit that is tried, and it takes several of them before any step is saved.
-const FEW_STEPS: u32 = 64;
+/// Where chunks take at most so many steps, nothing is revoked in bulk: a step looks at every row once, and the
+/// search for a limit, with two divisions for each row, can take as long as some forty steps.
+const FEW_STEPS: u32 = 56;
 
 /// Revokes pages where `left` are to be revoked, and tells how many it did: none, or all that cost more
 /// than some limit, which are at most `left`.
 ///
-/// It looks at every row some ten or twenty times, and at most a hundred times, and where it would take few
-/// steps to revoke the pages in chunks, it revokes none. Its search for the limit looks at every row at most
-/// about a quarter as often as those steps. Most often fewer pages are left to revoke after it than there are
-/// rows.
+/// Where it would take few steps to revoke the pages in chunks, it revokes none. Most often fewer pages are
+/// left to revoke after it than there are rows.
 pub fn revoke_in_bulk(tau: u32, rows: &[Row], targets: &mut Vec<u32>, left: u32) -> u32
     requires tax { tau ≤ 99 }
     requires rows { AreRows rows.now }
@@ -32,26 +31,26 @@ pub fn revoke_in_bulk(tau: u32, rows: &[Row], targets: &mut Vec<u32>, left: u32)
     ensures none { result ≡ 0 → targets.new.items ≡ targets.old.items }
     ensures some { 0 < result → WereRevoked tau rows.now targets.old.items targets.new.items result }
 {
-    let steps = chunk_steps(rows.len(), left);
-    if steps <= FEW_STEPS {
+    if chunk_steps(rows.len(), left) <= FEW_STEPS {
         return 0;
     }
-    let limit = find_limit(tau, rows, targets.as_slice(), left, steps / 4);
-    let pages = count_dearer(tau, rows, targets.as_slice(), limit);
+    let limit = find_limit(tau, rows, targets.as_slice(), left);
+    let mut keeps = [0; VM_NUMBERS];
+    let pages = count_dearer(tau, rows, targets.as_slice(), limit, &mut keeps);
     if pages == 0 || left < pages {
         return 0;
     }
-    revoke_dearer(tau, rows, targets, limit);
+    keep(rows, targets, &keeps);
     pages
 }
 
-/// About how many steps it takes to revoke so many pages in chunks: each row pays about once at each size of
-/// a chunk.
+/// About how many steps it takes to revoke so many pages in chunks, mostly a few fewer: at each size of a chunk
+/// below the largest there is about one for each row, whichever row pays.
 fn chunk_steps(rows: usize, left: u32) -> u32
     requires { rows ≤ 32 }
 {
     let rows = rows as u32;
-    let sizes = 33 - (left / rows.max(1)).leading_zeros();
+    let sizes = 32 - (left / rows.max(1)).leading_zeros();
     left.min(rows * sizes)
 }
 
@@ -73,12 +72,21 @@ fn kept(tau: u32, row: &Row, pages: u32, limit: u64) -> u32
     ensures value { result ≡ kept tau row.now limit pages }
     ensures most { result ≤ pages }
 {
+    if pages <= row.floor {
+        return pages;
+    }
     let cheap = u64::from(row.shares) * limit / price(tau, row.active);
     u64::from(pages).min(cheap.max(u64::from(row.floor))) as u32
 }
 
-/// How many pages above the floors cost more than a limit.
-fn count_dearer(tau: u32, rows: &[Row], targets: &[u32], limit: u64) -> u32
+/// How many pages above the floors cost more than a limit, and what each row keeps without them.
+fn count_dearer(
+    tau: u32,
+    rows: &[Row],
+    targets: &[u32],
+    limit: u64,
+    keeps: &mut [u32; VM_NUMBERS],
+) -> u32
     requires tax { tau ≤ 99 }
     requires rows { AreRows rows.now }
     requires count { length targets.now ≡ length rows.now }
@@ -86,25 +94,26 @@ fn count_dearer(tau: u32, rows: &[Row], targets: &[u32], limit: u64) -> u32
     requires limit { limit ≤ 549755813888 }
     ensures value { result ≡ dearer tau rows.now limit targets.now }
     ensures most { result ≤ 2097152 }
+    ensures each { (i : ℕ) → i < length rows.now → slice_index keeps.new i ≡ kept tau (row_at rows.now i) limit (slice_index targets.now i) }
 {
     let mut count = 0;
     for (i, row) in rows.iter().enumerate() {
         let pages = targets[i];
-        count += pages - kept(tau, row, pages, limit);
+        let stays = kept(tau, row, pages, limit);
+        keeps[i] = stays;
+        count += pages - stays;
     }
     count
 }
 
-/// Revokes all pages above the floors that cost more than a limit.
-fn revoke_dearer(tau: u32, rows: &[Row], targets: &mut Vec<u32>, limit: u64)
-    requires tax { tau ≤ 99 }
+/// Each row keeps so many pages.
+fn keep(rows: &[Row], targets: &mut Vec<u32>, keeps: &[u32; VM_NUMBERS])
     requires rows { AreRows rows.now }
     requires count { length targets.old.items ≡ length rows.now }
-    requires limit { limit ≤ 549755813888 }
     ensures count { length targets.new.items ≡ length rows.now }
-    ensures each { (i : ℕ) → i < length rows.now → slice_index targets.new.items i ≡ kept tau (row_at rows.now i) limit (slice_index targets.old.items i) }
+    ensures each { (i : ℕ) → i < length rows.now → slice_index targets.new.items i ≡ slice_index keeps.now i }
 {
-    for (i, row) in rows.iter().enumerate() {
-        targets[i] = kept(tau, row, targets[i], limit);
+    for i in 0..rows.len() {
+        targets[i] = keeps[i];
     }
 }

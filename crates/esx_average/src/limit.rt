@@ -1,10 +1,18 @@
 //! The search for a limit of cost, above which pages are revoked in bulk.
 //!
-//! It divides once for each row, and counts by products alone what the limits that it tries would revoke. Such a count
-//! is at most a page a row too high, and never too low: what a limit revokes is counted again before it is done.
+//! If no row stopped at its floor and none kept all its pages, one division would tell the limit from the sums
+//! of all rows. So this limit is tried, and what it would revoke is counted. Where it is too much, the limit is
+//! higher, and the rows that keep all their pages keep them there too; where it is not, the limit is no higher,
+//! and the rows that stop at their floors stop there too. Either way these are settled, and the next limit
+//! comes from the sums of the others. So each try but a few settles some row.
+//!
+//! The search divides once for each row that has pages above its floor and once for each try, and counts by
+//! products alone. Such a count is at most a page a row too high, and never too low: what a limit revokes is
+//! counted again before it is done.
 
-ghost use Rattle.std.specs.Prelude.{◌≡◌, ℕ, ◌-◌, ◌*◌, ◌/◌, ◌≤◌, ◌<◌, min, max, length, slice_index};
+ghost use Rattle.std.specs.Prelude.{◌≡◌, ℕ, ◌+◌, ◌-◌, ◌*◌, ◌/◌, ◌≤◌, ◌<◌, min, max, All, IsTrue, length, slice_index};
 ghost use Rattle.esx_formulas.specs.Ratio.{IsRow, AreRows, row_at};
+ghost use Rattle.esx_average.specs.Bulk.{rate, IsPart};
 
 use crate::bulk::price;
 use esx_formulas::Row;
@@ -13,56 +21,120 @@ use esx_types::VM_NUMBERS;
 /// The unit in which rates are told.
 const UNIT: u64 = 1 << 43;
 
+/// A limit that no page costs more than.
+const HIGHEST: u64 = 1 << 39;
+
+/// How many limits are tried at most: two for each row that they settle.
+const MOST_TRIES: usize = 2 * VM_NUMBERS;
+
+/// What the search looks at of a row that is not settled.
+#[derive(Clone, Copy)]
+pub(crate) struct Part {
+    rate: u64,
+    pages: u32,
+    floor: u32,
+}
+
+/// No row's part.
+const NO_PART: Part = Part {
+    rate: 0,
+    pages: 0,
+    floor: 0,
+};
+
+/// The pages of some rows and their rates, each added up.
+#[derive(Clone, Copy)]
+struct Sums {
+    pages: u32,
+    rate: u64,
+}
+
 /// How many of a row's pages cost no more than a limit of one, in units of 1/2^43, rounded down.
 fn rate(tau: u32, row: &Row) -> u64
     requires tax { tau ≤ 99 }
     requires row { IsRow row.now }
-    ensures value { result ≡ row.now.shares * 8796093022208 / (6553600 - tau * row.now.active) }
+    ensures value { result ≡ rate tau row.now }
     ensures most { result ≤ 140737488355328 }
 {
     u64::from(row.shares) * UNIT / price(tau, row.active)
 }
 
-/// The rate of each row, in the order of the rows.
-fn rates_of(tau: u32, rows: &[Row]) -> [u64; VM_NUMBERS]
+/// The parts of the rows that have pages above their floors, in front, and how many they are. Rows at their
+/// least can revoke nothing, and are left out.
+fn open_parts(tau: u32, rows: &[Row], targets: &[u32], parts: &mut [Part; VM_NUMBERS]) -> usize
     requires tax { tau ≤ 99 }
     requires rows { AreRows rows.now }
-    ensures count { length result ≡ 32 }
-    ensures each { (i : ℕ) → i < length rows.now → slice_index result i ≤ 140737488355328 }
-{
-    let mut rates = [0; VM_NUMBERS];
-    for (i, row) in rows.iter().enumerate() {
-        rates[i] = rate(tau, row);
-    }
-    rates
-}
-
-/// About how many pages a row keeps, where it has so many, and those that cost more than a limit are revoked: rounded
-/// down.
-fn kept_about(row: &Row, rate: u64, pages: u32, limit: u64) -> u32
-    requires rate { rate ≤ 140737488355328 }
-    requires limit { limit ≤ 549755813888 }
-    ensures value { result ≡ min pages (max (limit * rate / 8796093022208) row.now.floor) }
-    ensures most { result ≤ pages }
-{
-    let cheap = (u128::from(limit) * u128::from(rate) / u128::from(UNIT)) as u64;
-    u64::from(pages).min(cheap.max(u64::from(row.floor))) as u32
-}
-
-/// About how many pages above the floors cost more than a limit, rounded up.
-fn count_about(rows: &[Row], rates: &[u64; VM_NUMBERS], targets: &[u32], limit: u64) -> u32
-    requires rows { AreRows rows.now }
-    requires rates { length rates.now ≡ 32 }
-    requires rates_most { (i : ℕ) → i < length rows.now → slice_index rates.now i ≤ 140737488355328 }
     requires count { length targets.now ≡ length rows.now }
     requires most { (i : ℕ) → i < length targets.now → slice_index targets.now i ≤ 65536 }
-    requires limit { limit ≤ 549755813888 }
-    ensures { result ≤ 2097152 }
+    requires parts { All IsPart parts.old }
+    ensures few { result ≤ length rows.now }
+    ensures parts { All IsPart parts.new }
 {
     let mut count = 0;
     for (i, row) in rows.iter().enumerate() {
         let pages = targets[i];
-        count += pages - kept_about(row, rates[i], pages, limit);
+        if row.floor < pages {
+            parts[count] = Part {
+                rate: rate(tau, row),
+                pages,
+                floor: row.floor,
+            };
+            count += 1;
+        }
+    }
+    count
+}
+
+/// The pages of rows and their rates, each added up.
+fn sums_of(parts: &[Part]) -> Sums
+    requires parts { All IsPart parts.now }
+    requires few { length parts.now ≤ 32 }
+    ensures pages { result.pages ≤ 2097152 }
+    ensures rate { result.rate ≤ 4503599627370496 }
+{
+    let mut sums = Sums { pages: 0, rate: 0 };
+    for i in 0..parts.len() {
+        let part = parts[i];
+        sums.pages += part.pages;
+        sums.rate += part.rate;
+    }
+    sums
+}
+
+/// The limit at which rows would keep all but so many pages, each its share, rounded up.
+fn limit_of(sums: &Sums, pages: u32) -> u64
+    requires pages { sums.now.pages ≤ 2097152 }
+    requires rate { 0 < sums.now.rate }
+    requires some { 1 ≤ pages }
+    ensures value { result ≡ min ((sums.now.pages - pages) * 8796093022208 / sums.now.rate + 1) 549755813888 }
+    ensures most { result ≤ 549755813888 }
+{
+    let kept = u64::from(sums.pages.saturating_sub(pages));
+    (kept * UNIT / sums.rate + 1).min(HIGHEST)
+}
+
+/// About how many pages a row keeps, where those that cost more than a limit are revoked: rounded down.
+fn kept_about(part: &Part, limit: u64) -> u32
+    requires part { IsPart part.now }
+    requires limit { limit ≤ 549755813888 }
+    ensures value { result ≡ min part.now.pages (max (limit * part.now.rate / 8796093022208) part.now.floor) }
+    ensures most { result ≤ part.now.pages }
+{
+    let cheap = (u128::from(limit) * u128::from(part.rate) / u128::from(UNIT)) as u64;
+    u64::from(part.pages).min(cheap.max(u64::from(part.floor))) as u32
+}
+
+/// About how many pages above the floors cost more than a limit, rounded up.
+fn count_about(parts: &[Part], limit: u64) -> u32
+    requires parts { All IsPart parts.now }
+    requires few { length parts.now ≤ 32 }
+    requires limit { limit ≤ 549755813888 }
+    ensures { result ≤ 2097152 }
+{
+    let mut count = 0;
+    for i in 0..parts.len() {
+        let part = parts[i];
+        count += part.pages - kept_about(&part, limit);
     }
     count
 }
@@ -81,42 +153,34 @@ fn count_above_floors(rows: &[Row], targets: &[u32]) -> u32
     count
 }
 
-/// What a row's last page costs for one share, where it has so many.
-fn last_cost(tau: u32, row: &Row, pages: u32) -> u64
-    requires tax { tau ≤ 99 }
-    requires row { IsRow row.now }
-    requires pages { pages ≤ 65536 }
-    ensures value { result ≡ pages * (6553600 - tau * row.now.active) }
-    ensures most { result ≤ 429496729600 }
+/// Settles of the parts in front those that stop at their floors at a limit, or those that keep all their
+/// pages. The others come to the front: it tells how many they are, and how many pages the settled ones revoke.
+fn settle(parts: &mut [Part; VM_NUMBERS], count: usize, limit: u64, at_floors: bool) -> (usize, u32)
+    requires parts { All IsPart parts.old }
+    requires count { count ≤ 32 }
+    requires limit { limit ≤ 549755813888 }
+    ensures parts { All IsPart parts.new }
+    ensures few { result.0 ≤ count }
 {
-    u64::from(pages) * price(tau, row.active)
-}
-
-/// What the dearest page of all rows costs, rounded up.
-fn highest_cost(tau: u32, rows: &[Row], targets: &[u32]) -> u64
-    requires tax { tau ≤ 99 }
-    requires rows { AreRows rows.now }
-    requires count { length targets.now ≡ length rows.now }
-    requires most { (i : ℕ) → i < length targets.now → slice_index targets.now i ≤ 65536 }
-    ensures { result ≤ 549755813888 }
-{
-    let mut highest = 0;
-    let mut its_shares = 1;
-    for (i, row) in rows.iter().enumerate() {
-        let cost = last_cost(tau, row, targets[i]);
-        let shares = u64::from(row.shares);
-        if highest * shares < cost * its_shares {
-            highest = cost;
-            its_shares = shares;
+    let mut open = 0;
+    let mut revoked = 0;
+    for i in 0..count {
+        let part = parts[i];
+        let kept = kept_about(&part, limit);
+        parts[open] = part;
+        if kept == if at_floors { part.floor } else { part.pages } {
+            revoked += part.pages - kept;
+        } else {
+            open += 1;
         }
     }
-    highest / its_shares + 1
+    (open, revoked)
 }
 
-/// A limit that `left` pages or a few less cost more than, mostly. It is sought between two limits: at the
-/// share of the way that their counts tell, and every other time in the middle. After `most_tries` limits
-/// between them it is the upper one, and fewer pages may cost more.
-pub(crate) fn find_limit(tau: u32, rows: &[Row], targets: &[u32], left: u32, most_tries: u32) -> u64
+/// A limit that `left` pages or a few less cost more than, mostly.
+///
+/// It aims somewhat below what is left, since a count is rounded up, and lower where this was not enough.
+pub(crate) fn find_limit(tau: u32, rows: &[Row], targets: &[u32], left: u32) -> u64
     requires tax { tau ≤ 99 }
     requires rows { AreRows rows.now }
     requires count { length targets.now ≡ length rows.now }
@@ -124,35 +188,38 @@ pub(crate) fn find_limit(tau: u32, rows: &[Row], targets: &[u32], left: u32, mos
     requires left { left ≤ 2097152 }
     ensures { result ≤ 549755813888 }
 {
-    let mut low = 0;
-    let mut above_low = count_above_floors(rows, targets);
-    if above_low <= left {
-        return low;
+    if count_above_floors(rows, targets) <= left {
+        return 0;
     }
-    let rates = rates_of(tau, rows);
-    let mut high = highest_cost(tau, rows, targets);
-    let mut above_high = 0;
-    let mut halves = false;
-    let mut tries = 0;
-    while low + 1 < high && rows.len() as u32 / 4 < left - above_high && tries < most_tries {
-        let range = high - low;
-        let share = u64::from(left - above_high);
-        let step = if halves {
-            range / 2
-        } else {
-            range * share / u64::from(above_low - above_high)
-        };
-        let limit = high - step.max(1).min(range - 1);
-        let above = count_about(rows, &rates, targets, limit);
-        if above <= left {
-            high = limit;
-            above_high = above;
-        } else {
-            low = limit;
-            above_low = above;
+    let mut parts = [NO_PART; VM_NUMBERS];
+    let mut count = open_parts(tau, rows, targets, &mut parts);
+    let mut left = left;
+    let mut found = HIGHEST;
+    let mut stuck = false;
+    for _ in 0..MOST_TRIES {
+        let sums = sums_of(&parts[..count]);
+        if sums.rate == 0 {
+            return found;
         }
-        halves = !halves;
-        tries += 1;
+        let open = count as u32;
+        let margin = if stuck { open } else { open * 5 / 8 };
+        let limit = limit_of(&sums, left.saturating_sub(margin).max(1));
+        let above = count_about(&parts[..count], limit);
+        let fits = above <= left;
+        if fits {
+            found = limit;
+            if left - above <= rows.len() as u32 / 4 {
+                return found;
+            }
+        }
+        let (still_open, revoked) = settle(&mut parts, count, limit, fits);
+        let settled = still_open < count;
+        if !settled && (fits || stuck) {
+            return found;
+        }
+        stuck = !settled;
+        count = still_open;
+        left = left.saturating_sub(revoked);
     }
-    high
+    found
 }

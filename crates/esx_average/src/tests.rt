@@ -92,6 +92,22 @@ fn pages_that_are_revoked_in_bulk_leave_the_same_targets(rt: HostRuntime) -> Res
 }
 
 #[test]
+fn a_machine_at_its_least_changes_nothing_for_seven_others(rt: HostRuntime) -> Result<(), Fail> {
+    let rows = [
+        row(0, 1, 2000, 2000, 65536)?,
+        row(1, 1000, 20037, 1000, 65536)?,
+        row(2, 1000, 20074, 1000, 65536)?,
+        row(3, 1000, 20111, 1000, 65536)?,
+        row(4, 1000, 20148, 1000, 65536)?,
+        row(5, 1000, 20185, 1000, 65536)?,
+        row(6, 1000, 20222, 1000, 65536)?,
+        row(7, 1000, 20259, 1000, 65536)?,
+    ];
+    let expected = [2000, 19862, 19862, 19862, 19862, 19862, 19863, 19863];
+    expect_targets(&rt, rt.alloc(), &rows, 2000, &expected)
+}
+
+#[test]
 fn no_target_is_below_its_floor(rt: HostRuntime) -> Result<(), Fail> {
     let rows = [row(0, 1000, 10, 2, 65536)?, row(1, 1000, 6, 2, 65536)?];
     expect_targets(&rt, rt.alloc(), &rows, 100, &[2, 2])

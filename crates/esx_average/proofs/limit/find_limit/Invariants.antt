@@ -1,13 +1,12 @@
-use Rattle.std.proofs.Common.{◌-◌, ◌<◌, ◌≤◌}
+use Rattle.std.proofs.Common.{◌≤◌}
+use Rattle.std.specs.Prelude.{All}
+use Rattle.esx_average.specs.Bulk.{IsPart}
 use Rattle.esx_average.proofs.limit.find_limit.Given as goal
 
-abbrev pub invariant-loop-low : goal.invariant-loop-low
-invariant-loop-low l = record {
-  low : l.low ≤ 549755813888;
-  high : l.high ≤ 549755813888;
-  more : l.left < l.above_low;
-  fewer : l.above_high ≤ l.left;
+abbrev pub invariant-loop : goal.invariant-loop
+invariant-loop l = record {
+  found : l.found ≤ 549755813888;
+  left : l.left ≤ 2097152;
+  count : l.count ≤ 32;
+  parts : All IsPart l.parts;
 }
-
-abbrev pub decreases-loop-low : goal.decreases-loop-low
-decreases-loop-low l = l.high - l.low
