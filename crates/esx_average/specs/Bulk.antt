@@ -13,6 +13,10 @@ pub record IsPart (part : Part) : Type 0 where
   pub rate : part.rate ≤ 140737488355328
   pub pages : part.pages ≤ 65536
 
+-- the row has pages above its floor
+abbrev pub IsAbove : Part → Type 0
+IsAbove part = part.floor < part.pages
+
 -- what a row keeps of so many pages
 abbrev pub kept : ℕ → Row → ℕ → ℕ → ℕ
 kept tau row limit pages = min pages (max (row.shares * limit / (6553600 - tau * row.active)) row.floor)

@@ -11,8 +11,9 @@
 //! counted again before it is done.
 
 ghost use Rattle.std.specs.Prelude.{◌≡◌, ℕ, ◌+◌, ◌-◌, ◌*◌, ◌/◌, ◌≤◌, ◌<◌, min, max, All, IsTrue, length, slice_index};
+ghost use Rattle.std.specs.List.{AllWithin};
 ghost use Rattle.esx_formulas.specs.Ratio.{IsRow, AreRows, row_at};
-ghost use Rattle.esx_average.specs.Bulk.{rate, IsPart};
+ghost use Rattle.esx_average.specs.Bulk.{rate, IsPart, IsAbove};
 
 use crate::bulk::price;
 use esx_formulas::Row;
@@ -69,6 +70,7 @@ fn open_parts(tau: u32, rows: &[Row], targets: &[u32], parts: &mut [Part; VM_NUM
     requires parts { All IsPart parts.old }
     ensures few { result ≤ length rows.now }
     ensures parts { All IsPart parts.new }
+    ensures above { AllWithin IsAbove parts.new 0 result }
 {
     let mut count = 0;
     for (i, row) in rows.iter().enumerate() {
