@@ -5,7 +5,7 @@
 //! one limit revoke what a page after a page would.
 
 ghost use Rattle.std.specs.Prelude.{◌≡◌, ℕ, ◌-◌, ◌*◌, ◌≤◌, ◌<◌, length, slice_index};
-ghost use Rattle.esx_formulas.specs.Ratio.{IsRow, AreRows, row_at};
+ghost use Rattle.esx_formulas.specs.Ratio.{claim, IsRow, AreRows, row_at};
 ghost use Rattle.esx_average.specs.Bulk.{kept, dearer, WereRevoked};
 
 use crate::limit::find_limit;
@@ -54,14 +54,16 @@ fn chunk_steps(rows: usize, left: u32) -> u32
     left.min(rows * sizes)
 }
 
-/// What each page of a machine costs, in units of 1/6,553,600: the less of its memory is in use, the more.
-pub(crate) fn price(tau: u32, active: u32) -> u64
-    requires { (tau ≤ 99) × (active ≤ 65536) }
-    ensures value { result ≡ 6553600 - tau * active }
+/// What each page of a row costs, in units of 1/6,553,600: the less of its memory is in use, the more. It is the
+/// private `price` of `ratio` in `esx_formulas` again.
+pub(crate) fn price(tau: u32, row: &Row) -> u64
+    requires tax { tau ≤ 99 }
+    requires row { IsRow row.now }
+    ensures value { result ≡ (claim tau row.now 1).under }
     ensures least { 65536 ≤ result }
     ensures most { result ≤ 6553600 }
 {
-    6553600 - u64::from(tau) * u64::from(active)
+    6553600 - u64::from(tau) * u64::from(row.active)
 }
 
 /// How many pages a row keeps, where it has so many, and those that cost more than a limit are revoked.
@@ -75,7 +77,7 @@ fn kept(tau: u32, row: &Row, pages: u32, limit: u64) -> u32
     if pages <= row.floor {
         return pages;
     }
-    let cheap = u64::from(row.shares) * limit / price(tau, row.active);
+    let cheap = u64::from(row.shares) * limit / price(tau, row);
     u64::from(pages).min(cheap.max(u64::from(row.floor))) as u32
 }
 

@@ -57,7 +57,7 @@ fn rate(tau: u32, row: &Row) -> u64
     ensures value { result ≡ rate tau row.now }
     ensures most { result ≤ 140737488355328 }
 {
-    u64::from(row.shares) * UNIT / price(tau, row.active)
+    u64::from(row.shares) * UNIT / price(tau, row)
 }
 
 /// The parts of the rows that have pages above their floors, in front, and how many they are. Rows at their
