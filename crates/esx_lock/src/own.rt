@@ -324,8 +324,8 @@ impl<V: Gauged> OwnLock<V> {
     }
 
     // Sleeps until a give wakes it, unless the lock is free by now. It says so before it looks at the word again: a
-    // give that does not find it said has stored its word before that look. After the sleep it says so for those
-    // who sleep still.
+    // give that does not find it said has stored its word before that look, or another give has found it and wakes.
+    // After the sleep it says so for those who sleep still.
     fn sleep<R: Wait>(&self, rt: &R) {
         self.asleep.store(1, Ordering::SeqCst);
         if self.table.shared.peek(0) % 2 == 1 {

@@ -105,13 +105,13 @@ fn threads_look_and_sleep(rt: HostRuntime) -> Result<(), Fail> {
     let progress = none_yet();
     let (first, second) = thread::join(
         &rt,
-        || hold_each_round(&rt, &lock, first, &progress, 60_000),
-        || submit_each_round(&rt, &lock, second, &progress, 60_000),
+        || hold_each_round(&rt, &lock, first, &progress, 15_000),
+        || submit_each_round(&rt, &lock, second, &progress, 15_000),
     );
     let both = lock.join(first, second?);
     assert!(rt; lock.whole(&both));
     let tally = lock.close(both);
-    assert_eq!(rt; tally.log.len(), 60_000);
-    assert_eq!(rt; count_in_order(&tally.log, 1), Some(60_000));
+    assert_eq!(rt; tally.log.len(), 15_000);
+    assert_eq!(rt; count_in_order(&tally.log, 1), Some(15_000));
     Ok(())
 }
