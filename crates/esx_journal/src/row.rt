@@ -34,7 +34,7 @@ pub struct Row {
 const _: () = prove!(size_of::<Row>() == 56);
 
 /// A prune goes along links for one step in so many rows from its node on.
-const ROWS_A_STEP: usize = 128;
+const ROWS_A_STEP: usize = 64;
 
 /// It goes so many steps more.
 const MORE_STEPS: usize = 16;
