@@ -1,6 +1,6 @@
 mod Keeps
 mod Outcomes
-mod Logs
+pub mod Logs
 mod Reaching
 mod Lines
 mod Refusing

@@ -14,6 +14,7 @@ ghost use Rattle.esx_model.specs.Replay.{replay_of};
 ghost use Rattle.esx_model.specs.History.{cursor, here, book_at};
 ghost use Rattle.esx_model.specs.Branching.{stands};
 ghost use Rattle.esx_model.specs.Console.{Session, IsLegal, history, next_reply, lined, stand_of};
+ghost use Rattle.esx_isolation.specs.Beside.{IsGuestAlone, IsGuestWhole};
 ghost use Rattle.esx_journal.specs.Turns.{IsSamePlace, Lengthens};
 ghost use Rattle.esx_journal.specs.Visits.{Visits, TakesOff};
 ghost use Rattle.esx_console.specs.Calls.{Asked, opened_session, lined_all, history_of, depth_of, said_next, TurnsOrAsks, OnlyAsks, UndidLine};
@@ -150,4 +151,15 @@ pub fn prune_line_takes_off()
         → TakesOff (history s) (history (lined s caller (Prune node))) node count }
 {
     prune_takes_off();
+}
+
+/// The reads of a guest answer what they answer alone, on a log that opens with admissions and starts and then has
+/// events and questions alone. Its trace is tidy, and of its machine the others' lines name no more than scans, swap
+/// outs, samples and shares. If its machine ran when the opening was over, it went through its trace, and no node
+/// number was wanting, all of its reads did.
+pub fn guest_reads_alone()
+    ensures prefix { IsGuestAlone }
+    ensures whole { IsGuestWhole }
+{
+    esx_isolation::laws::guest_reads_alone();
 }

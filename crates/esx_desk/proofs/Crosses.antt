@@ -1,6 +1,7 @@
 -- A console may cross threads, and threads may share a desk. This is stated layer by layer: a search through all of a console ends at its limit.
 use denote.Param.Send.{IsSend, IsSync, sendable}
 use Rattle.std.proofs.Crossing as below
+use Rattle.std.proofs.MapsCrossing as maps
 use Rattle.std.proofs.alloc.Global.TheSendSync as Global
 use Rattle.esx_index.specs.contracts.free.FreeIndex as FreeIndex
 use Rattle.esx_index.proofs.free.FreeIndex.TheLaws.TheKnot as Knot
@@ -18,6 +19,7 @@ use Rattle.esx_events.specs.contracts.call.Line as Line
 use Rattle.atomic_table.proofs.badge.Badge.TheSendSync as Badge
 use Rattle.atomic_table.proofs.send_lease.SendLease.TheSendSync as SendLease
 use Rattle.atomic_table.proofs.shared.Shared.TheSendSync as Shared
+use Rattle.esx_journal.specs.contracts.marks.Marks as Marks
 use Rattle.esx_console.specs.contracts.console.Console as Console
 use Rattle.esx_lock.specs.contracts.pass.Pass as Pass
 use Rattle.esx_desk.specs.contracts.legal.LegalConsole as LegalConsole
@@ -95,11 +97,17 @@ line_send = search (call_send, said_send, sendable, below.crosses) depth 60 fits
 line_sync : IsSync Line.the_row
 line_sync = search (call_sync, said_sync, sendable, below.crosses) depth 60 fits 8000
 
+marks_send : IsSend Marks.the_row
+marks_send = search (maps.crosses, sendable, below.crosses) depth 60 fits 8000
+
+marks_sync : IsSync Marks.the_row
+marks_sync = search (maps.crosses, sendable, below.crosses) depth 60 fits 8000
+
 pub console_send : IsSend Console.the_row
-console_send = search (tables_send, change_send, line_send, sendable, below.crosses) depth 60 fits 8000
+console_send = search (tables_send, change_send, marks_send, line_send, sendable, below.crosses) depth 60 fits 8000
 
 pub console_sync : IsSync Console.the_row
-console_sync = search (tables_sync, change_sync, line_sync, sendable, below.crosses) depth 60 fits 8000
+console_sync = search (tables_sync, change_sync, marks_sync, line_sync, sendable, below.crosses) depth 60 fits 8000
 
 legal_send : IsSend LegalConsole.the_row
 legal_send = search (console_send, sendable, below.crosses) depth 60 fits 8000

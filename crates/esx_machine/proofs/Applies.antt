@@ -95,7 +95,7 @@ accepted k e a cs t ds level kept m scene shows =
       after = u;
       gives = gives;
       shows = record {
-        sound = every_event_sound c scene e (a, u) shows.sound m.named gives;
+        sound = every_event_sound c scene e (a, u) shows.sound gives;
         tables = tables;
         level = m.follows ∙ ap (λ n. next_level c k.level n) free ∙ ap (λ l. next_level c l (free_count c.frames come.0)) shows.level;
       };

@@ -6,4 +6,4 @@ pub mod Framed
 pub mod Paged
 pub mod Advised
 pub mod Loops
-pub mod AdviceTaken
+pub mod Applied

@@ -8,4 +8,5 @@ pub use Rattle.esx_tables.specs.Changes
 pub use Rattle.esx_plans.specs.plan.Balloon
 pub mod Machine
 pub mod Questions
-pub mod Advising
+pub mod Applied
+pub use Rattle.esx_advice.specs.Advised

@@ -1,19 +1,12 @@
-//! Laws of records and of advice. A function here does nothing: its contract is the law.
+//! Laws of records, of advice, and of what a virtual machine reads. A function here has next to no body: its
+//! contract is the law.
 
-ghost use Rattle.std.specs.Prelude.{◌≡◌, ◌≤◌, ◌<◌, ◌+◌, ℕ, List, length, Ok, Result};
-ghost use Rattle.std.specs.List.{AllByRecursion};
-ghost use Rattle.esx_types.specs.declared.config.Config.{Config};
-ghost use Rattle.esx_types.specs.Ranges.{IsConfig};
-ghost use Rattle.esx_events.specs.declared.call.Help.TheVariants as helps;
-ghost use Rattle.esx_events.specs.declared.event.Event.{Event};
-ghost use Rattle.esx_events.specs.declared.event.Event.TheVariants as events;
+ghost use Rattle.std.specs.Prelude.{◌≡◌, Result};
 ghost use Rattle.esx_events.specs.declared.event.Answer.{Answer};
 ghost use Rattle.esx_events.specs.declared.event.Refusal.{Refusal};
 ghost use Rattle.esx_model.specs.declared.scene.Scene.{Scene};
-ghost use Rattle.esx_model.specs.Advice.{advice};
-ghost use Rattle.esx_model.specs.Replay.{run};
-ghost use Rattle.esx_model.specs.sound.Sound.{NamesVm};
-ghost use Rattle.esx_machine.specs.Advising.{IsAccepted};
+ghost use Rattle.esx_advice.specs.Advised.{DoesWriteGo, DoesReadGo, DoesNamedGo, DoesRebalanceGo, DoesSwapOutLower, DoesRebalanceLeave, DoesSwapOutFollow, DoesGoFollow, IsHelpBounded, IsWaitAdvised, DoesAdviceGoOn, DoesAdviceEnd};
+ghost use Rattle.esx_machine.specs.Applied.{DoMachinesReadAlike};
 ghost use Rattle.esx_machine.specs.Machine.{Kept, IsKept, Back, flipped, Trades, turned, Accepts};
 
 /// A record leads to one state. Flipped, it leads back, and flipped again it is as it was, and so are the tables.
@@ -31,17 +24,77 @@ pub fn event_there_and_back()
         → turned (turned r new) old ≡ r }
 {}
 
-/// Where the advice is to go, a write of some bytes inside the page is accepted.
+/// If the advice is to go, a write of some bytes inside the page is accepted.
 pub fn write_goes_as_advised()
-    ensures { (c : Config) (t : Scene) (n page at : ℕ) (bytes : List ℕ) → advice c t n page ≡ Ok helps.Go → 0 < length bytes → at + length bytes ≤ c.page
-        → IsAccepted c t (events.Write n page at bytes) }
-{}
+    ensures { DoesWriteGo }
+{
+    esx_advice::laws::write_goes_as_advised();
+}
 
-/// Any other advice, on each path, names an event that is accepted, with any word.
+/// And so is a read of some bytes inside the page.
+pub fn read_goes_as_advised()
+    ensures { DoesReadGo }
+{
+    esx_advice::laws::read_goes_as_advised();
+}
+
+/// Any other advice, on each path, names an event that is accepted, with any word. Targets can be set anew at any time.
 pub fn advised_event_goes()
-    ensures swap_out { (c : Config) (path : List Event) (t : Scene) (n page m word : ℕ) → IsConfig c → AllByRecursion NamesVm path → run c path ≡ Ok t
-        → advice c t n page ≡ Ok (helps.SwapOut m) → IsAccepted c t (events.SwapOut m word) }
-    ensures rebalance { (c : Config) (t : Scene) → IsAccepted c t events.Rebalance }
-    ensures replace { (c : Config) (path : List Event) (t : Scene) (n page word : ℕ) → IsConfig c → AllByRecursion NamesVm path → run c path ≡ Ok t
-        → advice c t n page ≡ Ok helps.Replace → IsAccepted c t (events.Replace n page word) }
-{}
+    ensures named { DoesNamedGo }
+    ensures rebalance { DoesRebalanceGo }
+{
+    esx_advice::laws::advised_event_goes();
+}
+
+/// A page that is paged out lowers the debt, and new targets leave it.
+pub fn swap_out_lowers()
+    ensures swap_out { DoesSwapOutLower }
+    ensures rebalance { DoesRebalanceLeave }
+{
+    esx_advice::laws::swap_out_lowers();
+}
+
+/// Straight after an advised rebalance the advice is to page out, straight after a replace it is to go.
+pub fn advice_follows()
+    ensures rebalance { DoesSwapOutFollow }
+    ensures replace { DoesGoFollow }
+{
+    esx_advice::laws::advice_follows();
+}
+
+/// With no other actor, at most twice the debt and two advised events stand before the answer to go.
+pub fn help_is_bounded()
+    ensures { IsHelpBounded }
+{
+    esx_advice::laws::help_is_bounded();
+}
+
+/// An access that has to wait, as its machine is held or no frame is free, has an advice for its page.
+pub fn wait_is_advised()
+    ensures { IsWaitAdvised }
+{
+    esx_advice::laws::wait_is_advised();
+}
+
+/// After an advised event the answer is an advice again, and never a refusal.
+pub fn advice_goes_on()
+    ensures { DoesAdviceGoOn }
+{
+    esx_advice::laws::advice_goes_on();
+}
+
+/// With no other actor advice leads to the answer to go, within twice the debt and two advised events, whatever
+/// words they take.
+pub fn advice_ends()
+    ensures { DoesAdviceEnd }
+{
+    esx_advice::laws::advice_ends();
+}
+
+/// A read that two machines of a site accept answers equal bytes, if the same events name its virtual machine. Scans, swap
+/// outs, samples and shares count as no such events.
+pub fn reads_are_isolated()
+    ensures { DoMachinesReadAlike }
+{
+    esx_isolation::laws::reads_are_isolated();
+}

@@ -1,14 +1,17 @@
 -- What the crates above may cite of the proofs here. Each lemma speaks of the definitions alone.
 
 -- Sites on a path stay sound.
-pub use Rattle.esx_model.proofs.EverySound.{every_step_sound, every_event_sound, every_run_sound_from, every_run_sound, opening_sound}
+pub use Rattle.esx_model.proofs.EverySound.{every_step_sound, every_event_sound, every_run_sound_from, every_run_sound, none_there, opening_sound}
+pub use Rattle.esx_model.proofs.event.Admission.{admitted_nowhere}
+-- The step behind an accepted event, and how paths go on.
+pub use Rattle.esx_model.proofs.Stepped.{stepped, step_of, run_one, run_one_more, here_done}
 -- What the reserves give.
 pub use Rattle.esx_model.proofs.Counting.{full_site, slot_is_there, drawn}
 pub use Rattle.esx_model.proofs.ReserveLaws.{Goes, passing, swap_out_goes, replace_goes}
 pub use Rattle.esx_model.proofs.Machines.{drawn_is_here, apart_counts, old_place, count_placed, here_placed, out_placed, lent_placed}
 pub use Rattle.esx_model.proofs.RowsOfSite.{rows_of_sound, slow_is_share, fast_is_share, active_is_share, resident_most}
 -- What an accepted event tells.
-pub use Rattle.esx_model.proofs.Gates.{HasVm, of_vm, passed, accepted, gives, same_site, not_not, runs, stops}
+pub use Rattle.esx_model.proofs.Gates.{HasVm, of_vm, passed, accepted, gives, same_site, not_not, runs, stops, within_page}
 pub use Rattle.esx_model.proofs.event.Access.{settled, read_room, write_room, access_kept, whole_page}
 pub use Rattle.esx_model.proofs.event.Sharing.{SeesPage, Sees, look_sees, look_sound, beside, no_share, frame_below, here_past, place_within, share_marked}
 pub use Rattle.esx_model.proofs.event.Sampling.{IsCounted, counted_kept}
@@ -31,7 +34,7 @@ pub use Rattle.esx_model.proofs.EventShown.{left_put, joined_put, put_twice, acc
 pub use Rattle.esx_model.proofs.Counts.{free_row, free_rows, count_in_frame, frames_counted}
 pub use Rattle.esx_model.proofs.Books.{book_read}
 -- Lists, rows of tables, and states.
-pub use Rattle.esx_model.proofs.Lists.{split_at_index, one, chosen, eqb_same, some_same}
+pub use Rattle.esx_model.proofs.Lists.{split_at_index, one, chosen, eqb_same, eqb_other, or_false, either, not_true, some_same}
 pub use Rattle.esx_model.proofs.Lists.{find_passes, find_in, all_map, all_at, all_append, all_middle}
 pub use Rattle.esx_model.proofs.Lists.{rows_same, rows_move, row_in_rows, some_below}
 pub use Rattle.esx_model.proofs.Counts.{counts_same}

@@ -1,5 +1,5 @@
 -- An event raises each epoch by one at most.
-use Rattle.std.proofs.Common.{zero, suc, ◌≡◌, ℕ, ◌+◌, ◌-◌, ◌≤◌, ◌||◌, Bool, true, false, nat_lt, List, [], ◌∷◌, length, map, get_or, set, take, drop, replicate, refl, ap, subst, arith, cond, Option, Some, None, inl, inr, Result, Ok, Err}
+use Rattle.std.proofs.Common.{zero, suc, ◌≡◌, ℕ, ◌+◌, ◌-◌, ◌≤◌, ◌||◌, Bool, true, false, nat_lt, List, [], ◌∷◌, length, map, get_or, set, take, drop, replicate, refl, ap, subst, arith, cond, Option, Some, None, inl, inr, Ok}
 use Rattle.std.specs.List.{AllByRecursion, list_any}
 use Rattle.std.specs.Option.{option_map}
 use Rattle.esx_types.specs.declared.config.Config.{Config}
@@ -9,11 +9,9 @@ use Rattle.esx_types.specs.declared.level.Level.{Level}
 use Rattle.esx_types.specs.declared.level.Level.TheVariants.{High, Soft, Hard, Low}
 use Rattle.esx_events.specs.declared.event.Answer.{Answer}
 use Rattle.esx_events.specs.declared.event.Answer.TheVariants as answers
-use Rattle.esx_events.specs.declared.event.Refusal.{Refusal}
 use Rattle.esx_events.specs.declared.event.Event.{Event}
 use Rattle.esx_events.specs.declared.event.Event.TheVariants.{Admit, Start, Read, Write, Ask, Lend, TakeBack, Sample, Rebalance, Scan, SwapOut, Replace, SetShares, SetTax, Stop, DropPage, Gone}
 use Rattle.esx_formulas.specs.declared.activity.Period.{Period}
-use Rattle.esx_formulas.specs.Level.{next_level}
 use Rattle.esx_formulas.specs.Targets.{targets_of}
 use Rattle.esx_model.specs.declared.look.Look.{Look}
 use Rattle.esx_model.specs.declared.look.Look.TheVariants.{Already, SharedFrame, OtherPage, Changed, OtherBytes, Nothing}
@@ -38,7 +36,8 @@ use Rattle.esx_model.specs.event.Sharing.{look, after_look, scan_gate, scan}
 use Rattle.esx_model.specs.event.Paging.{victim, swap_out_gate, to_slot, leave_by, leave, swap_out, is_above_min, replace_gate, freed_slot, trade, trade_for, replace}
 use Rattle.esx_model.specs.event.Leaving.{stop_gate, stop, drop_gate, drop_page, gone_gate, without_last, gone}
 use Rattle.esx_model.specs.Step.{step}
-use Rattle.esx_model.specs.Replay.{opening, settled, next, after_one, run_from, run}
+use Rattle.esx_model.proofs.Stepped.{step_of, run_one}
+use Rattle.esx_model.specs.Replay.{opening, next, run_from, run}
 use Rattle.esx_model.specs.Epochs.{IsEpochWithin, AreEpochsWithin}
 use Rattle.esx_model.proofs.Lists.{all_map, all_set, chosen}
 use Rattle.esx_model.proofs.Gates.{of_vm, passed, accepted, same_site}
@@ -351,25 +350,10 @@ step_within k c s level (Stop n) r within h = stop_within (k + 1) s n r (later k
 step_within k c s level (DropPage n page) r within h = drop_page_within (k + 1) s n page r (later k s within) h
 step_within k c s level (Gone n) r within h = gone_within (k + 1) s n r (later k s within) h
 
-abbrev the_scene : Answer × Scene → Result (Answer × Scene) Refusal
-the_scene a = Ok a
-
-settled_within : (k : ℕ) (c : Config) (level : Level) (o : Outcome) (r : Answer × Scene) → ((q : Answer × Site) → o ≡ Ok q → AreEpochsWithin k q.1) → settled c level o ≡ Ok r → AreEpochsWithin k r.1.site
-settled_within k c level (Err e) r within h = cc
-settled_within k c level (Ok q) r within h =
-    let P : Site → Type 0 = AreEpochsWithin k in
-    subst P (ap (λ (x : Answer × Scene). x.1.site) (told (q.0, record { site = q.1; level = next_level c level (free_count c.frames q.1) }) r h)) (within q refl)
-  where
-    told : (a b : Answer × Scene) → the_scene a ≡ Ok b → a ≡ b
-    told a b h = cc
-
 pub event_within : (c : Config) (k : ℕ) (t : Scene) (e : Event) (r : Answer × Scene) → AreEpochsWithin k t.site → next c t e ≡ Ok r → AreEpochsWithin (k + 1) r.1.site
-unfolding next
-event_within c k t e r within h = settled_within (k + 1) c t.level (step c t.site t.level e) r (λ q is. step_within k c t.site t.level e q within is) h
-
-run_one : (c : Config) (i : ℕ) (o : Result (Answer × Scene) Refusal) (go : Scene → Result Scene (ℕ × Refusal)) (u : Scene) → after_one i o go ≡ Ok u → (r : Answer × Scene) × (o ≡ Ok r) × (go r.1 ≡ Ok u)
-run_one c i (Err e) go u h = cc
-run_one c i (Ok r) go u h = (r, refl, h)
+event_within c k t e r within h =
+    let s = step_of c t e r h in
+    subst (AreEpochsWithin (k + 1)) s.3 (step_within k c t.site t.level e s.0 within s.1)
 
 run_within : (c : Config) (k i : ℕ) (es : List Event) (t u : Scene) → AreEpochsWithin k t.site → run_from c i es t ≡ Ok u → AreEpochsWithin (k + length es) u.site
 unfolding run_from
@@ -380,7 +364,7 @@ run_within c k i [] t u within h =
     let Q : ℕ → Type 0 = λ n. AreEpochsWithin n u.site in
     subst Q none (subst P same within)
 run_within c k i (e ∷ es) t u within h =
-    let one = run_one c i (next c t e) (λ x. run_from c (i + 1) es x) u h in
+    let one = run_one i (next c t e) (λ x. run_from c (i + 1) es x) u h in
     let more = run_within c (k + 1) (i + 1) es one.0.1 u (event_within c k t e one.0 within one.1) one.2 in
     let all : (k + 1) + length es ≡ k + length (e ∷ es) = omega arith in
     let Q : ℕ → Type 0 = λ n. AreEpochsWithin n u.site in

@@ -1,5 +1,7 @@
 -- What an accepted event tells: its machine is there, and its gate passed.
-use Rattle.std.proofs.Common.{◌≡◌, Bool, true, false, not, [], ◌∷◌, cond, refl, ap, subst, Option, Some, None, Result, Ok}
+use Rattle.std.proofs.Common.{◌≡◌, ℕ, ◌+◌, ◌<◌, ◌≤◌, ◌==◌, ◌||◌, nat_le, nat_lt, Bool, true, false, not, [], ◌∷◌, cond, refl, ap, subst, arith, Option, Some, None, Result, Ok}
+use Rattle.std.proofs.lemmas.Bool.{or_from, lt-leb, le-ltb}
+use Rattle.std.proofs.lemmas.Bool.Decides.{nat_tests}
 use Rattle.esx_types.specs.declared.config.Config.{Config}
 use Rattle.esx_types.specs.declared.vm.VmState.{VmState}
 use Rattle.esx_types.specs.declared.vm.VmState.TheVariants.{Starting, Running, Stopping}
@@ -54,3 +56,11 @@ pub stops : (state : VmState) → is_stopping state ≡ true → state ≡ Stopp
 stops Starting h = cc
 stops Running h = cc
 stops Stopping h = refl
+
+-- some bytes inside a page of the machine are within its range
+pub within_page : (max page size at len : ℕ) → page < max → 0 < len → at + len ≤ size → (nat_le max page || (len == 0) || nat_lt size (at + len)) ≡ false
+within_page max page size at len below some fits =
+    or_from (nat_le max page || (len == 0)) (nat_lt size (at + len)) (or_from (nat_le max page) (len == 0) (lt-leb max page below) (not_nought len some)) (le-ltb size (at + len) fits)
+  where
+    not_nought : (k : ℕ) → 0 < k → (k == 0) ≡ false
+    not_nought k h = grind (arith, nat_tests)

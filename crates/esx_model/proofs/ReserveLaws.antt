@@ -1,6 +1,6 @@
 -- What the reserves give to events: a page that has to go out finds a slot, and one that makes room is alone in its frame.
 use Rattle.std.proofs.Common.{◌≡◌, ℕ, ◌+◌, ◌-◌, ◌≤◌, ◌<◌, Bool, true, false, ◌||◌, nat_lt, List, [], ◌∷◌, ◌++◌, length, length-append, refl, ap, ◌∙◌, subst, arith, cond, Option, Some, None, Result, Ok}
-use Rattle.std.specs.List.{filter, list_any, AllByRecursion}
+use Rattle.std.specs.List.{filter, list_any}
 use Rattle.std.proofs.lemmas.Bool.Decides.{nat_tests}
 use Rattle.std.proofs.lemmas.List.{length-set}
 use Rattle.std.proofs.lemmas.List.Elements.{filter-append}
@@ -28,7 +28,7 @@ use Rattle.esx_model.specs.event.Sharing.{look, after_look}
 use Rattle.esx_model.specs.event.Paging.{victim, swap_out_gate, to_slot, leave_by, leave, swap_out, is_above_min, replace_gate, freed_slot, trade, trade_for, replace}
 use Rattle.esx_model.specs.Laws.{IsFull}
 use Rattle.esx_model.specs.sound.Machines.{IsVm, IsPlace}
-use Rattle.esx_model.specs.sound.Sound.{IsSound, NamesVm}
+use Rattle.esx_model.specs.sound.Sound.{IsSound}
 use Rattle.esx_model.proofs.Lists.{one, or_false, eqb_same}
 use Rattle.esx_model.proofs.Machines.{out_placed, here_placed, apart_counts, drawn_is_here, old_place}
 use Rattle.esx_model.proofs.Rooms.{IsIn, pages_at_is}
@@ -48,8 +48,8 @@ passing (t ∷ ts) o h = ap (λ b. or_else (cond b (Some t.1) (first ts)) o) h.0
 pub here_and_out : (c : Config) (v : Vm) → IsVm c v → resident v + paged_out v ≤ v.spec.max
 here_and_out c v fine = let apart = apart_counts v.places in omega (arith, apart, fine.pages)
 
-pub out_on_path : (c : Config) (path : List Event) (t : Scene) (n : ℕ) (v : Vm) → IsConfig c → AllByRecursion NamesVm path → run c path ≡ Ok t → vm_at t.site n ≡ Some v → paged_out v ≤ v.spec.max - v.spec.min
-out_on_path c path t n v fine named h there = ((every_run_sound c path t fine named h).each n v there).out
+pub out_on_path : (c : Config) (path : List Event) (t : Scene) (n : ℕ) (v : Vm) → IsConfig c → run c path ≡ Ok t → vm_at t.site n ≡ Some v → paged_out v ≤ v.spec.max - v.spec.min
+out_on_path c path t n v fine h there = ((every_run_sound c path t fine h).each n v there).out
 
 -- a machine above its least may page out
 pub slot_above_min : (c : Config) (s : Site) (n : ℕ) (v : Vm) → IsSound c s → vm_at s n ≡ Some v → v.spec.min < resident v → (i : ℕ) × (least_slot c.slots s ≡ Some i)

@@ -1,9 +1,11 @@
 -- What lets a write to a page go on.
-use Rattle.std.specs.Prelude.{ℕ, Bool, true, false, ◌&&◌, not, is_some, Option, Some, None, if◌then◌else◌, Result, Ok, Err}
+use Rattle.std.specs.Prelude.{◌≡◌, ℕ, Bool, true, false, ◌&&◌, not, is_some, Option, Some, None, if◌then◌else◌, Result, Ok, Err}
 use Rattle.std.specs.List.{list_any}
 use Rattle.esx_types.specs.declared.config.Config.{Config}
 use Rattle.esx_events.specs.declared.call.Help.{Help}
 use Rattle.esx_events.specs.declared.call.Help.TheVariants as helps
+use Rattle.esx_events.specs.declared.event.Event.{Event}
+use Rattle.esx_events.specs.declared.event.Event.TheVariants as events
 use Rattle.esx_events.specs.declared.event.Refusal.{Refusal}
 use Rattle.esx_events.specs.declared.event.Refusal.TheVariants.{NoVm}
 use Rattle.esx_model.specs.declared.scene.Vm.{Vm}
@@ -38,3 +40,10 @@ help_at c t (Some v) page = unless (page_gate (standing v) page) (Ok (help_for c
 
 unfoldable pub advice : Config → Scene → ℕ → ℕ → Result Help Refusal
 advice c t n page = help_at c t (vm_at t.site n) page
+
+-- the event that an advice for a page of machine n names, with some word if it takes one
+abbrev pub IsNamedBy : ℕ → ℕ → Help → Event → Type 0
+IsNamedBy n page helps.Go e = ⊥
+IsNamedBy n page (helps.SwapOut m) e = (word : ℕ) × (e ≡ events.SwapOut m word)
+IsNamedBy n page helps.Rebalance e = e ≡ events.Rebalance
+IsNamedBy n page helps.Replace e = (word : ℕ) × (e ≡ events.Replace n page word)

@@ -1,6 +1,6 @@
 -- Laws of the model.
 use Rattle.std.specs.Prelude.{◌≡◌, ◌↔◌, ℕ, ◌<◌, ◌≤◌, false, List, length, Some, Ok, ◌-◌}
-use Rattle.std.specs.List.{AllByRecursion, list_any}
+use Rattle.std.specs.List.{list_any}
 use Rattle.esx_types.specs.declared.config.Config.{Config}
 use Rattle.esx_types.specs.Ranges.{IsConfig}
 use Rattle.esx_types.specs.declared.level.Level.{Level}
@@ -23,7 +23,7 @@ use Rattle.esx_model.specs.event.Rebalancing.{min_of, rows_of}
 use Rattle.esx_model.specs.event.Paging.{is_above_min}
 use Rattle.esx_model.specs.Replay.{opening, next, run}
 use Rattle.esx_model.specs.sound.Hints.{AreHints}
-use Rattle.esx_model.specs.sound.Sound.{IsSound, NamesVm}
+use Rattle.esx_model.specs.sound.Sound.{IsSound}
 
 -- a path begins at a sound site
 abbrev pub IsOpeningSound : Type 0
@@ -31,11 +31,11 @@ IsOpeningSound = (c : Config) → IsConfig c → IsSound c (opening c).site
 
 -- each accepted event leaves a sound site sound
 abbrev pub IsEachEventSound : Type 0
-IsEachEventSound = (c : Config) (t : Scene) (e : Event) (r : Answer × Scene) → IsSound c t.site → NamesVm e → next c t e ≡ Ok r → IsSound c r.1.site
+IsEachEventSound = (c : Config) (t : Scene) (e : Event) (r : Answer × Scene) → IsSound c t.site → next c t e ≡ Ok r → IsSound c r.1.site
 
 -- so each path leads to a sound site
 abbrev pub IsEachPathSound : Type 0
-IsEachPathSound = (c : Config) (es : List Event) (t : Scene) → IsConfig c → AllByRecursion NamesVm es → run c es ≡ Ok t → IsSound c t.site
+IsEachPathSound = (c : Config) (es : List Event) (t : Scene) → IsConfig c → run c es ≡ Ok t → IsSound c t.site
 
 -- where no frame is free and no machine has more than its least, each has exactly its least, and no frame has two pages: a page that is replaced is alone in its frame
 pub record IsFull (c : Config) (s : Site) : Type 0 where
@@ -80,4 +80,4 @@ pub record AreWithinReserves (c : Config) (t : Scene) : Type 0 where
   pub hints : AreHints (place_of t.site) t.site.hints
 
 abbrev pub IsEachPathWithinReserves : Type 0
-IsEachPathWithinReserves = (c : Config) (es : List Event) (t : Scene) → IsConfig c → AllByRecursion NamesVm es → run c es ≡ Ok t → AreWithinReserves c t
+IsEachPathWithinReserves = (c : Config) (es : List Event) (t : Scene) → IsConfig c → run c es ≡ Ok t → AreWithinReserves c t

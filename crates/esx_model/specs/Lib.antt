@@ -8,12 +8,15 @@ pub mod Replay
 pub mod sound
 pub mod Readings
 pub mod Advice
+pub mod Debts
 pub mod Tree
 pub mod History
 pub mod Branching
 pub mod WhatIf
 pub mod Console
+pub mod Memory
 pub mod Alone
+pub mod Guests
 pub mod Tables
 pub mod Moved
 pub mod Laws

@@ -17,13 +17,13 @@ ghost use Rattle.esx_model.specs.Site.{vm_at, place_at, paged_out, pages_at, lea
 ghost use Rattle.esx_model.specs.event.Outcome.{Passes, standing};
 ghost use Rattle.esx_model.specs.event.Paging.{swap_out_gate, swap_out, is_above_min, replace_gate, replace};
 ghost use Rattle.esx_model.specs.Replay.{run};
-ghost use Rattle.esx_model.specs.sound.Sound.{IsSound, NamesVm};
+ghost use Rattle.esx_model.specs.sound.Sound.{IsSound};
 
 /// A machine has at most as many pages out as it has slots reserved, on each path.
 pub fn out_is_reserved()
     ensures site { (c : Config) (s : Site) (n : ℕ) (v : Vm) → IsSound c s → vm_at s n ≡ Some v
         → paged_out v ≤ swap_reserve (Some v) }
-    ensures path { (c : Config) (path : List Event) (t : Scene) (n : ℕ) (v : Vm) → IsConfig c → AllByRecursion NamesVm path
+    ensures path { (c : Config) (path : List Event) (t : Scene) (n : ℕ) (v : Vm) → IsConfig c
         → run c path ≡ Ok t → vm_at t.site n ≡ Some v
         → paged_out v ≤ swap_reserve (Some v) }
 {}

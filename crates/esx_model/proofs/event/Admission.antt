@@ -2,9 +2,9 @@
 use Rattle.std.proofs.Common.{◌≡◌, ℕ, zero, suc, ◌+◌, ◌≤◌, ◌<◌, Bool, true, false, nat_lt, List, [], length, get_or, set, replicate, count_by, sum_by, refl, sym, ap, ◌∙◌, subst, arith, Option, Some, None, Ok, inl, inr}
 use Rattle.std.specs.Prelude.{is_some}
 use Rattle.std.specs.List.{filter, AllByRecursion}
-use Rattle.std.proofs.lemmas.List.{length-replicate, length-set, get_or-set_same, get_or-set_other}
+use Rattle.std.proofs.lemmas.List.{length-replicate, length-set, set_past, get_or-set_same, get_or-set_other}
 use Rattle.std.proofs.lemmas.List.Sums.{sum_by-set}
-use Rattle.std.proofs.lemmas.Bool.{cases_eq}
+use Rattle.std.proofs.lemmas.Bool.{cases_eq, cases_lt}
 use Rattle.std.proofs.lemmas.Bool.Decides.{nat_tests}
 use Rattle.esx_lists.proofs.Counts.{count_by-replicate}
 use Rattle.esx_types.specs.declared.config.Config.{Config}
@@ -117,10 +117,17 @@ admitted_sound c s n spec sound below there good memory swap =
       hints = hints_stay (place_of s) (place_of t) s.hints sound.hints (λ m k. place_kept s n m k spec below there);
     }
 
-pub admit_sound : (c : Config) (s : Site) (n : ℕ) (spec : VmSpec) (r : Answer × Site) → IsSound c s → n < VM_NUMBERS → admit c s n spec ≡ Ok r → IsSound c r.1
+-- under a number that there is not nobody comes
+pub admitted_nowhere : (c : Config) (s : Site) (n : ℕ) (spec : VmSpec) → IsSound c s → VM_NUMBERS ≤ n → with_vm s n (admitted spec) ≡ s
+admitted_nowhere c s n spec sound beyond = ap (λ (vms : List (Option Vm)). record s { vms = vms }) (set_past s.vms n (Some (admitted spec)) (omega (arith, sound.vms, beyond)))
+
+pub admit_sound : (c : Config) (s : Site) (n : ℕ) (spec : VmSpec) (r : Answer × Site) → IsSound c s → admit c s n spec ≡ Ok r → IsSound c r.1
 unfolding admit
-admit_sound c s n spec r sound named h =
+admit_sound c s n spec r sound h =
     let pass = passed (admit_gate c (is_some (vm_at s n)) spec (memory_with s spec) (swap_with s spec)) _ r h in
-    let below : n < length s.vms = omega (arith, sound.vms, named) in
-    gives c (answers.Admitted (reserves_in c (memory_with s spec) (swap_with s spec))) (with_vm s n (admitted spec)) r pass.1
-    (admitted_sound c s n spec sound below (no_vm (vm_at s n) pass.0.0) (good_by_test spec (not_not _ pass.0.1.0)) (most c.frames (memory_with s spec) pass.0.1.1.0) (most c.slots (swap_with s spec) pass.0.1.1.1.0))
+    let said : Answer = answers.Admitted (reserves_in c (memory_with s spec) (swap_with s spec)) in
+    gives c said (with_vm s n (admitted spec)) r pass.1 (elim (cases_lt n VM_NUMBERS) [
+      | inl named ↦ (let below : n < length s.vms = omega (arith, sound.vms, named) in
+          admitted_sound c s n spec sound below (no_vm (vm_at s n) pass.0.0) (good_by_test spec (not_not _ pass.0.1.0)) (most c.frames (memory_with s spec) pass.0.1.1.0) (most c.slots (swap_with s spec) pass.0.1.1.1.0))
+      | inr beyond ↦ subst (IsSound c) (sym (admitted_nowhere c s n spec sound beyond)) sound
+    ])

@@ -31,7 +31,7 @@ loop-index-preserved c =
     let more = run_more config events c.loop-index.index c.index-events-index.result c.loop-index.scene (omega arith) c.index-events-index.is in
     record {
       rest = sym (ap (λ o. after_one c.loop-index.index o (run_from config (c.loop-index.index + 1) (drop (c.loop-index.index + 1) events))) ensured.steps) ∙ sym more ∙ c.loop-index.invariant.rest;
-      sound = every_event_sound config c.loop-index.scene c.index-events-index.result (c.in-Ok-next.field-0-0, c.in-Ok-next.after) c.loop-index.invariant.sound ensured.named ensured.steps;
+      sound = every_event_sound config c.loop-index.scene c.index-events-index.result (c.in-Ok-next.field-0-0, c.in-Ok-next.after) c.loop-index.invariant.sound ensured.steps;
     }
 
 pub returns : goal.returns

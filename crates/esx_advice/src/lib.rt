@@ -1,0 +1,4 @@
+//! Laws of advice: what is advised can be done, and how far it leads.
+#![tactic(auto)]
+
+pub mod laws;

@@ -1,5 +1,0 @@
-use Rattle.esx_machine.proofs.AdviceTaken.{go_is_accepted}
-use Rattle.esx_machine.proofs.laws.write_goes_as_advised.Goals as goal
-
-pub returns : goal.returns
-returns c = go_is_accepted
