@@ -2,6 +2,7 @@
 
 ghost use Rattle.std.specs.Prelude.{◌≡◌, ◌<◌, ◌≤◌, ℕ, Some, IfOk, All, length, slice_get};
 ghost use Rattle.esx_types.specs.declared.config.TheConstants.{CALLERS};
+ghost use Rattle.esx_model.specs.Console.{IsLegal};
 ghost use Rattle.esx_workers.specs.Runs.{IsRun, IsGated};
 ghost use Rattle.esx_work.specs.Runs.{CanRun, Ran, RunsOn};
 
@@ -56,6 +57,7 @@ pub fn run_workers<'a, R: Threads + Wait + Sync, G: Gate + Send + Drop>(
     requires gates { length gates.items ≡ length workers.items }
     ensures ends { IfOk result (λ r. length r.ends.items ≡ length workers.entry.items) }
     ensures many { IfOk result (λ r. length r.gates.items ≡ length workers.entry.items) }
+    ensures legal { IfOk result (λ r. IsLegal r.console) }
     ensures runs { IfOk result (λ r. RunsOn console (length workers.entry.items) (λ k e lines. (w : _) (gate : _) → slice_get workers.entry.items k ≡ Some w → slice_get gates.items k ≡ Some gate → IsRun (G.is_open gate) k w turns e lines) r.ends.items r.console) }
     ensures gates { IfOk result (λ r. RunsOn console (length workers.entry.items) (λ k e lines. (w : _) (before after : _) → slice_get workers.entry.items k ≡ Some w → slice_get gates.items k ≡ Some before → slice_get r.gates.items k ≡ Some after → IsGated G.passes before after w turns e lines) r.ends.items r.console) }
 {
@@ -71,8 +73,10 @@ pub fn run_workers<'a, R: Threads + Wait + Sync, G: Gate + Send + Drop>(
         gates,
     } = parted(finished, room)?;
     let pass = meet_all(&desk, &opened, passes);
+    let console = desk.close(pass);
+    let _ = console.log();
     Ok(Outcome {
-        console: desk.close(pass),
+        console,
         ends,
         gates,
     })

@@ -16,7 +16,7 @@ use Rattle.esx_scenario.specs.declared.plan.TraceLine.{TraceLine}
 use Rattle.esx_workers.specs.declared.visiting.Step.{Step}
 use Rattle.esx_workers.specs.declared.worker.Worker.{Worker}
 use Rattle.esx_workers.specs.declared.worker.Worker.TheVariants.{Guest, Sharer, Swapper, Policy}
-use Rattle.esx_workers.specs.Passed.{may_want, is_access, is_passed, is_passed_over, first_of}
+use Rattle.esx_workers.specs.Passed.{may_want, is_access_call, is_passed, is_passed_over, first_of}
 use Rattle.esx_workers.specs.Visiting.{call_at_line, rest_at}
 use Rattle.esx_workers.specs.Workers.{asks, asked, rest}
 use Rattle.esx_workers.specs.Runs.{goes_on, worker_after, AreAsked, AreAfter, IsStraight, IsRewound, Ended, Broken, Since, Running, Gated, Stopped, Called, Short}
@@ -195,10 +195,10 @@ module _ (k : ℕ) (w now : Worker) (first : Option ℕ) (passed turn : ℕ) (a 
     more_many : length (r.lines ++ line k call reply ∷ []) ≡ turn + 1
     more_many = length-append r.lines (line k call reply ∷ []) ∙ ap (λ (n : ℕ). n + 1) r.many
 
-    more_passed : passed + cond (is_passed (is_access call) reply.said) 1 0 ≡ count_by is_passed_over (r.lines ++ line k call reply ∷ [])
-    more_passed = ap (λ (n : ℕ). n + cond (is_passed (is_access call) reply.said) 1 0) r.passed_are ∙ sym (count_end is_passed_over r.lines (line k call reply))
+    more_passed : passed + cond (is_passed (is_access_call call) reply.said) 1 0 ≡ count_by is_passed_over (r.lines ++ line k call reply ∷ [])
+    more_passed = ap (λ (n : ℕ). n + cond (is_passed (is_access_call call) reply.said) 1 0) r.passed_are ∙ sym (count_end is_passed_over r.lines (line k call reply))
 
-    pub running_more : (now' : Worker) (first' : Option ℕ) (passed' : ℕ) → now' ≡ goes_on now reply → first' ≡ Some (first_of first reply.jumps) → passed' ≡ passed + cond (is_passed (is_access call) reply.said) 1 0
+    pub running_more : (now' : Worker) (first' : Option ℕ) (passed' : ℕ) → now' ≡ goes_on now reply → first' ≡ Some (first_of first reply.jumps) → passed' ≡ passed + cond (is_passed (is_access_call call) reply.said) 1 0
         → reply.jumps ≡ first_of first reply.jumps → Running k w now' first' passed' (turn + 1) a d
     running_more now' first' passed' now_is first_is passed_is same = record {
       lines = r.lines ++ line k call reply ∷ [];
@@ -210,7 +210,7 @@ module _ (k : ℕ) (w now : Worker) (first : Option ℕ) (passed turn : ℕ) (a 
       since = subst (λ (f : Option ℕ). Since f (r.lines ++ line k call reply ∷ [])) (sym first_is) (since_more first r.lines (line k call reply) r.since same);
     }
 
-    pub ended_rewound : (let_through : Type 0) (turns passed' : ℕ) (end : End) → turn + 1 ≤ turns → end ≡ record { how = Rewound; passed = passed' } → passed' ≡ passed + cond (is_passed (is_access call) reply.said) 1 0
+    pub ended_rewound : (let_through : Type 0) (turns passed' : ℕ) (end : End) → turn + 1 ≤ turns → end ≡ record { how = Rewound; passed = passed' } → passed' ≡ passed + cond (is_passed (is_access_call call) reply.said) 1 0
         → reply.jumps ≢ first_of first reply.jumps → Ended let_through k w turns end a d
     ended_rewound let_through turns passed' end le same passed_is other = record {
       lines = r.lines ++ line k call reply ∷ [];

@@ -1,2 +1,4 @@
 pub mod Drawing
 pub mod Going
+pub mod Visits
+pub mod Others

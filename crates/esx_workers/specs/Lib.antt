@@ -8,6 +8,8 @@ pub mod Visiting
 pub mod Workers
 pub mod Runs
 pub mod Starts
+pub mod GuestRuns
+pub use Rattle.esx_model.specs.Guests
 pub use Rattle.esx_door.specs.Gates
 pub use Rattle.esx_door.specs.Own
 pub use Rattle.rand_pcg.specs.Lcg

@@ -6,29 +6,13 @@ use Rattle.esx_events.specs.declared.call.Said.{Said}
 use Rattle.esx_events.specs.declared.call.Said.TheVariants.{Refused}
 use Rattle.esx_events.specs.declared.call.Line.{Line}
 use Rattle.esx_events.specs.declared.event.Event.{Event}
-use Rattle.esx_events.specs.declared.event.Event.TheVariants.{Read, Write, Sample}
-use Rattle.esx_events.specs.declared.event.Refusal.{Refusal}
-use Rattle.esx_events.specs.declared.event.Refusal.TheVariants.{Held, Short}
+use Rattle.esx_events.specs.declared.event.Event.TheVariants.{Write, Sample}
+use Rattle.esx_model.specs.Guests.{is_access, is_wait}
 
 -- a read or a write
-abbrev pub is_access_event : Event → Bool
-is_access_event (Read vm page at len) = true
-is_access_event (Write vm page at bytes) = true
-is_access_event _ = false
-
-abbrev pub is_access : Call → Bool
-is_access (Do event) = is_access_event event
-is_access _ = false
-
--- the machine is held back, or frames are short
-abbrev pub is_pressed : Refusal → Bool
-is_pressed Held = true
-is_pressed Short = true
-is_pressed _ = false
-
-abbrev pub is_wait : Said → Bool
-is_wait (Refused e) = is_pressed e
-is_wait _ = false
+abbrev pub is_access_call : Call → Bool
+is_access_call (Do event) = is_access event
+is_access_call _ = false
 
 abbrev pub is_refused : Said → Bool
 is_refused (Refused e) = true
@@ -40,7 +24,7 @@ is_passed access said = is_refused said && not (access && is_wait said)
 
 -- a line whose refusal is passed over
 abbrev pub is_passed_over : Line → Bool
-is_passed_over x = is_passed (is_access x.call) x.reply.said
+is_passed_over x = is_passed (is_access_call x.call) x.reply.said
 
 -- the jumps of the first reply, where this one may be the first
 abbrev pub first_of : Option ℕ → ℕ → ℕ

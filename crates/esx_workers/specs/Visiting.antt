@@ -17,7 +17,7 @@ use Rattle.esx_workers.specs.declared.visiting.GuestWorker.{GuestWorker}
 use Rattle.esx_workers.specs.declared.visiting.Step.{Step}
 use Rattle.esx_workers.specs.declared.visiting.Step.TheVariants as step
 use Rattle.esx_workers.specs.Draws.{word, after_word}
-use Rattle.esx_workers.specs.Passed.{is_wait}
+use Rattle.esx_model.specs.Guests.{is_wait}
 
 -- the event of a trace's line
 abbrev pub event_of : ℕ → TraceLine → Event

@@ -3,6 +3,7 @@
 
 pub mod draws;
 pub mod end;
+pub mod laws;
 pub mod machine;
 pub mod passed;
 pub mod policing;

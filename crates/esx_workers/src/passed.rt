@@ -1,14 +1,15 @@
 //! What a worker notes of the replies to its calls.
 
 ghost use Rattle.std.specs.Prelude.{◌≡◌, ◌≢◌, ◌↔◌, ◌+◌, ◌-◌, ◌<◌, ◌^◌, if◌then◌else◌, Some, IsTrue};
-ghost use Rattle.esx_workers.specs.Passed.{is_access, is_wait, is_refused, is_passed, first_of};
+ghost use Rattle.esx_model.specs.Guests.{is_wait};
+ghost use Rattle.esx_workers.specs.Passed.{is_access_call, is_refused, is_passed, first_of};
 
 use crate::end::{End, How};
 use esx_events::{Call, Event, Refusal, Reply, Said};
 
 /// Is it a read or a write?
 pub fn is_access(call: &Call) -> bool
-    ensures { result ≡ is_access call.now }
+    ensures { result ≡ is_access_call call.now }
 {
     matches!(
         call,

@@ -4,6 +4,8 @@ ghost use Rattle.std.specs.Prelude.{◌≡◌, IfOk, OnOk, OnErr, length};
 ghost use Rattle.esx_door.specs.Own.{lines_of};
 ghost use Rattle.esx_workers.specs.Runs.{Ended, Broken, Gated, Stopped, Called, Short};
 ghost use Rattle.esx_workers.specs.Starts.{guest_of, sharer_of, swapper_of, policy_of};
+ghost use Rattle.esx_workers.specs.GuestRuns.{Visited};
+ghost use Rattle.esx_workers.specs.declared.end.How.TheVariants.{Done};
 
 use crate::end::End;
 use crate::machine::Machine;
@@ -36,8 +38,10 @@ pub fn guest<D: Door, G: Gate>(
     ensures leads { D.leads door.old door.new }
     ensures caller { D.caller door.new ≡ D.caller door.old }
     ensures ok { IfOk result (λ end. Ended (G.is_open gate.old) (D.caller door.old) (guest_of vm trace.entry rng) turns end (lines_of (D.caller door.old) (D.seen door.old)) (lines_of (D.caller door.old) (D.seen door.new))) }
+    ensures visits { IfOk result (λ end. Visited vm trace.now (end.how ≡ Done) (lines_of (D.caller door.old) (D.seen door.old)) (lines_of (D.caller door.old) (D.seen door.new))) }
     ensures gate { IfOk result (λ end. Gated G.passes gate.old gate.new (guest_of vm trace.entry rng) turns end (lines_of (D.caller door.old) (D.seen door.old)) (lines_of (D.caller door.old) (D.seen door.new))) }
     ensures err { OnErr result (Broken (D.caller door.old) (guest_of vm trace.entry rng) turns (lines_of (D.caller door.old) (D.seen door.old)) (lines_of (D.caller door.old) (D.seen door.new))) }
+    ensures visits_in_part { OnErr result (Visited vm trace.now ⊥ (lines_of (D.caller door.old) (D.seen door.old)) (lines_of (D.caller door.old) (D.seen door.new))) }
     ensures stopped { OnErr result (Stopped G.passes gate.old gate.new (guest_of vm trace.entry rng) (lines_of (D.caller door.old) (D.seen door.old)) (lines_of (D.caller door.old) (D.seen door.new))) }
     ensures made { OnOk result (Called D.made door.old door.new (lines_of (D.caller door.old) (D.seen door.old)) (lines_of (D.caller door.old) (D.seen door.new))) }
     ensures wanted { OnErr result (Short G.passes D.made D.wanted gate.old gate.new door.old door.new (guest_of vm trace.entry rng) (lines_of (D.caller door.old) (D.seen door.old)) (lines_of (D.caller door.old) (D.seen door.new))) }

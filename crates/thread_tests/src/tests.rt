@@ -1,4 +1,5 @@
 mod desk;
 mod lock;
 mod looks;
+mod rewinding;
 mod work;

@@ -12,6 +12,7 @@ use Rattle.esx_workers.specs.declared.worker.Worker.{Worker}
 use Rattle.esx_workers.specs.Runs.{IsRun, IsGated}
 use Rattle.esx_work.specs.Sites.{AreMachines, IsRunOf, IsGatedRunOf}
 use Rattle.esx_work.proofs.Meets.{runs_for}
+use Rattle.esx_work.proofs.Alone.{guests_alone, ungated}
 use Rattle.esx_work.proofs.Staffs.{all_some, run_of, gated_of}
 use Rattle.esx_work.proofs.site.run_site.Goals as goal
 
@@ -57,6 +58,18 @@ returns g c =
             ends ran.console many
             (run_of g.G.Gate.is_open g.G.Gate.passes p settings c.settings-settings.ensures (map (λ (g : Bor Guest). g.now) refs) order c.deref-3.result.now are staff c.in_ok-workers.ensures.each gates ends done.ends)
             done.runs,
+      );
+      alone = (
+        c.in_ok-console.console,
+        c.in_ok-console.ensures.ok,
+        (let sites = runs_for c.in_ok-console.console (length staff) (length p.guests + 3)
+            (λ (k : ℕ) (e : End) (lines : List Line). (w : Worker) (y : g.row.G.Denot) → slice_get staff k ≡ Some w → slice_get gates k ≡ Some y → IsRun (g.G.Gate.is_open y) k w settings.turns e lines)
+            (λ (k : ℕ) (e : End) (lines : List Line). (y : g.row.G.Denot) → slice_get gates k ≡ Some y → IsRunOf p (g.G.Gate.is_open y) k e lines)
+            ends ran.console many
+            (run_of g.G.Gate.is_open g.G.Gate.passes p settings c.settings-settings.ensures (map (λ (g : Bor Guest). g.now) refs) order c.deref-3.result.now are staff c.in_ok-workers.ensures.each gates ends done.ends)
+            done.runs in
+            guests_alone p c.in_ok-console.console ran.console (length p.guests + 3) ends c.guests.ensures.good done.legal (done.ends ∙ many) c.in_ok-console.ensures.ok
+            (ungated g.G.Gate.is_open p c.in_ok-console.console ran.console (length p.guests + 3) gates ends c.requires (done.ends ∙ many) sites)),
       );
       gates = (
         c.in_ok-console.console,

@@ -1,0 +1,4 @@
+//! What guests among workers read.
+#![tactic(auto)]
+
+pub mod laws;
