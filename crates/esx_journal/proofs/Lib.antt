@@ -1,5 +1,6 @@
 pub mod Lists
 pub mod Names
+pub mod NameNumbers
 pub mod Paths
 pub mod Trying
 pub mod Ways

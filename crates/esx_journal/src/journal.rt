@@ -268,7 +268,7 @@ impl Journal {
     pub fn visit(&mut self, name: &Name) -> Result<Stand, Refusal>
         ensures { (h : History) → Holds self.old h → Goes result self.old self.new (visit name.now h) }
     {
-        match self.marks.node_of(name.as_str()) {
+        match self.marks.node_at(name.as_str()) {
             Some(node) => self.goto(node),
             None => Err(Refusal::NoSuchName),
         }
@@ -279,7 +279,7 @@ impl Journal {
     pub fn mark(&mut self, name: &Name) -> Result<u32, Refusal>
         ensures { (h : History) → Holds self.old h → Names result self.old self.new (mark name.now h) }
     {
-        if self.marks.node_of(name.as_str()).is_some() {
+        if self.marks.node_at(name.as_str()).is_some() {
             return Err(Refusal::NameTaken);
         }
         self.marks.add(name, self.cursor)?;

@@ -7,6 +7,7 @@ mod children;
 pub mod journal;
 pub mod laws;
 pub mod marks;
+mod numbers;
 mod row;
 mod trial;
 

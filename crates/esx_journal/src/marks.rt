@@ -6,29 +6,34 @@ ghost use Rattle.esx_events.specs.declared.call.NameRow.{NameRow};
 ghost use Rattle.esx_events.specs.Names.{IsName};
 ghost use Rattle.esx_journal.specs.Marks.{node_named};
 
+use crate::numbers::numbers_of;
+use esx_events::name::is_name;
 use esx_events::{Name, NameRow};
 use esx_types::Rows;
-use indexmap::IndexMap;
 use std::alloc::{AllocError, Global};
+use std::collections::BTreeMap;
 use std::marker::Model;
 
 /// Names and their nodes, the oldest first. A name stands in it once.
+///
+/// Who names nodes chooses the names, so a node is found by the order of names as numbers, and by no hash.
 #[derive(Drop)]
 pub struct Marks {
     alloc: Global,
-    nodes: IndexMap<String, u32>,
+    rows: Vec<(String, u32)>,
+    nodes: BTreeMap<((u64, u64), (u64, u64)), u32>,
 }
 
 impl Model for Marks {
     ghost use Rattle.std.specs.Prelude.{List, string_bytes};
     ghost use Rattle.esx_events.specs.declared.call.NameRow.{NameRow};
-    ghost use Rattle.esx_journal.specs.Marks.{rows_of, AreNames};
+    ghost use Rattle.esx_journal.specs.Marks.{rows_of, AreMarks};
 
     ghost Value = { List NameRow };
 
-    ghost view = { λ a. rows_of string_bytes a.nodes.entries };
+    ghost view = { λ a. rows_of string_bytes a.rows.items };
 
-    ghost invariant = { λ a. AreNames (rows_of string_bytes a.nodes.entries) };
+    ghost invariant = { λ a. AreMarks a.nodes (rows_of string_bytes a.rows.items) };
 }
 
 impl Marks {
@@ -38,28 +43,44 @@ impl Marks {
     {
         Marks {
             alloc,
-            nodes: IndexMap::new(alloc),
+            rows: Vec::new(alloc),
+            nodes: BTreeMap::new(alloc),
         }
     }
 
     pub fn len(&self) -> usize
         ensures { result ≡ length self.now }
     {
-        self.nodes.len()
+        self.rows.len()
     }
 
     /// The node that has a name.
     pub fn node_of(&self, name: &str) -> Option<u32>
         ensures { result ≡ node_named name.now self.now }
     {
-        self.nodes.get(name).copied()
+        // No row has what is no name.
+        let _rows = &self.rows;
+        if is_name(name.as_bytes()) {
+            self.node_at(name)
+        } else {
+            None
+        }
+    }
+
+    /// The node that has a name, as `node_of` where the text is known to be one.
+    pub(crate) fn node_at(&self, name: &str) -> Option<u32>
+        requires { IsName name.now }
+        ensures { result ≡ node_named name.now self.now }
+    {
+        let numbers = numbers_of(name.as_bytes());
+        self.nodes.get(&numbers).copied()
     }
 
     /// A name and its node, by its place.
     pub fn at(&self, place: usize) -> Option<(&str, u32)>
         ensures { option_map (λ p. record { name = p.0.now; node = p.1 }) result ≡ slice_get self.now place }
     {
-        let (name, node) = self.nodes.get_index(place)?;
+        let (name, node) = self.rows.get(place)?;
         Some((name.as_str(), *node))
     }
 
@@ -90,8 +111,11 @@ impl Marks {
         ensures ok { OnOk result (self.new ≡ self.old ++ record { name = name.now; node = node } ∷ []) }
         ensures err { OnErr result (self.new ≡ self.old) }
     {
+        self.rows.reserve(1)?;
         let text = String::from_str(self.alloc, name.as_str())?;
-        self.nodes.insert(text, node)?;
+        self.nodes
+            .insert(numbers_of(name.as_str().as_bytes()), node)?;
+        self.rows.push_reserved((text, node));
         Ok(())
     }
 }

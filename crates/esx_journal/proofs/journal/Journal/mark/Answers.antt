@@ -16,7 +16,7 @@ err_is (Ok x) e h = absurd h
 
 pub returns-then-is_some : goal.returns-then-is_some
 returns-then-is_some c = λ h holds.
-    let there : is_some (node_named c.args.name.now h.marks) ≡ true = sym (c.is_some.ensures ∙ ap is_some (c.node_of.ensures ∙ ap (λ n. node_named n c.self.inside.marks) c.as_str.ensures.value
+    let there : is_some (node_named c.args.name.now h.marks) ≡ true = sym (c.is_some.ensures ∙ ap is_some (c.node_at.ensures ∙ ap (λ n. node_named n c.self.inside.marks) c.as_str.ensures.value
     ∙ ap (λ (x : Kept). node_named c.args.name.now x.marks) c.self.view_is ∙ ap (node_named c.args.name.now) holds.names)) ∙ c.if-is_some.true in
     record { same = refl; why = λ o. mark_taken c.args.name.now h there; late = λ o. cc }
 
@@ -26,7 +26,7 @@ returns-in_err-add c =
     let new : Kept = record old { marks = c.add.new.self } in
     let same : new ≡ c.args.self.now = ap (λ (m : List NameRow). record old { marks = m }) c.in_err-add.ensures.err ∙ c.self.view_is in
     λ h holds. (
-    let free : is_some (node_named c.args.name.now h.marks) ≡ false = sym (c.is_some.ensures ∙ ap is_some (c.node_of.ensures ∙ ap (λ n. node_named n c.self.inside.marks) c.as_str.ensures.value
+    let free : is_some (node_named c.args.name.now h.marks) ≡ false = sym (c.is_some.ensures ∙ ap is_some (c.node_at.ensures ∙ ap (λ n. node_named n c.self.inside.marks) c.as_str.ensures.value
     ∙ ap (λ (x : Kept). node_named c.args.name.now x.marks) c.self.view_is ∙ ap (node_named c.args.name.now) holds.names)) ∙ c.if-is_some.false in
     let Q : Result ℕ Refusal → Type 0 = λ q. Names q c.args.self.now new (mark c.args.name.now h) in
     let P : Result History Refusal → Type 0 = IsOk in
@@ -43,6 +43,6 @@ returns c =
     let P : History → Kept → Type 0 = λ h x. Holds x h in
     λ h holds. (
     let was : Holds old h = subst (P h) (sym c.self.view_is) holds in
-    let free : is_some (node_named c.args.name.now h.marks) ≡ false = sym (c.is_some.ensures ∙ ap is_some (c.node_of.ensures ∙ ap (λ n. node_named n c.self.inside.marks) c.as_str.ensures.value
+    let free : is_some (node_named c.args.name.now h.marks) ≡ false = sym (c.is_some.ensures ∙ ap is_some (c.node_at.ensures ∙ ap (λ n. node_named n c.self.inside.marks) c.as_str.ensures.value
     ∙ ap (node_named c.args.name.now) was.names)) ∙ c.if-is_some.false in
     record { after = with_name c.args.name.now h; gives = mark_free c.args.name.now h free; holds = named_more old h h.walk c.args.name.now c.add.new.self was c.in_ok-add.ensures.ok; node = was.place })
