@@ -11,7 +11,7 @@ use crate::commands::{Ended, Streams, run_asked};
 use crate::words::Asked;
 use esx_types::{ReadSource, Source, WriteSink};
 use std::alloc::AllocGlobal;
-use std::fs;
+use std::fs::{self, OpenFile};
 use std::io::{self, Read, Write};
 use std::marker::Brand;
 use std::rt::Files;
@@ -19,16 +19,22 @@ use std::sync::Wait;
 use std::sync::ledger::{Blank, Ledger};
 use std::thread::Threads;
 
+/// Opens a file apart from the standard streams. Where one of them is closed, the system gives its number to what
+/// is opened next; a clone has a number above theirs, and the closed stream stays closed.
+fn open_apart<R: Files>(rt: &R, path: &str) -> io::Result<R::File> {
+    fs::open(rt, path)?.try_clone()
+}
+
 /// What is asked for, with its file as it is opened.
 pub fn opened<R: Files>(rt: &R, asked: Asked<&str>) -> Asked<io::Result<R::File>>
     ensures { AskAlike (λ _ _. Unit {0}) asked.entry result }
 {
     match asked {
         Asked::Console(None) => Asked::Console(None),
-        Asked::Console(Some(path)) => Asked::Console(Some(fs::open(rt, path))),
-        Asked::Run(path) => Asked::Run(fs::open(rt, path)),
-        Asked::Replay(path) => Asked::Replay(fs::open(rt, path)),
-        Asked::Check(path) => Asked::Check(fs::open(rt, path)),
+        Asked::Console(Some(path)) => Asked::Console(Some(open_apart(rt, path))),
+        Asked::Run(path) => Asked::Run(open_apart(rt, path)),
+        Asked::Replay(path) => Asked::Replay(open_apart(rt, path)),
+        Asked::Check(path) => Asked::Check(open_apart(rt, path)),
     }
 }
 
