@@ -9,23 +9,17 @@ use Rattle.std.proofs.lemmas.List.{get_or_past}
 use Rattle.std.proofs.lemmas.Fmt.{decimal_by_steps}
 use Rattle.hex.specs.Hex.{encode_lower, encode_with, lower_digits}
 use Rattle.esx_reading.proofs.FieldLemmas.{no_match}
-use Rattle.esx_events.specs.Names.{IsName, is_name_byte, starts_lower}
+use Rattle.esx_events.specs.Names.{IsName, is_lower, is_name_byte, starts_lower}
 use Rattle.esx_events.specs.declared.event.Event.{Event}
 use Rattle.esx_events.specs.declared.call.Call.{Call}
 use Rattle.esx_reading.specs.Fields.{joined}
 use Rattle.esx_words.specs.declared.verbs.Verb.{Verb}
 use Rattle.esx_words.specs.declared.verbs.Verb.TheVariants as verbs
-use Rattle.esx_words.specs.declared.verbs.EventVerb.TheVariants as events
-use Rattle.esx_words.specs.declared.verbs.MachineEvent.TheVariants as machine_events
-use Rattle.esx_words.specs.declared.verbs.PlaceEvent.TheVariants as place_events
-use Rattle.esx_words.specs.declared.verbs.NumberVerb.TheVariants as number_verbs
-use Rattle.esx_words.specs.declared.verbs.NameVerb.TheVariants as name_verbs
-use Rattle.esx_words.specs.declared.verbs.AloneVerb.TheVariants as alone_verbs
-use Rattle.esx_words.specs.declared.verbs.PlaceVerb.TheVariants as place_verbs
 use Rattle.esx_words.specs.Kinds.{Kind, Kinds, Value, Values, value_word, value_words, IsValue, AreValues}
 use Rattle.esx_words.specs.Kinds.Kind.{Machine, Number, Word, Hex, Name}
 use Rattle.esx_words.specs.Kinds.Kinds.{End, Then, Words}
 use Rattle.esx_words.specs.Verbs.{verb_word}
+use Rattle.esx_words.proofs.VerbLemmas.{verb_bytes}
 use Rattle.esx_words.specs.Commands.{Form, verb_form, verb, operands, Operands, operand_words, AreOperands, spelling, IsInRange, event_verb, event_kinds, event_values, event_words, IsEventInRange, list_words, with_semicolon}
 use Rattle.esx_words.specs.Commands.Form.{Plain, Tried}
 use Rattle.esx_session.specs.Reading.{HasNoFeed, SpellsCall}
@@ -125,41 +119,11 @@ values_stay End tt r = tt
 values_stay (Then kind kinds) (x, xs) r = (value_stays kind x r.0, values_stay kinds xs r.1)
 values_stay Words ws r = words_stay ws r.1
 
-known_verb : (v : Verb) → list_all stays (verb_word v) ≡ true
-known_verb (verbs.Event events.Admit) = refl
-known_verb (verbs.Event (events.Machine machine_events.Start)) = refl
-known_verb (verbs.Event (events.Machine machine_events.Ask)) = refl
-known_verb (verbs.Event (events.Machine machine_events.Stop)) = refl
-known_verb (verbs.Event (events.Machine machine_events.Gone)) = refl
-known_verb (verbs.Event (events.Place place_events.Lend)) = refl
-known_verb (verbs.Event (events.Place place_events.TakeBack)) = refl
-known_verb (verbs.Event (events.Place place_events.Scan)) = refl
-known_verb (verbs.Event (events.Place place_events.DropPage)) = refl
-known_verb (verbs.Event (events.Place place_events.SetShares)) = refl
-known_verb (verbs.Event events.Read) = refl
-known_verb (verbs.Event events.Write) = refl
-known_verb (verbs.Event events.Sample) = refl
-known_verb (verbs.Event events.Rebalance) = refl
-known_verb (verbs.Event events.SwapOut) = refl
-known_verb (verbs.Event events.Replace) = refl
-known_verb (verbs.Event events.SetTax) = refl
-known_verb (verbs.Number number_verbs.Undo) = refl
-known_verb (verbs.Number number_verbs.Redo) = refl
-known_verb (verbs.Number number_verbs.Goto) = refl
-known_verb (verbs.Number number_verbs.Prune) = refl
-known_verb (verbs.Name name_verbs.Visit) = refl
-known_verb (verbs.Name name_verbs.Mark) = refl
-known_verb (verbs.Alone alone_verbs.Sum) = refl
-known_verb (verbs.Alone alone_verbs.Table) = refl
-known_verb (verbs.Alone alone_verbs.Stand) = refl
-known_verb (verbs.Alone alone_verbs.Marks) = refl
-known_verb verbs.OfVm = refl
-known_verb (verbs.Place place_verbs.OfPage) = refl
-known_verb (verbs.Place place_verbs.Advise) = refl
-known_verb verbs.WhatIf = refl
+letter_stays : (b : ℕ) → is_lower b ≡ true → stays b ≡ true
+letter_stays b h = grind (arith)
 
 verb_stays : (v : Verb) → AllStay (verb_word v)
-verb_stays v = known_stay (verb_word v) (known_verb v)
+verb_stays v = known_stay (verb_word v) (verb_bytes stays letter_stays v)
 
 pub joined_stay : (ws : List (List ℕ)) → AllByRecursion AllStay ws → AllStay (joined ws)
 joined_stay [] h = tt

@@ -5,26 +5,14 @@ use Rattle.std.specs.Str.{IsAscii}
 use Rattle.std.proofs.lemmas.List.Elements.{All-from_recursion}
 use Rattle.std.proofs.lemmas.Str.Ascii.{IsAscii-from_all}
 use Rattle.esx_types.specs.declared.config.Config.{Config}
-use Rattle.esx_reading.specs.declared.fault.TextFault.{TextFault}
-use Rattle.esx_reading.specs.declared.fault.TextFault.TheVariants.{NotToml, BadKey, BadLine, NotText, Differs, Read, Write, OutOfMemory}
 use Rattle.esx_session.specs.declared.session.Entry.{Entry}
 use Rattle.esx_session.specs.Sessions.{ended, entry_text, quoted, IsEnded, IsEntry}
-use Rattle.esx_session.specs.Reading.{Place, HasNoFeed, Quotes, BeginsReply, AreRead, NextTakesMemory, GoesPastOpening, Reader, Follows, placed}
+use Rattle.esx_session.specs.Reading.{Place, HasNoFeed, Quotes, BeginsReply, AreRead, NextTakesMemory, GoesPastOpening, Reader, Follows}
 use Rattle.esx_session.proofs.FrontLemmas.{are_ascii, call_line, call_line_feed, call_text_is, closes_ended, first_of_call, same_line, spells_entry}
 use Rattle.esx_session.proofs.PlaceLemmas.{lines_feed}
 use Rattle.esx_session.proofs.QuoteLemmas.{first_quote}
 use Rattle.esx_session.proofs.ReplyLemmas.{no_lines}
 use Rattle.esx_session.proofs.StopLemmas.{no_text}
-
-pub placed_memory : (fault : TextFault) (n : ℕ) → placed fault n ≡ OutOfMemory → fault ≡ OutOfMemory
-placed_memory NotToml n e = e
-placed_memory (BadKey path) n e = e
-placed_memory (BadLine m) n e = absurd (cc)
-placed_memory NotText n e = e
-placed_memory (Differs k) n e = e
-placed_memory Read n e = e
-placed_memory Write n e = e
-placed_memory OutOfMemory n e = e
 
 -- the first line of a reply that is read
 pub begins_reply : (old now : List (List ℕ)) (line text : List ℕ) (rest : List (List ℕ)) → (old ≡ now) ⊎ BeginsReply old → now ≡ line ∷ rest → Quotes line text

@@ -100,11 +100,6 @@ pub record TakesEntry (line : List ℕ) (old new : Place) (e : Entry) : Type 0 w
   pub range : IsEntry e
   pub next : LeavesReply new.left
 
--- a fault of a line, at its place in the text
-abbrev pub placed : TextFault → ℕ → TextFault
-placed (BadLine n) number = BadLine number
-placed fault number = fault
-
 abbrev pub SpellsNoCall : List ℕ → Type 0
 SpellsNoCall line = (caller : ℕ) (call : Call) → SpellsCall line caller call → ⊥
 

@@ -6,7 +6,7 @@ ghost use Rattle.esx_types.specs.declared.config.Config.{Config};
 ghost use Rattle.esx_reading.specs.Fields.{joined};
 ghost use Rattle.esx_session.specs.declared.session.Entry.{Entry};
 ghost use Rattle.esx_session.specs.Sessions.{site_words, IsEntry, Reads, HasOpening, IsRefused};
-ghost use Rattle.esx_session.specs.Reading.{head_line, placed, TakesReply, LacksReply, TakesEntry, LacksEntry, AreRead, TellsCalls, LacksCalls, LacksHead, LacksOpening, GoesOn, BeginsReply, EntryTakesMemory, NextTakesMemory, Follows, IsNextLine};
+ghost use Rattle.esx_session.specs.Reading.{head_line, TakesReply, LacksReply, TakesEntry, LacksEntry, AreRead, TellsCalls, LacksCalls, LacksHead, LacksOpening, GoesOn, BeginsReply, EntryTakesMemory, NextTakesMemory, Follows, IsNextLine};
 
 use crate::line::{call_of, is_end};
 use crate::place::Place;
@@ -48,16 +48,6 @@ fn read_reply(place: &mut Place, mut reply: Vec<u8>) -> Result<Bytes, TextFault>
     Ok(Bytes::from_vec(reply))
 }
 
-/// The same fault at a line of the text.
-fn at_line(fault: TextFault, number: u64) -> TextFault
-    ensures { result ≡ placed fault number }
-{
-    match fault {
-        TextFault::BadLine(_) => TextFault::BadLine(number),
-        other => other,
-    }
-}
-
 /// A call, of which the first line was passed, and its reply, which is read into a buffer.
 fn read_entry(
     alloc: Global,
@@ -69,9 +59,11 @@ fn read_entry(
     ensures only { IfErr result (λ e. LacksEntry e line.now place.old) }
     ensures memory { IsErrOf result TextFault.OutOfMemory → EntryTakesMemory line.now place.old.left }
 {
-    let (caller, call) = match call_of(alloc, line) {
-        Ok(found) => found,
-        Err(fault) => return Err(at_line(fault, place.passed())),
+    let Ok(found) = call_of(alloc, line) else {
+        return Err(TextFault::OutOfMemory);
+    };
+    let Some((caller, call)) = found else {
+        return Err(TextFault::BadLine(place.passed()));
     };
     let reply = read_reply(place, buffer)?;
     Ok(Entry {

@@ -1,17 +1,16 @@
 //! The lines of a session, each alone.
 
-ghost use Rattle.std.specs.Prelude.{◌≡◌, ◌∷◌, ◌++◌, ◌<◌, ◌↔◌, ℕ, List, codes, decimal, MatchOption, IfSome, IfNone, IfOk, IfErr, IsErrOf, IsTrue};
+ghost use Rattle.std.specs.Prelude.{◌≡◌, ◌∷◌, ◌++◌, ◌<◌, ◌↔◌, ℕ, List, codes, decimal, MatchOption, IfSome, IfNone, IfOk, OnErr, IsTrue};
 ghost use Rattle.esx_types.specs.declared.config.TheConstants.{CALLERS};
 ghost use Rattle.esx_events.specs.declared.call.Call.{Call};
-ghost use Rattle.esx_reading.specs.Faults.{Refuses};
 ghost use Rattle.esx_reading.specs.Fields.{fields};
 ghost use Rattle.esx_session.specs.Reading.{SpellsCall, CallTakesMemory, Quotes, QuotesNone};
 
 use esx_events::Call;
-use esx_reading::{Fields, TextFault, number_of};
+use esx_reading::{Fields, number_of};
 use esx_types::CALLERS;
 use esx_words::parse_command;
-use std::alloc::Global;
+use std::alloc::{AllocError, Global};
 
 /// The number of a caller.
 fn caller_of(text: &str) -> Option<u16>
@@ -38,21 +37,21 @@ fn parted<'a>(line: &'a str) -> Option<(&'a str, &'a str)>
     Some((number, command))
 }
 
-/// Who called, and the call. `BadLine(1)` where the line is not that of a call.
-pub fn call_of(alloc: Global, line: &str) -> Result<(u16, Call), TextFault>
-    ensures found { IfOk result (λ p. SpellsCall line.now p.0 p.1) }
-    ensures only { IfErr result (λ e. Refuses e ((caller : ℕ) (call : Call) → SpellsCall line.now caller call → ⊥)) }
-    ensures memory { IsErrOf result TextFault.OutOfMemory → CallTakesMemory line.now }
+/// Who called, and the call. `None` if the line is not that of a call.
+pub fn call_of(alloc: Global, line: &str) -> Result<Option<(u16, Call)>, AllocError>
+    ensures found { IfOk result (λ found. IfSome found (λ p. SpellsCall line.now p.0 p.1)) }
+    ensures only { IfOk result (λ found. IfNone found ((caller : ℕ) (call : Call) → SpellsCall line.now caller call → ⊥)) }
+    ensures memory { OnErr result (CallTakesMemory line.now) }
 {
     let Some((number, command)) = parted(line) else {
-        return Err(TextFault::BadLine(1));
+        return Ok(None);
     };
     let Some(caller) = caller_of(number) else {
-        return Err(TextFault::BadLine(1));
+        return Ok(None);
     };
-    match parse_command(alloc, command) {
-        Ok(call) => Ok((caller, call)),
-        Err(fault) => Err(fault),
+    match parse_command(alloc, command)? {
+        Some(call) => Ok(Some((caller, call))),
+        None => Ok(None),
     }
 }
 

@@ -26,7 +26,7 @@ pub fn parse_session(alloc: Global, text: &str) -> Result<Session, TextFault>
             return Err(TextFault::OutOfMemory);
         };
     }
-    Ok(Session { site, entries })
+    Ok(Session::new(site, entries))
 }
 
 /// The site and the calls of the session of a text, without their replies. Each reply is read in place of the last.

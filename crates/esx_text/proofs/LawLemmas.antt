@@ -1,98 +1,25 @@
 -- A text spells one call at most, and an input is served in one way.
-use Rattle.std.proofs.Common.{◌≡◌, ◌+◌, ℕ, List, [], ◌∷◌, ◌++◌, arith, refl, ap, sym, ◌∙◌, length}
+use Rattle.std.proofs.Common.{◌≡◌, ◌+◌, ℕ, List, true, [], ◌∷◌, ◌++◌, refl, ap, sym, ◌∙◌, length}
+use Rattle.esx_events.specs.Names.{starts_lower}
 use Rattle.esx_events.specs.declared.call.Call.{Call}
 use Rattle.esx_model.specs.Console.{Session, next_reply, lined}
 use Rattle.esx_replies.specs.Replies.{reply_text}
-use Rattle.esx_reading.specs.Fields.{joined}
-use Rattle.esx_words.specs.declared.verbs.Verb.{Verb}
-use Rattle.esx_words.specs.declared.verbs.Verb.TheVariants as verbs
-use Rattle.esx_words.specs.declared.verbs.EventVerb.{EventVerb}
-use Rattle.esx_words.specs.declared.verbs.EventVerb.TheVariants as events
-use Rattle.esx_words.specs.declared.verbs.MachineEvent.TheVariants as machine_events
-use Rattle.esx_words.specs.declared.verbs.PlaceEvent.TheVariants as place_events
-use Rattle.esx_words.specs.declared.verbs.NumberVerb.TheVariants as number_verbs
-use Rattle.esx_words.specs.declared.verbs.NameVerb.TheVariants as name_verbs
-use Rattle.esx_words.specs.declared.verbs.AloneVerb.TheVariants as alone_verbs
-use Rattle.esx_words.specs.declared.verbs.PlaceVerb.TheVariants as place_verbs
-use Rattle.esx_words.specs.Verbs.{event_word, verb_word}
-use Rattle.esx_words.specs.Commands.{Spells, operand_words, operands, verb, verb_form}
+use Rattle.esx_words.specs.Commands.{Spells}
 use Rattle.esx_words.proofs.CommandLemmas.{one_call}
+use Rattle.esx_words.proofs.LetterLemmas.{lower_command}
 use Rattle.esx_text.specs.Lines.{IsSilent, lines}
 use Rattle.esx_text.specs.Answers.{IsAnswered, AreAnswered, Serves}
 use Rattle.esx_text.specs.Answers.IsAnswered.{silent, asked, told, unknown}
 use Rattle.esx_text.proofs.SessionLemmas.{session_is_loud, session_spells_none}
 use Rattle.esx_text.proofs.OneSplit.{one_split}
 
--- the first byte of a word of a command is a letter
-loud_event : (v : EventVerb) (rest : List (List ℕ)) (text : List ℕ) → text ≡ joined (event_word v ∷ rest) → IsSilent text → ⊥
-loud_event events.Admit [] text e s = let t = rw e at s in omega (arith, t)
-loud_event events.Admit (w ∷ ws) text e s = let t = rw e at s in omega (arith, t)
-loud_event (events.Machine machine_events.Start) [] text e s = let t = rw e at s in omega (arith, t)
-loud_event (events.Machine machine_events.Start) (w ∷ ws) text e s = let t = rw e at s in omega (arith, t)
-loud_event (events.Machine machine_events.Ask) [] text e s = let t = rw e at s in omega (arith, t)
-loud_event (events.Machine machine_events.Ask) (w ∷ ws) text e s = let t = rw e at s in omega (arith, t)
-loud_event (events.Machine machine_events.Stop) [] text e s = let t = rw e at s in omega (arith, t)
-loud_event (events.Machine machine_events.Stop) (w ∷ ws) text e s = let t = rw e at s in omega (arith, t)
-loud_event (events.Machine machine_events.Gone) [] text e s = let t = rw e at s in omega (arith, t)
-loud_event (events.Machine machine_events.Gone) (w ∷ ws) text e s = let t = rw e at s in omega (arith, t)
-loud_event (events.Place place_events.Lend) [] text e s = let t = rw e at s in omega (arith, t)
-loud_event (events.Place place_events.Lend) (w ∷ ws) text e s = let t = rw e at s in omega (arith, t)
-loud_event (events.Place place_events.TakeBack) [] text e s = let t = rw e at s in omega (arith, t)
-loud_event (events.Place place_events.TakeBack) (w ∷ ws) text e s = let t = rw e at s in omega (arith, t)
-loud_event (events.Place place_events.Scan) [] text e s = let t = rw e at s in omega (arith, t)
-loud_event (events.Place place_events.Scan) (w ∷ ws) text e s = let t = rw e at s in omega (arith, t)
-loud_event (events.Place place_events.DropPage) [] text e s = let t = rw e at s in omega (arith, t)
-loud_event (events.Place place_events.DropPage) (w ∷ ws) text e s = let t = rw e at s in omega (arith, t)
-loud_event (events.Place place_events.SetShares) [] text e s = let t = rw e at s in omega (arith, t)
-loud_event (events.Place place_events.SetShares) (w ∷ ws) text e s = let t = rw e at s in omega (arith, t)
-loud_event events.Read [] text e s = let t = rw e at s in omega (arith, t)
-loud_event events.Read (w ∷ ws) text e s = let t = rw e at s in omega (arith, t)
-loud_event events.Write [] text e s = let t = rw e at s in omega (arith, t)
-loud_event events.Write (w ∷ ws) text e s = let t = rw e at s in omega (arith, t)
-loud_event events.Sample [] text e s = let t = rw e at s in omega (arith, t)
-loud_event events.Sample (w ∷ ws) text e s = let t = rw e at s in omega (arith, t)
-loud_event events.Rebalance [] text e s = let t = rw e at s in omega (arith, t)
-loud_event events.Rebalance (w ∷ ws) text e s = let t = rw e at s in omega (arith, t)
-loud_event events.SwapOut [] text e s = let t = rw e at s in omega (arith, t)
-loud_event events.SwapOut (w ∷ ws) text e s = let t = rw e at s in omega (arith, t)
-loud_event events.Replace [] text e s = let t = rw e at s in omega (arith, t)
-loud_event events.Replace (w ∷ ws) text e s = let t = rw e at s in omega (arith, t)
-loud_event events.SetTax [] text e s = let t = rw e at s in omega (arith, t)
-loud_event events.SetTax (w ∷ ws) text e s = let t = rw e at s in omega (arith, t)
-
-loud : (v : Verb) (rest : List (List ℕ)) (text : List ℕ) → text ≡ joined (verb_word v ∷ rest) → IsSilent text → ⊥
-loud (verbs.Event v) rest text e s = loud_event v rest text e s
-loud (verbs.Number number_verbs.Undo) [] text e s = let t = rw e at s in omega (arith, t)
-loud (verbs.Number number_verbs.Undo) (w ∷ ws) text e s = let t = rw e at s in omega (arith, t)
-loud (verbs.Number number_verbs.Redo) [] text e s = let t = rw e at s in omega (arith, t)
-loud (verbs.Number number_verbs.Redo) (w ∷ ws) text e s = let t = rw e at s in omega (arith, t)
-loud (verbs.Number number_verbs.Goto) [] text e s = let t = rw e at s in omega (arith, t)
-loud (verbs.Number number_verbs.Goto) (w ∷ ws) text e s = let t = rw e at s in omega (arith, t)
-loud (verbs.Number number_verbs.Prune) [] text e s = let t = rw e at s in omega (arith, t)
-loud (verbs.Number number_verbs.Prune) (w ∷ ws) text e s = let t = rw e at s in omega (arith, t)
-loud (verbs.Name name_verbs.Visit) [] text e s = let t = rw e at s in omega (arith, t)
-loud (verbs.Name name_verbs.Visit) (w ∷ ws) text e s = let t = rw e at s in omega (arith, t)
-loud (verbs.Name name_verbs.Mark) [] text e s = let t = rw e at s in omega (arith, t)
-loud (verbs.Name name_verbs.Mark) (w ∷ ws) text e s = let t = rw e at s in omega (arith, t)
-loud (verbs.Alone alone_verbs.Sum) [] text e s = let t = rw e at s in omega (arith, t)
-loud (verbs.Alone alone_verbs.Sum) (w ∷ ws) text e s = let t = rw e at s in omega (arith, t)
-loud (verbs.Alone alone_verbs.Table) [] text e s = let t = rw e at s in omega (arith, t)
-loud (verbs.Alone alone_verbs.Table) (w ∷ ws) text e s = let t = rw e at s in omega (arith, t)
-loud (verbs.Alone alone_verbs.Stand) [] text e s = let t = rw e at s in omega (arith, t)
-loud (verbs.Alone alone_verbs.Stand) (w ∷ ws) text e s = let t = rw e at s in omega (arith, t)
-loud (verbs.Alone alone_verbs.Marks) [] text e s = let t = rw e at s in omega (arith, t)
-loud (verbs.Alone alone_verbs.Marks) (w ∷ ws) text e s = let t = rw e at s in omega (arith, t)
-loud verbs.OfVm [] text e s = let t = rw e at s in omega (arith, t)
-loud verbs.OfVm (w ∷ ws) text e s = let t = rw e at s in omega (arith, t)
-loud (verbs.Place place_verbs.OfPage) [] text e s = let t = rw e at s in omega (arith, t)
-loud (verbs.Place place_verbs.OfPage) (w ∷ ws) text e s = let t = rw e at s in omega (arith, t)
-loud (verbs.Place place_verbs.Advise) [] text e s = let t = rw e at s in omega (arith, t)
-loud (verbs.Place place_verbs.Advise) (w ∷ ws) text e s = let t = rw e at s in omega (arith, t)
-loud verbs.WhatIf [] text e s = let t = rw e at s in omega (arith, t)
-loud verbs.WhatIf (w ∷ ws) text e s = let t = rw e at s in omega (arith, t)
+-- what begins with a small letter is answered
+not_silent : (text : List ℕ) → starts_lower text ≡ true → IsSilent text → ⊥
+not_silent [] h s = absurd (cc)
+not_silent (b ∷ bs) h s = let t = rw s at h in absurd (cc)
 
 pub no_silent_call : (text : List ℕ) → IsSilent text → (call : Call) → Spells text call → ⊥
-no_silent_call text s call is = loud (verb call) (operand_words (verb_form (verb call)) (operands call)) text is.spelled s
+no_silent_call text s call is = not_silent text (lower_command text call is) s
 
 same_reply : (session : Session) (caller : ℕ) (a b : Call) → a ≡ b
     → (reply_text (next_reply session a) ≡ reply_text (next_reply session b)) × (lined session caller a ≡ lined session caller b)

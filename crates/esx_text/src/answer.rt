@@ -9,7 +9,6 @@ ghost use Rattle.esx_text.specs.Answers.{IsAsked, IsServed, MayWantMemory, sessi
 use crate::fault::ServeFault;
 use esx_console::Console;
 use esx_events::Call;
-use esx_reading::TextFault;
 use esx_replies::write_reply;
 use esx_session::write_session;
 use esx_types::Sink;
@@ -31,11 +30,7 @@ fn call_of_line(alloc: Global, line: &[u8]) -> Result<Option<Call>, AllocError>
     let Ok(text) = str::from_utf8(line) else {
         return Ok(None);
     };
-    match parse_command(alloc, text) {
-        Ok(call) => Ok(Some(call)),
-        Err(TextFault::OutOfMemory) => Err(AllocError),
-        Err(_) => Ok(None),
-    }
+    parse_command(alloc, text)
 }
 
 /// Makes a call and writes its reply from the log. Between the two no memory is taken.

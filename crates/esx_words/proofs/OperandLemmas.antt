@@ -9,23 +9,31 @@ use Rattle.esx_reading.specs.Written.{IsWritten}
 use Rattle.esx_words.specs.Kinds.{Kinds, Values, value_words, AreValues}
 use Rattle.esx_words.specs.Kinds.Kind.{Machine, Number, Word, Hex, Name}
 use Rattle.esx_words.specs.Kinds.Kinds.{End, Then, Words}
-use Rattle.esx_reading.specs.Faults.{Refuses}
-use Rattle.esx_reading.specs.declared.fault.TextFault.{TextFault}
-use Rattle.esx_reading.specs.declared.fault.TextFault.TheVariants.{NotToml, BadKey, BadLine, NotText, Differs, Read, Write, OutOfMemory}
+use Rattle.std.specs.Prelude.{Option, Some, None, Result, Ok, Err, IfOk, IfSome, IfNone, OnErr}
+use Rattle.std.proofs.lemmas.Result.{IfOk-weaker}
+use Rattle.std.proofs.lemmas.Option.{IfSome_then}
 
 -- the words are those of no values of these kinds
 abbrev pub HasNo : Kinds → List (List ℕ) → Type 0
 HasNo kinds rest = (x : Values kinds) → AreValues kinds x → rest ≡ value_words kinds x → ⊥
 
-pub refuses_more : (e : TextFault) (P Q : Type 0) → (P → Q) → Refuses e P → Refuses e Q
-refuses_more NotToml P Q f h = absurd h
-refuses_more (BadKey path) P Q f h = absurd h
-refuses_more (BadLine n) P Q f h = (h.0, f h.1)
-refuses_more NotText P Q f h = absurd h
-refuses_more (Differs k) P Q f h = absurd h
-refuses_more Read P Q f h = absurd h
-refuses_more Write P Q f h = absurd h
-refuses_more OutOfMemory P Q f h = tt
+pub none_more : {X : Type 0} (r : Option X) (P Q : Type 0) → (P → Q) → IfNone r P → IfNone r Q
+none_more None P Q f h = f h
+none_more (Some x) P Q f h = tt
+
+-- why nothing was found, in other words
+pub found_none : {X E : Type 0} (r : Result (Option X) E) (P Q : Type 0) → (P → Q) → IfOk r (λ found. IfNone found P) → IfOk r (λ found. IfNone found Q)
+found_none r P Q f h = IfOk-weaker r _ _ (λ found. none_more found P Q f) h
+
+-- want of memory, and what is known then
+pub on_err : {T E P : Type 0} (r : Result T E) → P → OnErr r P
+on_err (Ok x) p = tt
+on_err (Err e) p = p
+
+-- what was found, in other words
+pub found_more : {X E : Type 0} (r : Result (Option X) E) (P Q : X → Type 0) → ((x : X) → P x → Q x)
+    → IfOk r (λ found. IfSome found P) → IfOk r (λ found. IfSome found Q)
+found_more r P Q f h = IfOk-weaker r _ _ (λ found p. IfSome_then found p f) h
 
 pub no_machine : (rest : List (List ℕ)) → ((vm : ℕ) → vm < VM_NUMBERS → rest ≡ decimal vm ∷ [] → ⊥)
     → HasNo (Then Machine End) rest

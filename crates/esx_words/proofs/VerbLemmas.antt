@@ -1,6 +1,10 @@
--- The verb of a word: the left inverse of the table of first words.
-use Rattle.std.proofs.Common.{◌≡◌, ℕ, List, if◌then◌else◌, ◌==◌, ◌+◌, ◌*◌, refl, ap, sym, ◌∙◌}
-use Rattle.std.specs.Prelude.{codes, fold}
+-- The first words of commands: each is one of small letters, and the first word of one command at most.
+use Rattle.std.proofs.Common.{◌≡◌, ℕ, List, true, false, [], ◌∷◌, if◌then◌else◌, ◌==◌, ◌+◌, ◌*◌, refl, ap, sym, ◌∙◌}
+use Rattle.std.specs.Prelude.{Bool, ◌&&◌, fold}
+use Rattle.std.specs.List.{list_all}
+use Rattle.std.proofs.Math.Path.{subst}
+use Rattle.std.proofs.lemmas.Bool.{and_parts}
+use Rattle.esx_events.specs.Names.{is_lower, starts_lower}
 use Rattle.esx_words.specs.Verbs.{verb_word}
 use Rattle.esx_words.specs.declared.verbs.Verb.{Verb}
 use Rattle.esx_words.specs.declared.verbs.Verb.TheVariants as verbs
@@ -12,47 +16,56 @@ use Rattle.esx_words.specs.declared.verbs.NameVerb.TheVariants as name_verbs
 use Rattle.esx_words.specs.declared.verbs.AloneVerb.TheVariants as alone_verbs
 use Rattle.esx_words.specs.declared.verbs.PlaceVerb.TheVariants as place_verbs
 
+-- every verb; the last stands for the words that are no verb's
+unfoldable pub all_verbs : List Verb
+all_verbs =
+    verbs.Event events.Admit
+    ∷ verbs.Event (events.Machine machine_events.Start)
+    ∷ verbs.Event (events.Machine machine_events.Ask)
+    ∷ verbs.Event (events.Machine machine_events.Stop)
+    ∷ verbs.Event (events.Machine machine_events.Gone)
+    ∷ verbs.Event (events.Place place_events.Lend)
+    ∷ verbs.Event (events.Place place_events.TakeBack)
+    ∷ verbs.Event (events.Place place_events.Scan)
+    ∷ verbs.Event (events.Place place_events.DropPage)
+    ∷ verbs.Event (events.Place place_events.SetShares)
+    ∷ verbs.Event events.Read
+    ∷ verbs.Event events.Write
+    ∷ verbs.Event events.Sample
+    ∷ verbs.Event events.Rebalance
+    ∷ verbs.Event events.SwapOut
+    ∷ verbs.Event events.Replace
+    ∷ verbs.Event events.SetTax
+    ∷ verbs.Number number_verbs.Undo
+    ∷ verbs.Number number_verbs.Redo
+    ∷ verbs.Number number_verbs.Goto
+    ∷ verbs.Number number_verbs.Prune
+    ∷ verbs.Name name_verbs.Visit
+    ∷ verbs.Name name_verbs.Mark
+    ∷ verbs.Alone alone_verbs.Sum
+    ∷ verbs.Alone alone_verbs.Table
+    ∷ verbs.Alone alone_verbs.Stand
+    ∷ verbs.Alone alone_verbs.Marks
+    ∷ verbs.OfVm
+    ∷ verbs.Place place_verbs.OfPage
+    ∷ verbs.Place place_verbs.Advise
+    ∷ verbs.WhatIf
+    ∷ []
+
 -- a number that tells short texts apart
-abbrev number_of : List ℕ → ℕ
+abbrev pub number_of : List ℕ → ℕ
 number_of w = fold (λ n b. n * 256 + b) 0 w
 
--- the last one stands for every other word
-verb_at : List ℕ → Verb
-verb_at w =
-    if number_of w == number_of (codes "admit") then verbs.Event events.Admit else (
-    if number_of w == number_of (codes "start") then verbs.Event (events.Machine machine_events.Start) else (
-    if number_of w == number_of (codes "ask") then verbs.Event (events.Machine machine_events.Ask) else (
-    if number_of w == number_of (codes "stop") then verbs.Event (events.Machine machine_events.Stop) else (
-    if number_of w == number_of (codes "gone") then verbs.Event (events.Machine machine_events.Gone) else (
-    if number_of w == number_of (codes "lend") then verbs.Event (events.Place place_events.Lend) else (
-    if number_of w == number_of (codes "takeback") then verbs.Event (events.Place place_events.TakeBack) else (
-    if number_of w == number_of (codes "scan") then verbs.Event (events.Place place_events.Scan) else (
-    if number_of w == number_of (codes "drop") then verbs.Event (events.Place place_events.DropPage) else (
-    if number_of w == number_of (codes "shares") then verbs.Event (events.Place place_events.SetShares) else (
-    if number_of w == number_of (codes "read") then verbs.Event events.Read else (
-    if number_of w == number_of (codes "write") then verbs.Event events.Write else (
-    if number_of w == number_of (codes "sample") then verbs.Event events.Sample else (
-    if number_of w == number_of (codes "rebalance") then verbs.Event events.Rebalance else (
-    if number_of w == number_of (codes "swapout") then verbs.Event events.SwapOut else (
-    if number_of w == number_of (codes "replace") then verbs.Event events.Replace else (
-    if number_of w == number_of (codes "tax") then verbs.Event events.SetTax else (
-    if number_of w == number_of (codes "undo") then verbs.Number number_verbs.Undo else (
-    if number_of w == number_of (codes "redo") then verbs.Number number_verbs.Redo else (
-    if number_of w == number_of (codes "goto") then verbs.Number number_verbs.Goto else (
-    if number_of w == number_of (codes "prune") then verbs.Number number_verbs.Prune else (
-    if number_of w == number_of (codes "visit") then verbs.Name name_verbs.Visit else (
-    if number_of w == number_of (codes "mark") then verbs.Name name_verbs.Mark else (
-    if number_of w == number_of (codes "sum") then verbs.Alone alone_verbs.Sum else (
-    if number_of w == number_of (codes "table") then verbs.Alone alone_verbs.Table else (
-    if number_of w == number_of (codes "where") then verbs.Alone alone_verbs.Stand else (
-    if number_of w == number_of (codes "marks") then verbs.Alone alone_verbs.Marks else (
-    if number_of w == number_of (codes "vm") then verbs.OfVm else (
-    if number_of w == number_of (codes "page") then verbs.Place place_verbs.OfPage else (
-    if number_of w == number_of (codes "advise") then verbs.Place place_verbs.Advise else (
-    verbs.WhatIf))))))))))))))))))))))))))))))
+unfoldable pub named : List ℕ → List Verb → Verb
+named w [] = verbs.WhatIf
+named w (v ∷ vs) = if number_of w == number_of (verb_word v) then v else named w vs
 
-back : (v : Verb) → verb_at (verb_word v) ≡ v
-unfolding verb_at
+-- the left inverse of the table of first words
+unfoldable pub verb_at : List ℕ → Verb
+verb_at w = named w all_verbs
+
+pub back : (v : Verb) → verb_at (verb_word v) ≡ v
+unfolding verb_at named all_verbs
 back (verbs.Event events.Admit) = refl
 back (verbs.Event (events.Machine machine_events.Start)) = refl
 back (verbs.Event (events.Machine machine_events.Ask)) = refl
@@ -88,3 +101,44 @@ back verbs.WhatIf = refl
 -- a word is the first one of one command at most
 pub one_verb : (v w : Verb) → verb_word v ≡ verb_word w → v ≡ w
 one_verb v w e = sym (back v) ∙ ap verb_at e ∙ back w
+
+-- a first word is that of the verb that is found for it
+pub is_found : (v : Verb) (word : List ℕ) → verb_word v ≡ word → verb_word (verb_at word) ≡ word
+is_found v word e = sym (ap (λ w. verb_word (verb_at w)) e) ∙ ap verb_word (back v) ∙ e
+
+module _ (p : Verb → Bool) where
+  either_passes : (test : Bool) (v w : Verb) → p v ≡ true → p w ≡ true → p (if test then v else w) ≡ true
+  either_passes true v w h k = h
+  either_passes false v w h k = k
+
+  named_passes : (w : List ℕ) (vs : List Verb) → list_all p vs ≡ true → p verbs.WhatIf ≡ true → p (named w vs) ≡ true
+  unfolding named
+  named_passes w [] h last = last
+  named_passes w (v ∷ vs) h last =
+      let parts = and_parts (p v) (list_all p vs) h in
+      either_passes (number_of w == number_of (verb_word v)) v (named w vs) parts.0 (named_passes w vs parts.1 last)
+
+  -- what a test says of all verbs it says of each
+  each_verb : list_all p all_verbs ≡ true → p verbs.WhatIf ≡ true → (v : Verb) → p v ≡ true
+  unfolding verb_at
+  each_verb h last v = subst (λ u. p u ≡ true) (back v) (named_passes (verb_word v) all_verbs h last)
+
+-- a word of small letters, and of one at least
+abbrev is_first_word : List ℕ → Bool
+is_first_word word = starts_lower word && list_all is_lower word
+
+letters : (v : Verb) → is_first_word (verb_word v) ≡ true
+unfolding all_verbs
+letters v = each_verb (λ u. is_first_word (verb_word u)) refl refl v
+
+pub verb_starts : (v : Verb) → starts_lower (verb_word v) ≡ true
+verb_starts v = (and_parts _ _ (letters v)).0
+
+module _ (p : ℕ → Bool) (weaker : (b : ℕ) → is_lower b ≡ true → p b ≡ true) where
+  all_weaker : (bs : List ℕ) → list_all is_lower bs ≡ true → list_all p bs ≡ true
+  all_weaker [] h = refl
+  all_weaker (b ∷ bs) h = let q = and_parts (is_lower b) (list_all is_lower bs) h in rw (weaker b q.0, all_weaker bs q.1) refl
+
+  -- what holds of each small letter holds of each byte of a first word
+  pub verb_bytes : (v : Verb) → list_all p (verb_word v) ≡ true
+  verb_bytes v = all_weaker (verb_word v) (and_parts _ _ (letters v)).1

@@ -1,5 +1,5 @@
 -- Words of commands: fields without a semicolon.
-use Rattle.std.proofs.Common.{◌≡◌, ◌<◌, ◌^◌, ◌/◌, ◌%◌, inl, inr, ℕ, List, [], ◌∷◌, length, get_or, arith, refl, ap, true, false, nat_lt, nat_le, decimal, codes}
+use Rattle.std.proofs.Common.{◌≡◌, ◌<◌, ◌^◌, ◌/◌, ◌%◌, inl, inr, ℕ, List, [], ◌∷◌, length, get_or, arith, refl, ap, true, false, nat_lt, nat_le, decimal}
 use Rattle.std.specs.Prelude.{Bool, not, ◌&&◌, map}
 use Rattle.std.specs.List.{All, AllByRecursion, list_all}
 use Rattle.std.proofs.Math.Dec.{eqb}
@@ -11,23 +11,17 @@ use Rattle.std.proofs.lemmas.List.Sums.{AllPass-from_list_all}
 use Rattle.std.proofs.lemmas.Str.Parse.{not_in_digits, numerals_by_value, tells_digits}
 use Rattle.std.proofs.lemmas.Fmt.{digits_decimal}
 use Rattle.hex.specs.Hex.{encode_lower, encode_with, lower_digits}
-use Rattle.esx_events.specs.Names.{IsName, is_name_byte, starts_lower}
+use Rattle.esx_events.specs.Names.{IsName, is_lower, is_name_byte, starts_lower}
 use Rattle.esx_events.specs.declared.event.Event.{Event}
 use Rattle.esx_reading.specs.Fields.{joined}
 use Rattle.esx_reading.proofs.FieldLemmas.{IsField, no_match, no_space_in_decimal, no_space_in_hex}
 use Rattle.esx_words.specs.declared.verbs.Verb.{Verb}
 use Rattle.esx_words.specs.declared.verbs.Verb.TheVariants as verbs
-use Rattle.esx_words.specs.declared.verbs.EventVerb.TheVariants as events
-use Rattle.esx_words.specs.declared.verbs.MachineEvent.TheVariants as machine_events
-use Rattle.esx_words.specs.declared.verbs.PlaceEvent.TheVariants as place_events
-use Rattle.esx_words.specs.declared.verbs.NumberVerb.TheVariants as number_verbs
-use Rattle.esx_words.specs.declared.verbs.NameVerb.TheVariants as name_verbs
-use Rattle.esx_words.specs.declared.verbs.AloneVerb.TheVariants as alone_verbs
-use Rattle.esx_words.specs.declared.verbs.PlaceVerb.TheVariants as place_verbs
 use Rattle.esx_words.specs.Kinds.{Kind, Kinds, Value, Values, value_word, value_words, IsValue, AreValues}
 use Rattle.esx_words.specs.Kinds.Kind.{Machine, Number, Word, Hex, Name}
 use Rattle.esx_words.specs.Kinds.Kinds.{End, Then, Words}
 use Rattle.esx_words.specs.Verbs.{event_word, verb_word}
+use Rattle.esx_words.proofs.VerbLemmas.{verb_bytes}
 use Rattle.esx_words.specs.Commands.{event_verb, event_kinds, event_values, IsEventInRange, event_text}
 
 -- no semicolon stands in the text
@@ -122,38 +116,11 @@ values_are_words End tt r = tt
 values_are_words (Then kind kinds) (x, xs) r = (value_is_word kind x r.0, values_are_words kinds xs r.1)
 values_are_words Words ws r = numbers_are_words ws r.1
 
+letter_is_plain : (b : ℕ) → is_lower b ≡ true → is_plain b ≡ true
+letter_is_plain b h = grind (arith)
+
 pub verb_is_word : (v : Verb) → IsWord (verb_word v)
-verb_is_word (verbs.Event events.Admit) = known_word (codes "admit") refl
-verb_is_word (verbs.Event (events.Machine machine_events.Start)) = known_word (codes "start") refl
-verb_is_word (verbs.Event (events.Machine machine_events.Ask)) = known_word (codes "ask") refl
-verb_is_word (verbs.Event (events.Machine machine_events.Stop)) = known_word (codes "stop") refl
-verb_is_word (verbs.Event (events.Machine machine_events.Gone)) = known_word (codes "gone") refl
-verb_is_word (verbs.Event (events.Place place_events.Lend)) = known_word (codes "lend") refl
-verb_is_word (verbs.Event (events.Place place_events.TakeBack)) = known_word (codes "takeback") refl
-verb_is_word (verbs.Event (events.Place place_events.Scan)) = known_word (codes "scan") refl
-verb_is_word (verbs.Event (events.Place place_events.DropPage)) = known_word (codes "drop") refl
-verb_is_word (verbs.Event (events.Place place_events.SetShares)) = known_word (codes "shares") refl
-verb_is_word (verbs.Event events.Read) = known_word (codes "read") refl
-verb_is_word (verbs.Event events.Write) = known_word (codes "write") refl
-verb_is_word (verbs.Event events.Sample) = known_word (codes "sample") refl
-verb_is_word (verbs.Event events.Rebalance) = known_word (codes "rebalance") refl
-verb_is_word (verbs.Event events.SwapOut) = known_word (codes "swapout") refl
-verb_is_word (verbs.Event events.Replace) = known_word (codes "replace") refl
-verb_is_word (verbs.Event events.SetTax) = known_word (codes "tax") refl
-verb_is_word (verbs.Number number_verbs.Undo) = known_word (codes "undo") refl
-verb_is_word (verbs.Number number_verbs.Redo) = known_word (codes "redo") refl
-verb_is_word (verbs.Number number_verbs.Goto) = known_word (codes "goto") refl
-verb_is_word (verbs.Number number_verbs.Prune) = known_word (codes "prune") refl
-verb_is_word (verbs.Name name_verbs.Visit) = known_word (codes "visit") refl
-verb_is_word (verbs.Name name_verbs.Mark) = known_word (codes "mark") refl
-verb_is_word (verbs.Alone alone_verbs.Sum) = known_word (codes "sum") refl
-verb_is_word (verbs.Alone alone_verbs.Table) = known_word (codes "table") refl
-verb_is_word (verbs.Alone alone_verbs.Stand) = known_word (codes "where") refl
-verb_is_word (verbs.Alone alone_verbs.Marks) = known_word (codes "marks") refl
-verb_is_word verbs.OfVm = known_word (codes "vm") refl
-verb_is_word (verbs.Place place_verbs.OfPage) = known_word (codes "page") refl
-verb_is_word (verbs.Place place_verbs.Advise) = known_word (codes "advise") refl
-verb_is_word verbs.WhatIf = known_word (codes "whatif") refl
+verb_is_word v = known_word (verb_word v) (verb_bytes is_plain letter_is_plain v)
 
 pub fields_of_words : (ws : List (List ℕ)) → AllByRecursion IsWord ws → AllByRecursion IsField ws
 fields_of_words [] r = tt

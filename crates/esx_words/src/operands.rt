@@ -1,12 +1,11 @@
 //! All that is left of a line, read as values of some kinds.
 
-ghost use Rattle.std.specs.Prelude.{◌≡◌, ◌∷◌, [], ◌<◌, ◌≤◌, ◌^◌, ◌%◌, decimal, ℕ, List, IfSome, IfNone, IfOk, IfErr, IsErrOf, length, map};
+ghost use Rattle.std.specs.Prelude.{◌≡◌, ◌∷◌, [], ◌<◌, ◌≤◌, ◌^◌, ◌%◌, decimal, ℕ, List, IfSome, IfNone, IfOk, OnErr, length, map};
 ghost use Rattle.std.specs.List.{AllByRecursion};
 ghost use Rattle.hex.specs.Hex.{encode_lower};
 ghost use Rattle.esx_types.specs.declared.config.TheConstants.{VM_NUMBERS};
 ghost use Rattle.esx_events.specs.Names.{IsName};
 ghost use Rattle.esx_reading.specs.Written.{IsWritten};
-ghost use Rattle.esx_reading.specs.Faults.{Refuses};
 ghost use Rattle.esx_words.specs.Kinds.{TakeMemory, MayBeNumbers};
 ghost use Rattle.esx_words.specs.Commands.{event_kinds};
 ghost use Rattle.esx_words.specs.declared.verbs.EventVerb.TheVariants as events;
@@ -14,7 +13,7 @@ ghost use Rattle.esx_words.specs.declared.verbs.EventVerb.TheVariants as events;
 use esx_events::{Boxed, Name};
 use esx_reading::{Fields, TextFault, written_bytes};
 use esx_types::{Bytes, Rows, VmId, VmSpec};
-use std::alloc::Global;
+use std::alloc::{AllocError, Global};
 
 /// A virtual machine alone.
 pub fn machine(fields: &mut Fields) -> Option<VmId>
@@ -135,17 +134,17 @@ fn digits<'a>(fields: &mut Fields<'a>) -> Option<(VmId, u32, u32, &'a str)>
     Some((vm, first, second, text))
 }
 
-/// The bytes of digits, in a box.
+/// The bytes of digits, in a box, if they are those of some.
 #[inline(always)]
-fn boxed_bytes(alloc: Global, digits: &str) -> Result<Boxed<Bytes>, TextFault>
-    ensures found { IfOk result (λ bytes. IsWritten bytes × (digits.now ≡ encode_lower bytes)) }
-    ensures only { IfErr result (λ e. Refuses e ((bytes : List ℕ) → IsWritten bytes → digits.now ≡ encode_lower bytes → ⊥)) }
-    ensures memory { IsErrOf result TextFault.OutOfMemory → (0 < length digits.now) × (length digits.now ≤ 8192) × (length digits.now % 2 ≡ 0) }
+fn boxed_bytes(alloc: Global, digits: &str) -> Result<Option<Boxed<Bytes>>, AllocError>
+    ensures found { IfOk result (λ found. IfSome found (λ bytes. IsWritten bytes × (digits.now ≡ encode_lower bytes))) }
+    ensures only { IfOk result (λ found. IfNone found ((bytes : List ℕ) → IsWritten bytes → digits.now ≡ encode_lower bytes → ⊥)) }
+    ensures memory { OnErr result ((0 < length digits.now) × (length digits.now ≤ 8192) × (length digits.now % 2 ≡ 0)) }
 {
-    let bytes = written_bytes(alloc, digits)?;
-    match Boxed::new(alloc, bytes) {
-        Ok(bytes) => Ok(bytes),
-        Err(_) => Err(TextFault::OutOfMemory),
+    match written_bytes(alloc, digits) {
+        Ok(bytes) => Ok(Some(Boxed::new(alloc, bytes)?)),
+        Err(TextFault::OutOfMemory) => Err(AllocError),
+        Err(_) => Ok(None),
     }
 }
 
@@ -153,35 +152,31 @@ fn boxed_bytes(alloc: Global, digits: &str) -> Result<Boxed<Bytes>, TextFault>
 pub fn written(
     alloc: Global,
     fields: &mut Fields,
-) -> Result<(VmId, u32, u32, Boxed<Bytes>), TextFault>
-    ensures found { IfOk result (λ p. (p.0 < VM_NUMBERS) × IsWritten p.3
-        × (fields.old ≡ decimal p.0 ∷ decimal p.1 ∷ decimal p.2 ∷ encode_lower p.3 ∷ [])) }
-    ensures only { IfErr result (λ e. Refuses e ((vm n m : ℕ) (bytes : List ℕ) → vm < VM_NUMBERS → n < 2 ^ 32 → m < 2 ^ 32 → IsWritten bytes
+) -> Result<Option<(VmId, u32, u32, Boxed<Bytes>)>, AllocError>
+    ensures found { IfOk result (λ found. IfSome found (λ p. (p.0 < VM_NUMBERS) × IsWritten p.3
+        × (fields.old ≡ decimal p.0 ∷ decimal p.1 ∷ decimal p.2 ∷ encode_lower p.3 ∷ []))) }
+    ensures only { IfOk result (λ found. IfNone found ((vm n m : ℕ) (bytes : List ℕ) → vm < VM_NUMBERS → n < 2 ^ 32 → m < 2 ^ 32 → IsWritten bytes
         → fields.old ≡ decimal vm ∷ decimal n ∷ decimal m ∷ encode_lower bytes ∷ [] → ⊥)) }
-    ensures memory { IsErrOf result TextFault.OutOfMemory → TakeMemory (event_kinds events.Write) fields.old }
+    ensures memory { OnErr result (TakeMemory (event_kinds events.Write) fields.old) }
 {
     let Some((vm, first, second, text)) = digits(fields) else {
-        return Err(TextFault::BadLine(1));
+        return Ok(None);
     };
-    match boxed_bytes(alloc, text) {
-        Ok(bytes) => Ok((vm, first, second, bytes)),
-        Err(fault) => Err(fault),
+    match boxed_bytes(alloc, text)? {
+        Some(bytes) => Ok(Some((vm, first, second, bytes))),
+        None => Ok(None),
     }
 }
 
 /// A name alone.
-pub fn name(alloc: Global, fields: &mut Fields) -> Result<Name, TextFault>
-    ensures found { IfOk result (λ name. IsName name × (fields.old ≡ name ∷ [])) }
-    ensures only { IfErr result (λ e. Refuses e ((name : List ℕ) → IsName name → fields.old ≡ name ∷ [] → ⊥)) }
-    ensures memory { IsErrOf result TextFault.OutOfMemory → (name : List ℕ) × IsName name × (fields.old ≡ name ∷ []) }
+pub fn name(alloc: Global, fields: &mut Fields) -> Result<Option<Name>, AllocError>
+    ensures found { IfOk result (λ found. IfSome found (λ name. IsName name × (fields.old ≡ name ∷ []))) }
+    ensures only { IfOk result (λ found. IfNone found ((name : List ℕ) → IsName name → fields.old ≡ name ∷ [] → ⊥)) }
+    ensures memory { OnErr result ((name : List ℕ) × IsName name × (fields.old ≡ name ∷ [])) }
 {
-    let Some(text) = fields.only() else {
-        return Err(TextFault::BadLine(1));
-    };
-    match Name::new(alloc, text) {
-        Ok(Some(name)) => Ok(name),
-        Ok(None) => Err(TextFault::BadLine(1)),
-        Err(_) => Err(TextFault::OutOfMemory),
+    match fields.only() {
+        Some(text) => Name::new(alloc, text),
+        None => Ok(None),
     }
 }
 
@@ -189,49 +184,47 @@ pub fn name(alloc: Global, fields: &mut Fields) -> Result<Name, TextFault>
 const MAX_WORDS: usize = 200;
 
 /// Words to the end of the line.
-fn words(alloc: Global, fields: &mut Fields) -> Result<Vec<u64>, TextFault>
-    ensures found { IfOk result (λ words. (length words.items ≤ 200) × AllByRecursion (λ w. w < 2 ^ 64) words.items
-        × (fields.old ≡ map decimal words.items)) }
-    ensures only { IfErr result (λ e. Refuses e ((words : List ℕ) → length words ≤ 200 → AllByRecursion (λ w. w < 2 ^ 64) words
+fn words(alloc: Global, fields: &mut Fields) -> Result<Option<Vec<u64>>, AllocError>
+    ensures found { IfOk result (λ found. IfSome found (λ words. (length words.items ≤ 200) × AllByRecursion (λ w. w < 2 ^ 64) words.items
+        × (fields.old ≡ map decimal words.items))) }
+    ensures only { IfOk result (λ found. IfNone found ((words : List ℕ) → length words ≤ 200 → AllByRecursion (λ w. w < 2 ^ 64) words
         → fields.old ≡ map decimal words → ⊥)) }
-    ensures memory { IsErrOf result TextFault.OutOfMemory → MayBeNumbers fields.old }
+    ensures memory { OnErr result (MayBeNumbers fields.old) }
 {
     let mut words = Vec::new(alloc);
     while !fields.is_empty() {
         let Some(word) = fields.word() else {
-            return Err(TextFault::BadLine(1));
+            return Ok(None);
         };
         if words.len() == MAX_WORDS {
-            return Err(TextFault::BadLine(1));
+            return Ok(None);
         }
-        let Ok(()) = words.push(word) else {
-            return Err(TextFault::OutOfMemory);
-        };
+        words.push(word)?;
     }
-    Ok(words)
+    Ok(Some(words))
 }
 
 /// A virtual machine, a number and words.
 pub fn sampled(
     alloc: Global,
     fields: &mut Fields,
-) -> Result<(VmId, u32, Boxed<Rows<u64>>), TextFault>
-    ensures found { IfOk result (λ p. (p.0 < VM_NUMBERS) × (length p.2 ≤ 200) × AllByRecursion (λ w. w < 2 ^ 64) p.2
-        × (fields.old ≡ decimal p.0 ∷ decimal p.1 ∷ map decimal p.2)) }
-    ensures only { IfErr result (λ e. Refuses e ((vm n : ℕ) (words : List ℕ) → vm < VM_NUMBERS → n < 2 ^ 32
+) -> Result<Option<(VmId, u32, Boxed<Rows<u64>>)>, AllocError>
+    ensures found { IfOk result (λ found. IfSome found (λ p. (p.0 < VM_NUMBERS) × (length p.2 ≤ 200) × AllByRecursion (λ w. w < 2 ^ 64) p.2
+        × (fields.old ≡ decimal p.0 ∷ decimal p.1 ∷ map decimal p.2))) }
+    ensures only { IfOk result (λ found. IfNone found ((vm n : ℕ) (words : List ℕ) → vm < VM_NUMBERS → n < 2 ^ 32
         → length words ≤ 200 → AllByRecursion (λ w. w < 2 ^ 64) words
         → fields.old ≡ decimal vm ∷ decimal n ∷ map decimal words → ⊥)) }
-    ensures memory { IsErrOf result TextFault.OutOfMemory → TakeMemory (event_kinds events.Sample) fields.old }
+    ensures memory { OnErr result (TakeMemory (event_kinds events.Sample) fields.old) }
 {
     let Some(vm) = fields.vm() else {
-        return Err(TextFault::BadLine(1));
+        return Ok(None);
     };
     let Some(number) = fields.number() else {
-        return Err(TextFault::BadLine(1));
+        return Ok(None);
     };
-    let words = words(alloc, fields)?;
-    let Ok(words) = Boxed::new(alloc, Rows::from_vec(words)) else {
-        return Err(TextFault::OutOfMemory);
+    let Some(words) = words(alloc, fields)? else {
+        return Ok(None);
     };
-    Ok((vm, number, words))
+    let words = Boxed::new(alloc, Rows::from_vec(words))?;
+    Ok(Some((vm, number, words)))
 }

@@ -67,7 +67,7 @@ fn a_session(rt: HostRuntime) -> Result<(), Fail> {
     let alloc = rt.alloc();
     let vm = VmId::new(0).expect(&rt, "a number");
     let name = Name::new(alloc, "base")?.expect(&rt, "a name");
-    let tried = parse_command(alloc, "whatif gone 0; ask 1").expect(&rt, "a command");
+    let tried = parse_command(alloc, "whatif gone 0; ask 1")?.expect(&rt, "a command");
     let stand = Stand { node: 2, depth: 1 };
     let mut log = Vec::new(alloc);
     log.push(line(3, Call::Undo { count: 1 }, Said::Stand { stand }))?;
@@ -187,9 +187,9 @@ fn session(rt: HostRuntime) -> Result<(), Fail> {
     let alloc = rt.alloc();
     let text = format!(in alloc; "{OPENING}{CALLS}end 2\n")?;
     let session = parse_session(alloc, &text)?;
-    assert_eq!(rt; session.site.slots, 8);
-    assert_eq!(rt; session.entries.len(), 2);
-    let entry = &session.entries.as_slice()[1];
+    assert_eq!(rt; session.site().slots, 8);
+    assert_eq!(rt; session.entries().len(), 2);
+    let entry = &session.entries()[1];
     assert_eq!(rt; entry.caller, 63);
     assert!(rt;
         matches!(
@@ -233,7 +233,7 @@ fn replies_given_back(rt: HostRuntime) -> Result<(), Fail> {
     let alloc = rt.alloc();
     let session = parse_session(alloc, SESSION)?;
     let (_, mut calls) = open_calls(SESSION)?;
-    for told in session.entries.as_slice() {
+    for told in session.entries() {
         let Some(entry) = calls.next(alloc)? else {
             panic!(rt; "a call is missing");
         };

@@ -1,6 +1,5 @@
 //! Lines as they are written by hand.
 
-use esx_reading::TextFault;
 use esx_words::{parse_command, print_command};
 use std::alloc::Global;
 use std::rt::HostRuntime;
@@ -62,7 +61,7 @@ const NO_LINES: [&str; 16] = [
 
 /// Whether a line is read as a call that is spelled so.
 fn is_spelled(alloc: Global, line: &str) -> Result<bool, Fail> {
-    let Ok(call) = parse_command(alloc, line) else {
+    let Some(call) = parse_command(alloc, line)? else {
         return Ok(false);
     };
     let text = print_command(alloc, &call)?;
@@ -80,7 +79,7 @@ fn lines(rt: HostRuntime) -> Result<(), Fail> {
 #[test]
 fn no_lines(rt: HostRuntime) -> Result<(), Fail> {
     for line in &NO_LINES {
-        assert!(rt; matches!(parse_command(rt.alloc(), line), Err(TextFault::BadLine(1))));
+        assert!(rt; parse_command(rt.alloc(), line)?.is_none());
     }
     Ok(())
 }

@@ -8,7 +8,8 @@ returns-in_err-entry-clause-only c =
     rw (p.1, p.2) (c.in_err-entry.ensures.only c.args.text.now c.in_ok-site.site c.loop-entries.entries c.loop-entries.invariant)
 
 pub returns-clause-ok : goal.returns-clause-ok
-returns-clause-ok c = rw c.in_default.is at (c.in_ok-entry.ensures.none c.args.text.now c.in_ok-site.site c.loop-entries.entries c.loop-entries.invariant)
+returns-clause-ok c = rw (c.new.ensures.site, c.new.ensures.entries)
+    (rw c.in_default.is at (c.in_ok-entry.ensures.none c.args.text.now c.in_ok-site.site c.loop-entries.entries c.loop-entries.invariant))
 
 pub returns-in_err-entry-clause-third : goal.returns-in_err-entry-clause-third
 returns-in_err-entry-clause-third c = λ wants.
