@@ -53,7 +53,6 @@ fn check_calls<G: Gate>(
 /// No log is kept of the calls, and replies are compared as they are told, so that no second session is made.
 /// Each entry is dropped once its reply was compared.
 pub fn check_session(alloc: Global, session: Session) -> Result<Checked, AllocError>
-    requires { IsConfig session.site }
     ensures { IfOk result (Checks session.site session.entries) }
 {
     check_session_through(alloc, session, &mut Open)
@@ -69,12 +68,12 @@ pub fn check_session_through<G: Gate>(
     session: Session,
     gate: &mut G,
 ) -> Result<Checked, AllocError>
-    requires { IsConfig session.site }
     ensures ok { IfOk result (Checks session.site session.entries) }
     ensures gate { IfOk result (λ checked. PassedFor G.passes (calls_made checked) gate.old gate.new) }
     ensures some { OnErr result (PassedForSome G.passes (RunsOut session.site session.entries) gate.old gate.new) }
 {
-    check_calls(alloc, session.site, session.entries.into_vec(), gate)
+    let (site, entries) = session.into_parts();
+    check_calls(alloc, site, entries.into_vec(), gate)
 }
 
 /// Writes what a check came to as a line, over an empty buffer. Nothing is held after it, whatever came.

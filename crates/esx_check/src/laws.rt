@@ -31,15 +31,30 @@ pub fn told_log_is_same()
     ensures { (s : Session) → IsLegal s → Checks s.site (map logged s.log) (Same (length s.log)) }
 {}
 
+/// What is printed of a legal log is read as the session that it tells. The site, the callers and the calls are in the
+/// ranges that a session can have; of the replies nothing is asked.
+pub fn printed_log_is_read()
+    ensures { (s : Session) → IsLegal s → IsPrintable s → Reads (session_text s.site (map logged s.log)) s.site (map logged s.log) }
+{
+    told_reply();
+    read_as_printed();
+}
+
+/// So what is printed of a legal log can be read, and a check of it comes to the same.
+pub fn printed_log_is_checked()
+    ensures { (s : Session) → IsLegal s → IsPrintable s → ChecksText (session_text s.site (map logged s.log)) (Same (length s.log)) }
+{
+    printed_log_is_read();
+    told_log_is_same();
+}
+
 /// Whatever session is read of what is printed of a legal log, it is the same when it is gone through again.
-/// The site, the callers and the calls are in the ranges that a session can have; of the replies nothing is asked.
 pub fn printed_log_is_same()
     ensures { (s : Session) (site : Config) (entries : List Entry) (checked : Checked) → IsLegal s → IsPrintable s
         → Reads (session_text s.site (map logged s.log)) site entries → Checks site entries checked → checked ≡ Same (length s.log) }
 {
-    told_reply();
     one_session();
-    read_as_printed();
+    printed_log_is_read();
     told_log_is_same();
     one_check();
 }
