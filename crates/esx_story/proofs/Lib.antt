@@ -1,0 +1,17 @@
+pub mod Bits
+pub mod Moves
+pub mod event
+pub mod Every
+pub mod Told
+pub mod Listed
+pub mod Adds
+pub mod Ranked
+pub mod rows
+pub mod Walked
+pub mod Backs
+pub mod Reasons
+pub mod Hows
+pub mod Tells
+pub mod Enough
+pub mod Sets
+pub mod Accounts

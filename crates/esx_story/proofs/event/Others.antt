@@ -1,0 +1,122 @@
+-- The other events move no page.
+use Rattle.std.proofs.Common.{◌≡◌, ℕ, suc, zero, ◌+◌, false, not, nat_lt, List, [], ◌∷◌, length, map, get_or, replicate, refl, ap, subst, arith, Option, Some, None, Ok, cond, is_some, inl, inr}
+use Rattle.std.specs.Option.{option_map}
+use Rattle.std.proofs.lemmas.Bool.{cases_lt}
+use Rattle.std.proofs.lemmas.List.{set_past}
+use Rattle.std.proofs.lemmas.List.Sums.{sum_by-cons}
+use Rattle.esx_types.specs.declared.config.Config.{Config}
+use Rattle.esx_types.specs.declared.level.Level.{Level}
+use Rattle.esx_types.specs.declared.level.Level.TheVariants.{High, Soft, Hard, Low}
+use Rattle.esx_types.specs.declared.vm.VmSpec.{VmSpec}
+use Rattle.esx_events.specs.declared.event.Answer.{Answer}
+use Rattle.esx_events.specs.declared.event.Answer.TheVariants as answers
+use Rattle.esx_formulas.specs.Targets.{targets_of}
+use Rattle.esx_model.specs.declared.scene.Place.TheVariants.{Untouched}
+use Rattle.esx_model.specs.declared.scene.Vm.{Vm}
+use Rattle.esx_model.specs.declared.scene.Site.{Site}
+use Rattle.esx_model.specs.Places.{is_here}
+use Rattle.esx_model.specs.Site.{vm_at, with_vm, least_free}
+use Rattle.esx_model.specs.event.Outcome.{standing}
+use Rattle.esx_model.specs.event.Admission.{memory_with, swap_with, admit_gate, reserves_in, admitted, admit}
+use Rattle.esx_model.specs.event.Starting.{start_gate, with_overhead, take_overhead, start}
+use Rattle.esx_model.specs.event.Sampling.{sample_gate, opened_period, sample}
+use Rattle.esx_model.specs.event.Rebalancing.{with_targets, at_max, rows_of, min_of, need, share_out, rebalance, shares_gate, set_shares, tax_gate, set_tax}
+use Rattle.esx_model.proofs.Callers.{of_vm, passed, accepted, same_site}
+use Rattle.esx_story.proofs.Bits.{bits, bits_in, trues, has_set, has_vm, keeps_of}
+use Rattle.esx_story.proofs.Moves.{Moves, moves_none}
+use Rattle.esx_story.proofs.event.Leaving.{moves_empty}
+
+fresh : (k : ℕ) → trues (map is_here (replicate k Untouched)) ≡ 0
+fresh zero = refl
+fresh (suc k) =
+    let a = sum_by-cons (λ x. cond x 1 0) false (map is_here (replicate k Untouched)) in
+    let rest = fresh k in
+    omega (arith, a, rest)
+
+nobody : (o : Option Vm) → is_some o ≡ false → trues (bits_in o) ≡ 0
+nobody None h = refl
+nobody (Some v) h = cc
+
+pub admit_moves : (c : Config) (s : Site) (n : ℕ) (spec : VmSpec) (r : Answer × Site) → admit c s n spec ≡ Ok r → Moves s r.1 None None
+unfolding admit
+admit_moves c s n spec r h =
+    let pass = passed (admit_gate c (is_some (vm_at s n)) spec (memory_with s spec) (swap_with s spec)) _ r h in
+    let P : Site → Type 0 = λ t. Moves s t None None in
+    let t = with_vm s n (admitted spec) in
+    subst P (same_site (answers.Admitted (reserves_in c (memory_with s spec) (swap_with s spec))) t r pass.1)
+    (elim (cases_lt n (length s.vms)) [
+      | inl below ↦ moves_empty s t n (bits (admitted spec)) (has_set s n (Some (admitted spec)) s.hints s.tau below) (fresh spec.max) (nobody (vm_at s n) pass.0.0)
+      | inr beyond ↦ moves_none s t (λ m. ap (λ (vms : List (Option Vm)). bits_in (get_or vms m None)) (set_past s.vms n (Some (admitted spec)) beyond))
+    ])
+
+-- a machine changes in what is not its pages
+row_moves : (s : Site) (n : ℕ) (v w : Vm) (a : Answer) (r : Answer × Site) → vm_at s n ≡ Some v → w.places ≡ v.places → accepted a (with_vm s n w) ≡ Ok r → Moves s r.1 None None
+row_moves s n v w a r there is h =
+    let P : Site → Type 0 = λ t. Moves s t None None in
+    subst P (same_site a (with_vm s n w) r h) (moves_none s (with_vm s n w) (keeps_of s (with_vm s n w) n v (bits w) there (has_vm s n v w s.hints there) (ap (map is_here) is)))
+
+taken_moves : (s : Site) (n : ℕ) (v : Vm) (o : Option ℕ) (r : Answer × Site) → vm_at s n ≡ Some v → take_overhead s n v o ≡ Ok r → Moves s r.1 None None
+taken_moves s n v None r there h = cc
+taken_moves s n v (Some f) r there h = row_moves s n v (with_overhead v f) (answers.Started (not (nat_lt (length v.overhead + 1) v.spec.overhead)) f (length v.overhead + 1) v.spec.overhead) r there refl h
+
+pub start_moves : (c : Config) (s : Site) (n : ℕ) (r : Answer × Site) → start c s n ≡ Ok r → Moves s r.1 None None
+unfolding start
+start_moves c s n r h =
+    let own = of_vm (vm_at s n) _ r h in
+    let v = own.vm in
+    let pass = passed (start_gate (standing v)) _ r own.then in
+    taken_moves s n v (least_free c.frames s) r own.there pass.1
+
+pub sample_moves : (s : Site) (n len : ℕ) (words : List ℕ) (r : Answer × Site) → sample s n len words ≡ Ok r → Moves s r.1 None None
+unfolding sample
+sample_moves s n len words r h =
+    let own = of_vm (vm_at s n) _ r h in
+    let v = own.vm in
+    let pass = passed (sample_gate (standing v) (length words) len (is_some v.period)) _ r own.then in
+    row_moves s n v (record v { period = Some (opened_period v.spec.max len words) }) (answers.Opened len (length words)) r own.there refl pass.1
+
+pub set_shares_moves : (s : Site) (n shares : ℕ) (r : Answer × Site) → set_shares s n shares ≡ Ok r → Moves s r.1 None None
+unfolding set_shares
+set_shares_moves s n shares r h =
+    let own = of_vm (vm_at s n) _ r h in
+    let v = own.vm in
+    let pass = passed (shares_gate shares) _ r own.then in
+    row_moves s n v (record v { spec = record v.spec { shares = shares } }) answers.Done r own.there refl pass.1
+
+pub set_tax_moves : (s : Site) (tau : ℕ) (r : Answer × Site) → set_tax s tau ≡ Ok r → Moves s r.1 None None
+unfolding set_tax
+set_tax_moves s tau r h =
+    let pass = passed (tax_gate tau) _ r h in
+    let P : Site → Type 0 = λ t. Moves s t None None in
+    subst P (same_site answers.Done (record s { tau = tau }) r pass.1) (moves_none s (record s { tau = tau }) (λ m. refl))
+
+at_max_keeps : (vms : List (Option Vm)) (m : ℕ) → bits_in (get_or (map (option_map at_max) vms) m None) ≡ bits_in (get_or vms m None)
+at_max_keeps [] m = refl
+at_max_keeps (None ∷ vms) zero = refl
+at_max_keeps (Some v ∷ vms) zero = refl
+at_max_keeps (o ∷ vms) (suc m) = at_max_keeps vms m
+
+targets_keep : (vms : List (Option Vm)) (targets : List ℕ) (m : ℕ) → bits_in (get_or (with_targets vms targets) m None) ≡ bits_in (get_or vms m None)
+targets_keep [] targets m = refl
+targets_keep (None ∷ vms) targets zero = refl
+targets_keep (None ∷ vms) targets (suc m) = targets_keep vms targets m
+targets_keep (Some v ∷ vms) [] zero = refl
+targets_keep (Some v ∷ vms) [] (suc m) = targets_keep vms [] m
+targets_keep (Some v ∷ vms) (t ∷ targets) zero = refl
+targets_keep (Some v ∷ vms) (t ∷ targets) (suc m) = targets_keep vms targets m
+
+shared_out_moves : (c : Config) (s : Site) (r : Answer × Site) → share_out c s ≡ Ok r → Moves s r.1 None None
+shared_out_moves c s r h =
+    let t : Site = record s { vms = with_targets s.vms (targets_of s.tau (rows_of min_of s) (need c s)) } in
+    let P : Site → Type 0 = λ t. Moves s t None None in
+    subst P (same_site _ t r h) (moves_none s t (targets_keep s.vms (targets_of s.tau (rows_of min_of s) (need c s))))
+
+pub rebalance_moves : (c : Config) (s : Site) (level : Level) (r : Answer × Site) → rebalance c s level ≡ Ok r → Moves s r.1 None None
+unfolding rebalance
+rebalance_moves c s High r h =
+    let t : Site = record s { vms = map (option_map at_max) s.vms } in
+    let P : Site → Type 0 = λ t. Moves s t None None in
+    subst P (same_site (answers.Rebalanced 0 0) t r h) (moves_none s t (at_max_keeps s.vms))
+rebalance_moves c s Soft r h = shared_out_moves c s r h
+rebalance_moves c s Hard r h = shared_out_moves c s r h
+rebalance_moves c s Low r h = shared_out_moves c s r h

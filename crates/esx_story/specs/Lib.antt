@@ -1,0 +1,14 @@
+pub mod Changes
+pub mod Losses
+pub mod Gains
+pub mod Moments
+pub mod Counts
+pub mod Spans
+pub mod Order
+pub mod Laws
+pub mod Paths
+pub mod Hows
+pub mod Readings
+pub mod Spots
+pub mod Waits
+pub mod Story
