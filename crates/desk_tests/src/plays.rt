@@ -32,7 +32,8 @@ pub fn opened(alloc: Global) -> Result<(Desk, Pass, Pass), Refusal>
 
 /// The same, after the first caller has admitted and started a virtual machine.
 pub fn started<R: Wait>(rt: &R, alloc: Global) -> Result<(Desk, Pass, Pass), Refusal>
-    ensures { IfOk result (λ r. IsOf r.0 r.1 × IsOf r.0 r.2) }
+    ensures desk { IfOk result (λ r. r.0.callers ≡ 2) }
+    ensures passes { IfOk result (λ r. IsOf r.0 r.1 × IsOf r.0 r.2) }
 {
     let (desk, mut first, second) = opened(alloc)?;
     let _ = desk.submit(rt, &mut first, admit(guest(0)))?;
@@ -42,11 +43,14 @@ pub fn started<R: Wait>(rt: &R, alloc: Global) -> Result<(Desk, Pass, Pass), Ref
 
 const LOOKS: u64 = 2_000_000_000;
 
-const ENTERED: u64 = 1;
+/// The first caller is at its gate.
+pub const ENTERED: u64 = 1;
 
-const LOOKED: u64 = 2;
+/// The second caller has done what it has to do meanwhile.
+pub const LOOKED: u64 = 2;
 
-fn comes_to(step: &AtomicU64, wanted: u64) -> bool {
+/// Looks at a step until it is the one that is wanted, and gives up after very many looks.
+pub fn comes_to(step: &AtomicU64, wanted: u64) -> bool {
     for _look in 0..LOOKS {
         if step.load(Ordering::SeqCst) == wanted {
             return true;

@@ -1,5 +1,6 @@
 //! Worked examples, each through the whole console. What they answer was worked out by hand.
 
+mod accepted;
 mod asking;
 mod checking;
 mod ends;
@@ -233,7 +234,7 @@ const COMMANDS: [&str; 9] = [
 #[test]
 fn commands(rt: HostRuntime) -> Result<(), Fail> {
     for text in COMMANDS {
-        let Ok(call) = parse_command(rt.alloc(), text) else {
+        let Some(call) = parse_command(rt.alloc(), text)? else {
             panic!(rt; "a command was refused");
         };
         assert_eq!(rt; print_command(rt.alloc(), &call)?.as_str(), text);

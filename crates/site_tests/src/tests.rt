@@ -1,5 +1,6 @@
 // What is run of the tables, the plain program, the machine and the console, a file each.
 
+mod accepted;
 mod console;
 mod keys;
 mod machine;

@@ -55,7 +55,7 @@ const MECHANISMS: [Row; 9] = [
     },
 ];
 
-const SCARCE: [Row; 7] = [
+const SCARCE: [Row; 8] = [
     // a balloon, and its reset
     Row {
         input: b"admit 0 2 8 1 1000 4\nstart 0\nread 0 0 0 1\nread 0 1 0 1\nread 0 2 0 1\nread 0 3 0 1\nread 0 4 0 1\nrebalance\nask 0\nlend 0 4\nlend 0 3\nlend 0 3\nwrite 0 4 2 7f\nread 0 4 0 4\npage 0 4\nask 0\ntakeback 0 3\nask 0\nread 0 3 0 1\npage 0 3\n",
@@ -90,6 +90,11 @@ const SCARCE: [Row; 7] = [
     Row {
         input: b"admit 0 1 6 1 1000 0\nadmit 1 1 4 1 1000 0\nstart 0\nstart 1\nwrite 0 0 0 2a\nwrite 1 0 0 2a\nscan 1 0\nread 0 1 0 1\nread 0 2 0 1\nrebalance\nswapout 0 0\nsum\nswapout 0 0\npage 1 0\nundo 2\nsum\npage 1 0\nredo 2\npage 0 0\n",
         output: b"ok memory 2/8 swap 5/8\nok memory 4/8 swap 8/8\nok frame 0 overhead 1/1 running\nok frame 1 overhead 1/1 running\nok\nok\nok hinted\nok 00\nok 00\nok need 3 revoked 2\nok shared 0 frame 3\noverhead 2 private 2 shared 1 free 3 soft\nok out 0 slot 0\nhere frame 3 shared 1\nat 10 depth 10 jumps 1\noverhead 2 private 4 shared 0 free 2 soft\nhere frame 3 private hint\nat 12 depth 12 jumps 2\nout slot 0\n",
+    },
+    // a page that waits gets on by four advised events
+    Row {
+        input: b"admit 0 1 8 1 1000 0\nstart 0\nread 0 0 0 1\nread 0 1 0 1\nread 0 2 0 1\nread 0 3 0 1\nread 0 4 0 1\nread 0 5 0 1\nread 0 6 0 1\nsum\nread 0 7 0 1\nadvise 0 7\nrebalance\nread 0 7 0 1\nadvise 0 7\nswapout 0 0\nswapout 0 0\nswapout 0 0\nsum\nadvise 0 7\nread 0 7 0 1\npage 0 7\n",
+        output: b"ok memory 2/8 swap 7/8\nok frame 0 overhead 1/1 running\nok 00\nok 00\nok 00\nok 00\nok 00\nok 00\nok 00\noverhead 1 private 7 shared 0 free 0 low\nno 9 Short\nrebalance\nok need 5 revoked 5\nno 8 Held\nswapout 0\nok out 0 slot 0\nok out 1 slot 1\nok out 2 slot 2\noverhead 1 private 4 shared 0 free 3 hard\ngo\nok 00\nhere frame 1 private\n",
     },
 ];
 

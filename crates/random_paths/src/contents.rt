@@ -1,0 +1,55 @@
+//! What is written: few contents, so that pages are equal often, or equal but for one byte.
+
+use crate::draws::Draws;
+use esx_events::Boxed;
+use esx_types::Bytes;
+use std::alloc::{AllocError, Global};
+
+fn filled(alloc: Global, len: u32, byte: u8) -> Result<Vec<u8>, AllocError> {
+    vec![in alloc; byte; len as usize]
+}
+
+/// Bytes that are equal but for one.
+fn nearly(alloc: Global, len: u32, at: u32) -> Result<Vec<u8>, AllocError> {
+    let mut bytes = filled(alloc, len, 7)?;
+    if let Some(byte) = bytes.get_mut(at as usize) {
+        *byte = 8;
+    }
+    Ok(bytes)
+}
+
+fn random(alloc: Global, len: u32, draws: &mut Draws) -> Result<Vec<u8>, AllocError> {
+    let mut bytes = Vec::new(alloc);
+    for _ in 0..len {
+        bytes.push((draws.word() & 0xff) as u8)?;
+    }
+    Ok(bytes)
+}
+
+/// Where bytes differ that are nearly equal: at the first, the last or any place.
+fn odd_place(page: u32, draws: &mut Draws) -> u32 {
+    match draws.below(3) {
+        0 => 0,
+        1 => page.saturating_sub(1),
+        _ => draws.below(page),
+    }
+}
+
+/// A whole page, or its first bytes.
+pub fn content(alloc: Global, page: u32, draws: &mut Draws) -> Result<Boxed<Bytes>, AllocError> {
+    let bytes = match draws.below(16) {
+        0 => filled(alloc, 1, 0)?,
+        1 | 2 => filled(alloc, 1, 0x2a)?,
+        3 => filled(alloc, 3, 0xc0)?,
+        4 => filled(alloc, page, 0)?,
+        5..=9 => filled(alloc, page, 7)?,
+        10..=12 => {
+            let at = odd_place(page, draws);
+            nearly(alloc, page, at)?
+        }
+        13 => random(alloc, page, draws)?,
+        14 => random(alloc, 2, draws)?,
+        _ => filled(alloc, page, 0x2a)?,
+    };
+    Boxed::new(alloc, Bytes::from_vec(bytes))
+}

@@ -1,0 +1,215 @@
+//! Events that the plain program accepts, those of each mechanism.
+
+ghost use Rattle.esx_types.specs.Ranges.{IsConfig};
+
+use super::site::{SITE, SPEC};
+use esx_events::{Boxed, Event};
+use esx_model::{Book, PeriodRow, VmRow};
+use esx_plain::replay;
+use esx_types::{Config, FrameRow, MapRow, Rows, SlotRow, VmId, VmSpec, VmState};
+use std::alloc::Global;
+use std::test::Fail;
+
+/// A small site, where frames are soon scarce.
+const FEW: Config = Config { frames: 8, ..SITE };
+
+fn machine(number: u8) -> Result<VmId, Fail> {
+    match VmId::new(number) {
+        Some(vm) => Ok(vm),
+        None => Err(Fail::new("the number")),
+    }
+}
+
+fn read(vm: VmId, page: u32) -> Event {
+    let (at, len) = (0, 1);
+    Event::Read { vm, page, at, len }
+}
+
+/// The tables that a path leads to.
+fn book_of(alloc: Global, site: &Config, path: &[Event]) -> Result<Book, Fail>
+    requires { IsConfig site.now }
+{
+    match replay(alloc, site, path) {
+        Ok(book) => Ok(book),
+        Err(_) => Err(Fail::new("a path that is accepted")),
+    }
+}
+
+fn first_row(book: &Book) -> Result<&VmRow, Fail> {
+    match book.vms.as_slice() {
+        [Some(row), ..] => Ok(row),
+        _ => Err(Fail::new("a machine")),
+    }
+}
+
+#[test]
+fn shares_and_a_tax_are_set(rt: HostRuntime) -> Result<(), Fail> {
+    let vm = machine(0)?;
+    let path = [
+        Event::Admit { vm, spec: SPEC },
+        Event::SetShares { vm, shares: 2000 },
+        Event::SetTax { tau: 50 },
+    ];
+    let book = book_of(rt.alloc(), &SITE, &path[..2])?;
+    assert_eq!(rt; (first_row(&book)?.spec.shares, book.tau), (2000, 75));
+    let book = book_of(rt.alloc(), &SITE, &path)?;
+    assert_eq!(rt; (first_row(&book)?.spec.shares, book.tau), (2000, 50));
+    Ok(())
+}
+
+#[test]
+fn a_lent_page_is_taken_back(rt: HostRuntime) -> Result<(), Fail> {
+    let vm = machine(0)?;
+    let spec = VmSpec {
+        balloon_max: 4,
+        ..SPEC
+    };
+    let path = [
+        Event::Admit { vm, spec },
+        Event::Start { vm },
+        read(vm, 0),
+        read(vm, 1),
+        read(vm, 2),
+        read(vm, 3),
+        read(vm, 4),
+        Event::Rebalance,
+        Event::Lend { vm, page: 4 },
+        Event::Lend { vm, page: 3 },
+        Event::TakeBack { vm, page: 4 },
+    ];
+    let book = book_of(rt.alloc(), &FEW, &path)?;
+    let pages = first_row(&book)?.pages.as_slice();
+    assert_eq!(rt; pages.get(3), Some(&MapRow::Lent { epoch: 0 }));
+    assert_eq!(rt; pages.get(4), Some(&MapRow::Untouched));
+    Ok(())
+}
+
+#[test]
+fn a_period_opens_and_counts(rt: HostRuntime) -> Result<(), Fail> {
+    let alloc = rt.alloc();
+    let vm = machine(0)?;
+    let mut words = Vec::new(alloc);
+    words.push(1)?;
+    let words = Boxed::new(alloc, Rows::from_vec(words))?;
+    let path = [
+        Event::Admit { vm, spec: SPEC },
+        Event::Start { vm },
+        Event::Sample {
+            vm,
+            length: 2,
+            words,
+        },
+        read(vm, 1),
+        read(vm, 0),
+    ];
+    let book = book_of(alloc, &SITE, &path[..3])?;
+    assert!(rt;
+        matches!(
+            first_row(&book)?.period,
+            Some(PeriodRow {
+                length: 2,
+                done: 0,
+                ..
+            })
+        )
+    );
+    let book = book_of(alloc, &SITE, &path[..4])?;
+    assert!(rt;
+        matches!(
+            first_row(&book)?.period,
+            Some(PeriodRow {
+                length: 2,
+                done: 1,
+                ..
+            })
+        )
+    );
+    let book = book_of(alloc, &SITE, &path)?;
+    let row = first_row(&book)?;
+    assert!(rt; row.period.is_none());
+    assert_eq!(rt; (row.slow, row.fast), (65536, 65536));
+    Ok(())
+}
+
+#[test]
+fn a_page_makes_room_for_another(rt: HostRuntime) -> Result<(), Fail> {
+    let (one, two) = (machine(0)?, machine(1)?);
+    let spec = VmSpec { min: 3, ..SPEC };
+    let path = [
+        Event::Admit { vm: one, spec },
+        Event::Admit { vm: two, spec },
+        Event::Start { vm: one },
+        Event::Start { vm: two },
+        read(one, 0),
+        read(one, 1),
+        read(one, 2),
+        read(two, 0),
+        read(two, 1),
+        read(two, 2),
+        Event::Replace {
+            vm: one,
+            page: 3,
+            word: 1,
+        },
+    ];
+    let book = book_of(rt.alloc(), &FEW, &path)?;
+    let here = |frame| MapRow::Here { frame };
+    let expected = [
+        here(2),
+        MapRow::Out { slot: 0 },
+        here(4),
+        here(3),
+        MapRow::Untouched,
+        MapRow::Untouched,
+    ];
+    assert_eq!(rt; first_row(&book)?.pages.as_slice(), expected.as_slice());
+    assert!(rt;
+        matches!(
+            book.slots.as_slice(),
+            [SlotRow::Held { .. }, SlotRow::Free, ..]
+        )
+    );
+    Ok(())
+}
+
+#[test]
+fn a_machine_leaves(rt: HostRuntime) -> Result<(), Fail> {
+    let alloc = rt.alloc();
+    let vm = machine(0)?;
+    let spec = VmSpec {
+        overhead: 2,
+        ..SPEC
+    };
+    let path = [
+        Event::Admit { vm, spec },
+        Event::Start { vm },
+        Event::Start { vm },
+        read(vm, 0),
+        Event::Stop { vm },
+        Event::DropPage { vm, page: 0 },
+        Event::Gone { vm },
+        Event::Gone { vm },
+    ];
+    let book = book_of(alloc, &SITE, &path[..5])?;
+    let row = first_row(&book)?;
+    assert_eq!(rt; row.state, VmState::Stopping);
+    assert_eq!(rt;
+        row.pages.as_slice().first(),
+        Some(&MapRow::Here { frame: 2 })
+    );
+    let book = book_of(alloc, &SITE, &path[..6])?;
+    let row = first_row(&book)?;
+    assert_eq!(rt; row.pages.as_slice().first(), Some(&MapRow::Untouched));
+    assert_eq!(rt; row.overhead.len(), 2);
+    let book = book_of(alloc, &SITE, &path[..7])?;
+    assert_eq!(rt; first_row(&book)?.overhead.len(), 1);
+    let book = book_of(alloc, &SITE, &path)?;
+    assert!(rt; matches!(book.vms.as_slice(), [None, ..]));
+    assert!(rt;
+        book.frames
+            .as_slice()
+            .iter()
+            .all(|row| matches!(row, FrameRow::Free))
+    );
+    Ok(())
+}
