@@ -1,0 +1,197 @@
+"""Random changes of command lines, sessions, scenarios and the program's words, from a fixed seed.
+
+Each is answered as a plain reader of their definitions (reader.py) and a plain console (console.py) answer. Sessions and
+scenarios are changed until they differ from what they were.
+"""
+
+import random
+import re
+import tempfile
+
+import console
+import reader
+import words
+from console import Console
+from program import Told, Wrong, ask, expect, file_of
+
+SEED = 20021209
+COUNTS = {"lines": 6000, "sessions": 2000, "scenarios": 1700, "words": 300}
+LINES_AT_ONCE = 200
+EDGES = ["0", "1", "00", "01", "31", "32", "63", "64", "99", "100", "255", "4096", "65536", "65537", "1048576", "1048577",
+         "4294967295", "4294967296", "18446744073709551615", "18446744073709551616", "9" * 40, "-1", "+1", "1.0", "1e3", "0x1",
+         "1_0", "", "x", "true", '"1"', "9223372036854775807", "9223372036854775808"]
+PIECES = [b" ", b"  ", b"\n", b"\n\n", b"\r\n", b"\r", b"\t", b"#", b"= ", b"=", b"0", b"9", b"-", b".", b"[", b"]", b'"',
+          b"'", b";", b"; ", b",", b"\0", b"\x7f", b"\xff", "é".encode(), b"a", b"Z", b"_", b"end 1", b"end", b"esx session 1",
+          b"session", b"[[vm]]\n", b"[run]\n", b"id = 1\n", b"tau = 3\n", b"x.y = 1\n"]
+
+
+def number(draw, most):
+    return draw.choice(EDGES) if draw.random() < 0.03 else str(draw.randrange(most))
+
+
+def event(draw):
+    """An event, mostly of machines 0 and 1 with pages 0 to 6."""
+    word = draw.choice(list(reader.EVENTS))
+    vm, page = number(draw, 2), number(draw, 7)
+    if word == "admit":
+        least = draw.choice([1, 1, 2, 3])
+        return f"admit {vm} {least} {least + draw.choice([0, 2, 4])} {number(draw, 4)} {number(draw, 2000)} {number(draw, 3)}"
+    if word == "read":
+        return f"read {vm} {page} {number(draw, 16)} {number(draw, 18)}"
+    if word == "write":
+        byte = draw.choice(["00", "2a", "ff", "a"])
+        return f"write {vm} {page} {number(draw, 16)} {byte * draw.choice([1, 1, 2, 4])}"
+    if word == "sample":
+        drawn = draw.choice([0, 1, 2, 5, 100, 101, 200, 201])
+        return " ".join(["sample", vm, number(draw, 4)] + [number(draw, 50) for _ in range(drawn)])
+    return " ".join([word] + [vm if kind == reader.VM else page for kind in reader.EVENTS[word]])
+
+
+def command(draw):
+    word = draw.choice(["event"] * 12 + list(reader.OTHERS) + ["whatif", "session", "#", ""])
+    if word == "event":
+        return event(draw)
+    if word == "whatif":
+        return "whatif " + "; ".join(event(draw) for _ in range(draw.choice([1, 2, 3, 64, 65])))
+    fields = {"name": draw.choice(["base", "a-1", "x_9", "z" * 32, "z" * 33, "Top"]), reader.VM: number(draw, 2),
+              reader.NUMBER: number(draw, 6)}
+    return " ".join([word] + [fields[kind] for kind in reader.OTHERS.get(word, [])])
+
+
+def changed(draw, data):
+    """Some bytes with one change in them."""
+    way = draw.randrange(6)
+    at = draw.randrange(len(data) + 1)
+    if way == 0:
+        return data[:at] + draw.choice(PIECES) + data[at:]
+    if way == 1:
+        return data[:at] + data[at + draw.choice([1, 1, 1, 2, 5]):]
+    if way == 2:
+        return data[:at] + bytes([draw.randrange(256)]) + data[at + 1:]
+    if way == 3:
+        found = list(re.finditer(rb"[0-9]+", data))
+        if found:
+            one = draw.choice(found)
+            return data[:one.start()] + draw.choice(EDGES).encode() + data[one.end():]
+        return data
+    lines = data.split(b"\n")
+    one, other = draw.randrange(len(lines)), draw.randrange(len(lines))
+    if way == 4:
+        lines.insert(one, lines[other])
+    else:
+        del lines[one]
+    return b"\n".join(lines)
+
+
+def changes(draw, data, most):
+    for _ in range(draw.randint(0, most)):
+        data = changed(draw, data)
+    return data
+
+
+def made_other(draw, data):
+    """These bytes with one to three changes, so that they are other bytes."""
+    other = data
+    while other == data:
+        other = changes(draw, changed(draw, data), draw.choice([0, 0, 2]))
+    return other
+
+
+OPENING = [b"admit 0 2 6 1 1000 2", b"start 0", b"admit 1 1 3 1 500 0", b"start 1"]
+
+
+def told_calls(calls):
+    lines = [f"{caller} {text}\n" + "".join(f"= {reply}\n" for reply in replies) for caller, text, replies in calls]
+    return "".join(lines + [f"end {len(calls)}\n"]).encode()
+
+
+def check_lines(program, draw, count):
+    """Batches of lines, each with `session` at its end; gives the sessions, which are checked too."""
+    for _ in range(0, count, LINES_AT_ONCE):
+        drawn = [command(draw).encode() for _ in range(LINES_AT_ONCE)]
+        pieces = [made_other(draw, line) if draw.random() < 0.5 else line for line in drawn]
+        asked = b"\n".join(OPENING + pieces + [b"session"]) + b"\n"
+        wanted = console.answers(Console(console.FIRST_SITE), asked)
+        told = ask(program, [], asked)
+        if told != Told(0, b"".join(wanted), b""):
+            raise Wrong(f"lines: {console.first_other(reader.lines_of(asked), wanted, told.out)}\n  {told!r}")
+        session = reader.session_of(wanted[-1])
+        with file_of(wanted[-1]) as name:
+            expect("check of its session", Told(0, b"same %d\n" % len(session.calls), b""), ask(program, ["check", name]))
+        yield session
+
+
+def short_sessions(draw, sessions):
+    """Sessions of the first few calls of those that were told."""
+    head = b"\n".join(words.EMPTY.split(b"\n")[:2]) + b"\n"
+    return [words.SESSION, words.EMPTY] + [head + told_calls(session.calls[:draw.randint(4, 20)]) for session in sessions]
+
+
+def check_sessions(program, draw, count, sessions):
+    """How many of the changed ones were sessions, and how many of these are the same still."""
+    bases, good, same = short_sessions(draw, sessions), 0, 0
+    for _ in range(count):
+        text = made_other(draw, draw.choice(bases))
+        refused = reader.told_of_session(text)
+        if refused is None:
+            session = reader.session_of(text)
+            out, status = console.told_of_check(session)
+            wanted, replayed = Told(status, out, b""), Told(0, console.told_of_replay(session), b"")
+            good, same = good + 1, same + (status == 0)
+        else:
+            wanted = replayed = Told(1, b"", refused.encode() + b"\n")
+        with file_of(text) as name:
+            expect(f"check of {text!r}", wanted, ask(program, ["check", name]))
+            expect(f"replay of {text!r}", replayed, ask(program, ["replay", name]))
+    return good, same
+
+
+def check_scenarios(program, draw, count):
+    """How many of the changed ones were scenarios."""
+    two = words.SCENARIO + words.SCENARIO[words.SCENARIO.index(b"[[vm]]"):].replace(b"id = 7", b"id = 0")
+    bases, good = [words.SCENARIO, two, console.scenario_of([20, 16, 8, 75, 6, 4, 2, 1, 5])], 0
+    for _ in range(count):
+        text = made_other(draw, draw.choice(bases))
+        wanted, frames = reader.told_of_scenario(text)
+        with file_of(text) as name:
+            told = ask(program, ["console", name], b"sum\n")
+        if wanted is None:
+            out = b"overhead 0 private 0 shared 0 free %d high\n" % frames
+            expect(f"console at {text!r}", Told(0, out, b""), told)
+            good += 1
+        else:
+            expect(f"console at {text!r}", Told(1, b"", wanted.encode() + b"\n"), told)
+    return good
+
+
+def check_words(program, draw, count):
+    """The program's words, with a file that is no scenario and no session, and one that is not there."""
+    with file_of(b"\n") as name, tempfile.TemporaryDirectory() as nowhere:
+        for _ in range(count):
+            drawn = [draw.choice(["console", "run", "check", "replay", name, f"{name}.none", "", "Run", "sum", "0"])
+                     for _ in range(draw.choice([0, 1, 1, 2, 2, 2, 3]))]
+            found = reader.file_of_words(drawn)
+            if found is None:
+                wanted = Told(2, b"", b"wrong words\n")
+            elif found == ("console", None):
+                wanted = Told(0, b"at 0 depth 0 jumps 0\n", b"")
+            elif found[1] != name:
+                wanted = Told(1, b"", b"read fault\n")
+            else:
+                wanted = Told(1, b"", b"bad key version\n" if found[0] in ("console", "run") else b"bad line 1\n")
+            expect(f"words {drawn}", wanted, ask(program, drawn, b"where\n", cwd=nowhere))
+
+
+def check(program, is_long):
+    draw = random.Random(SEED)
+    counts = {name: count * (10 if is_long else 1) for name, count in COUNTS.items()}
+    sessions = list(check_lines(program, draw, counts["lines"]))
+    calls = sum(len(session.calls) for session in sessions)
+    good_sessions, same = check_sessions(program, draw, counts["sessions"], sessions)
+    good_scenarios = check_scenarios(program, draw, counts["scenarios"])
+    check_words(program, draw, counts["words"])
+    if not (good_sessions > same and same and good_scenarios):
+        raise Wrong("no changed session or scenario was one still")
+    return (f"{counts['lines']} lines ({calls} calls with those that open sites), {counts['sessions']} sessions "
+            f"({good_sessions} good, {same} the same still), {counts['scenarios']} scenarios ({good_scenarios} good), "
+            f"{counts['words']} times words")

@@ -1,0 +1,252 @@
+"""The program's words and files: what is told of each that is refused, and the status."""
+
+import tempfile
+
+import reader
+from program import Told, ask, expect, file_of
+
+WRONG_WORDS = Told(2, b"", b"wrong words\n")
+
+SESSION = b"""esx session 1
+frames 9 page 32 slots 3 tau 10 levels 8 8 3 3 nodes 12
+5 admit 7 3 4 2 40 1
+= ok memory 5/9 swap 1/3
+0 start 7
+= ok frame 0 overhead 1/2 starting
+63 where
+= at 2 depth 2 jumps 0
+end 3
+"""
+REPLAYED = b"""ok memory 5/9 swap 1/3
+ok frame 0 overhead 1/2 starting
+at 2 depth 2 jumps 0
+ vm state        min     max  target    here    lent     out  shares  active
+  7 starting       3       4       4       0       0       0      40   65536
+overhead 1 private 0 shared 0 free 8 high
+"""
+RUN_SITE = "frames 9 page 32 slots 3 tau 75 levels 6 4 2 1 nodes 16777216"
+ENDS = b"guest 7 done\nsharer turns\nswapper turns\npolicy turns\n"
+SHORT = b"""esx session 1
+frames 20 page 16 slots 8 tau 75 levels 6 4 2 1 nodes 16777216
+0 admit 0 2 6 1 1000 0
+= ok memory 3/20 swap 4/8
+0 start 0
+= ok frame 0 overhead 1/1 running
+end 2
+"""
+SHORT_REPLAYED = b"""ok memory 3/20 swap 4/8
+ok frame 0 overhead 1/1 running
+ vm state        min     max  target    here    lent     out  shares  active
+  0 running        2       6       6       0       0       0    1000   65536
+overhead 1 private 0 shared 0 free 19 high
+"""
+EMPTY = b"esx session 1\nframes 20 page 16 slots 8 tau 75 levels 6 4 2 1 nodes 16777216\nend 0\n"
+
+
+def changed(text, old, new):
+    assert text.count(old) == 1, old
+    return text.replace(old, new)
+
+
+# What `check` tells of a session: its status, and what it prints.
+CHECKED = [
+    (SESSION, 0, b"same 3\n"),
+    (SESSION[:-1], 0, b"same 3\n"),
+    (SESSION.replace(b"\n", b"\r\n"), 0, b"same 3\n"),
+    (SHORT, 0, b"same 2\n"),
+    (SHORT[:-1], 0, b"same 2\n"),
+    (changed(SHORT, b"3/20", b"3/21"), 1, b"differs 1\n"),
+    (SESSION.replace(b"= at 2", b"= at 1").replace(b"5/9", b"5/8"), 1, b"differs 1\n"),
+    (EMPTY, 0, b"same 0\n"),
+    (changed(SESSION, b"5/9", b"5/8"), 1, b"differs 1\n"),
+    (changed(SESSION, b"1/2 starting", b"2/2 running"), 1, b"differs 2\n"),
+    (changed(SESSION, b"= at 2", b"= "), 1, b"differs 3\n"),
+    (changed(SESSION, b"jumps 0\n", b"jumps 0\n= \n"), 1, b"differs 3\n"),
+]
+
+# The line from which on a text is no session.
+BAD_LINES = [
+    (changed(SHORT, b"end 2\n", b""), 7),
+    (changed(SHORT, b"end 2", b"end 3"), 7),
+    (changed(SHORT, b"end 2", b"end 02"), 7),
+    (SHORT + b"\n", 8),
+    (b"", 1),
+    (b"\n" + SESSION, 1),
+    (changed(SESSION, b"session 1", b"session 2"), 1),
+    (changed(SESSION, b"session 1", b"session 1 "), 1),
+    (changed(SESSION, b"frames 9", b"frames 7"), 2),
+    (changed(SESSION, b"frames 9", b"frames 09"), 2),
+    (changed(SESSION, b"page 32", b"page 40"), 2),
+    (changed(SESSION, b"tau 10", b"tau 100"), 2),
+    (changed(SESSION, b"levels 8 8 3 3", b"levels 8 8 3 4"), 2),
+    (changed(SESSION, b"nodes 12", b"nodes 0"), 2),
+    (changed(SESSION, b"5 admit", b"= ok\n5 admit"), 3),
+    (changed(SESSION, b"5 admit", b"05 admit"), 3),
+    (changed(SESSION, b"5 admit", b"64 admit"), 3),
+    (changed(SESSION, b"5 admit", b"5  admit"), 3),
+    (changed(SESSION, b"admit 7", b"admit 32"), 3),
+    (changed(SESSION, b"= ok memory", b"=ok memory"), 4),
+    (changed(SESSION, b"= ok memory", b"0 start 7\n= ok memory"), 4),
+    (changed(SESSION, b"0 start", b"0 session"), 5),
+    (changed(SESSION, b"frame 0", b"frame \xc2\xb7"), 6),
+    (changed(SESSION, b"63 where", b"# where"), 7),
+    (changed(SESSION, b"end 3", b"end 03"), 9),
+    (changed(SESSION, b"end 3", b"end 4"), 9),
+    (changed(SESSION, b"end 3\n", b""), 9),
+    (SESSION + b"\n", 10),
+    (SESSION + b"end 3\n", 10),
+    (SESSION[:-1] + b"\r", 9),
+]
+
+SCENARIO = b"""version = 1
+[machine]
+frames = 9
+page = 32
+slots = 3
+[run]
+turns = 20
+[[vm]]
+id = 7
+min = 3
+max = 4
+overhead = 2
+shares = 40
+balloon = 1
+trace = ["write 3 30 beef", "read 3 0 32", "ask", "lend 2", "takeback 2"]
+"""
+
+# The key that is named where one piece of the scenario is another.
+BAD_KEYS = [
+    (b"version = 1", b"version = 2", b"version"),
+    (b"version = 1", b"version = 1.0", b"version"),
+    (b"version = 1\n", b"", b"version"),
+    (b"[machine]\n", b"[machines]\n", b"machine.frames"),
+    (b"frames = 9", b"frames = 7", b"machine.frames"),
+    (b"frames = 9", b"frames = 1048577", b"machine.frames"),
+    (b"frames = 9", b"frames = 2097152", b"machine.frames"),
+    (b"frames = 9", b"frames = -9", b"machine.frames"),
+    (b"frames = 9", b'frames = "9"', b"machine.frames"),
+    (b"page = 32", b"page = 4112", b"machine.page"),
+    (b"page = 32", b"page = 8", b"machine.page"),
+    (b"page = 32", b"page = 31", b"machine.page"),
+    (b"slots = 3", b"slots = 1048577", b"machine.slots"),
+    (b"slots = 3", b"slots = 3\ntau = 100", b"machine.tau"),
+    (b"slots = 3", b"slots = 3\nhigh = 51", b"machine.high"),
+    (b"slots = 3", b"slots = 3\nhigh = 0", b"machine.high"),
+    (b"slots = 3", b"slots = 3\nhigh = 3", b"machine.soft"),
+    (b"slots = 3", b"slots = 3\nsoft = 7", b"machine.soft"),
+    (b"slots = 3", b"slots = 3\nhard = 5", b"machine.hard"),
+    (b"slots = 3", b"slots = 3\nlow = 3", b"machine.low"),
+    (b"slots = 3", b"slots = 3\nnodes = 16777217", b"machine.nodes"),
+    (b"slots = 3", b"slots = 3\ncolour = 1", b"machine.colour"),
+    (b"[run]\n", b"[run]\nseed = -1\n", b"run.seed"),
+    (b"turns = 20", b"turns = 1000001", b"run.turns"),
+    (b"turns = 20", b"sample = 101", b"run.sample"),
+    (b"turns = 20", b"length = 0", b"run.length"),
+    (b"[run]\nturns = 20\n", b"", None),
+    (b"[run]\nturns = 20\n", b"[[run]]\nturns = 20\n", b"run"),
+    (b"[[vm]]", b"[vm]", b"vm"),
+    (b"[[vm]]", b"[[vm]]\n[[vm]]", b"vm.0.id"),
+    (b"[[vm]]", b"[[vms]]", b"vms"),
+    (b"id = 7", b"id = 32", b"vm.0.id"),
+    (b"min = 3", b"min = 0", b"vm.0.min"),
+    (b"min = 3", b"min = 5", b"vm.0.max"),
+    (b"max = 4", b"max = 65537", b"vm.0.max"),
+    (b"overhead = 2", b"overhead = 0", b"vm.0.overhead"),
+    (b"shares = 40", b"shares = 1048577", b"vm.0.shares"),
+    (b"balloon = 1", b"balloon = 2", b"vm.0.balloon"),
+    (b"balloon = 1", b"balloon = 1\ntau = 3", b"vm.0.tau"),
+    (b'"ask"', b'"ask 7"', b"vm.0.trace"),
+    (b'"ask"', b'"lend 4"', b"vm.0.trace"),
+    (b'"ask"', b'"read 0 0 33"', b"vm.0.trace"),
+    (b'"ask"', b'"read 0 0 0"', b"vm.0.trace"),
+    (b'"ask"', b'"write 0 32 00"', b"vm.0.trace"),
+    (b'"ask"', b'"scan 0"', b"vm.0.trace"),
+    (b'"ask"', b"7", b"vm.0.trace"),
+]
+NO_TOML = [b"frames = \n", b"version = 1\nversion = 1\n", b"[machine\n", b"version: 1\n", b"a = 'b\n"]
+
+# As long as a line may be, and a command also if a digit is put into it.
+LONG_LINE = b"whatif write 0 0 0 %s; write 0 0 10 %s" % (b"ab" * 4096, b"cd" * 4079)
+LONGER_LINE = LONG_LINE.replace(b" 10 ", b" 100 ")
+
+
+def refuses(program, words, status, told):
+    expect(" ".join(words), Told(status, b"", told), ask(program, words))
+
+
+def check_words(program, folder):
+    for words in (["serve"], ["run"], ["check"], ["replay"], ["--help"], ["-h"], ["--version"], ["console", "a", "b"],
+                  ["check", "a", "b"], ["sum"], ["Console"], [""], ["--", "--help"]):
+        expect(" ".join(words), WRONG_WORDS, ask(program, words))
+    for words in (["console"], ["run"], ["check"], ["replay"]):
+        refuses(program, [*words, f"{folder}/none"], 1, b"read fault\n")
+        refuses(program, [*words, folder], 1, b"read fault\n")
+    nobody = Told(0, b"overhead 0 private 0 shared 0 free 20 high\n", b"")
+    for words in ([], ["console"], ["--"], ["console", "--"]):
+        expect(f"sum, with {words}", nobody, ask(program, words, b"sum\n"))
+
+
+def check_sessions(program):
+    for text, status, out in CHECKED:
+        with file_of(text) as name:
+            expect(f"check of {text!r}", Told(status, out, b""), ask(program, ["check", name]))
+    for text, line in BAD_LINES:
+        with file_of(text) as name:
+            for word in ("check", "replay"):
+                refuses(program, [word, name], 1, b"bad line %d\n" % line)
+    for text in (SESSION, SHORT):
+        for end in range(len(text) - 1):
+            with file_of(text[:end]) as name:
+                refuses(program, ["check", name], 1, f"{reader.told_of_session(text[:end])}\n".encode())
+    for text, replayed in ((SESSION, REPLAYED), (SHORT, SHORT_REPLAYED)):
+        with file_of(text) as name:
+            expect("replay", Told(0, replayed, b""), ask(program, ["replay", name]))
+
+
+def check_scenarios(program):
+    for old, new, key in BAD_KEYS:
+        with file_of(changed(SCENARIO, old, new)) as name:
+            if key is None:
+                expect(f"{new!r} for {old!r}", Told(0, b"", b""), ask(program, ["console", name]))
+                continue
+            for word in ("console", "run"):
+                refuses(program, [word, name], 1, b"bad key %s\n" % key)
+    for text in NO_TOML:
+        with file_of(text) as name:
+            refuses(program, ["console", name], 1, b"bad toml\n")
+    for word in ("console", "run", "check", "replay"):
+        with file_of(b"esx \xff\n") as name:
+            refuses(program, [word, name], 1, b"bad text\n")
+    with file_of(changed(SCENARIO, b"min = 3", b"min = 8").replace(b"max = 4", b"max = 9")) as name:
+        refuses(program, ["run", name], 1, b"no 4 NoMemoryReserve\n")
+    with file_of(changed(SCENARIO, b"slots = 3", b"slots = 0")) as name:
+        refuses(program, ["run", name], 1, b"no 5 NoSwapReserve\n")
+
+
+def check_run(program):
+    with file_of(SCENARIO) as name:
+        told = ask(program, ["run", name])
+    expect("run", Told(0, told.out, ENDS), told)
+    calls = int(told.out.splitlines()[-1].split()[1])
+    with file_of(told.out) as name:
+        expect("check of a run", Told(0, b"same %d\n" % calls, b""), ask(program, ["check", name]))
+
+
+def check_long_lines(program):
+    assert (len(LONG_LINE), len(LONGER_LINE)) == (16384, 16385)
+    lines = [LONG_LINE, b"#" * 20000, LONGER_LINE, b"x" * 70000, b"where"]
+    none = b"overhead 0 private 0 shared 0 free 20 high\n"
+    answer = b"whatif 0/2\nbefore " + none + b"1 no 1 NoVm\nafter " + none
+    answers = answer + b"? line 3\n? line 4\nat 0 depth 0 jumps 0\n"
+    expect("long lines", Told(0, answers, b""), ask(program, [], b"\n".join(lines)))
+
+
+def check(program, _is_long):
+    with tempfile.TemporaryDirectory() as folder:
+        check_words(program, folder)
+    check_sessions(program)
+    check_scenarios(program)
+    check_run(program)
+    check_long_lines(program)
+    return f"{len(CHECKED) + len(BAD_LINES)} sessions and {len(BAD_KEYS) + len(NO_TOML)} scenarios told as written"
