@@ -1,2 +1,5 @@
+pub mod SignLemmas
+pub mod OneLineLemmas
+pub mod PuttingLemmas
 pub mod SidesLemmas
 pub mod ToldLemmas

@@ -17,11 +17,8 @@ mod said;
 mod sampling;
 mod sharing;
 mod sides;
+mod sign;
 mod table;
 
-pub use marks::{put_mark, put_marks_head};
-pub use moves::put_marked;
-pub use questions::put_sum;
-pub use said::{print_reply, put_said, write_reply};
-pub use sides::{accepted, put_after, put_before, put_numbered, put_sides_head};
-pub use table::{put_head as put_table_head, put_row as put_table_row};
+pub use said::{print_reply, put_reply, write_reply};
+pub use sign::Sign;

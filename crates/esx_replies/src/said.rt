@@ -2,6 +2,7 @@
 
 ghost use Rattle.std.specs.Prelude.{◌≡◌, ◌+◌, ◌≤◌, [], IfOk, OnOk, IsUtf8, string_bytes};
 ghost use Rattle.esx_writing.specs.Writing.{Writes, Puts, sink_faults};
+ghost use Rattle.esx_replies.specs.Signs.{behind, begun};
 ghost use Rattle.esx_replies.specs.Replies.{said_text, reply_text};
 
 use crate::answer::put_answer;
@@ -10,6 +11,7 @@ use crate::moves::{put_marked, put_pruned, put_stand};
 use crate::questions::{put_activity, put_help, put_page, put_sum};
 use crate::refusals::put_refusal;
 use crate::sides::put_sides;
+use crate::sign::{NoSign, Sign};
 use crate::table::put_table;
 use esx_events::{Reply, Said};
 use esx_types::{MemorySink, Sink, SinkFailed};
@@ -18,15 +20,15 @@ use std::alloc::{AllocError, Global};
 use std::marker::Brand;
 use std::sync::ledger::{Blank, Ledger};
 
-/// What is said, where the cursor made so many jumps.
-pub fn put_said<W: Sink>(
+/// What is said, where its first sign has been put and the cursor made so many jumps.
+fn put_said<S: Sign, W: Sink>(
     sink: &mut W,
     held: &mut AnswerBuffer,
     said: &Said,
     jumps: u64,
 ) -> Result<(), SinkFailed>
-    ensures bytes { Puts (W.contents sink.old) held.old (W.contents sink.new) held.new (said_text said.now jumps) result }
-    ensures utf8 { OnOk result (IsUtf8 (said_text said.now jumps)) }
+    ensures bytes { Puts (W.contents sink.old) held.old (W.contents sink.new) held.new (begun S.text (said_text said.now jumps)) result }
+    ensures utf8 { OnOk result (IsUtf8 (begun S.text (said_text said.now jumps))) }
     ensures failures { W.failures sink.new ≡ W.failures sink.old + sink_faults result }
     ensures flushes { W.flushes sink.new ≡ W.flushes sink.old }
 {
@@ -36,14 +38,32 @@ pub fn put_said<W: Sink>(
         Said::Stand { stand } => put_stand(sink, held, *stand, jumps),
         Said::Marked { name, node } => put_marked(sink, held, name, *node),
         Said::Pruned { count } => put_pruned(sink, held, *count),
-        Said::Sides { sides } => put_sides(sink, held, sides.get()),
+        Said::Sides { sides } => put_sides::<S, W>(sink, held, sides.get()),
         Said::Sum { sum } => put_sum(sink, held, *sum),
-        Said::Table { rows, sum } => put_table(sink, held, rows.get().as_slice(), *sum.get()),
+        Said::Table { rows, sum } => {
+            put_table::<S, W>(sink, held, rows.get().as_slice(), *sum.get())
+        }
         Said::Activity { activity } => put_activity(sink, held, *activity.get()),
         Said::Page { state } => put_page(sink, held, *state),
         Said::Help { help } => put_help(sink, held, *help),
-        Said::Marks { marks } => put_marks(sink, held, marks.get().as_slice()),
+        Said::Marks { marks } => put_marks::<S, W>(sink, held, marks.get().as_slice()),
     }
+}
+
+/// Puts a reply, each of its lines behind a sign.
+#[inline(always)]
+pub fn put_reply<S: Sign, W: Sink>(
+    sink: &mut W,
+    held: &mut AnswerBuffer,
+    reply: &Reply,
+) -> Result<(), SinkFailed>
+    ensures bytes { Puts (W.contents sink.old) held.old (W.contents sink.new) held.new (behind S.text (reply_text reply.now)) result }
+    ensures utf8 { OnOk result (IsUtf8 (behind S.text (reply_text reply.now))) }
+    ensures failures { W.failures sink.new ≡ W.failures sink.old + sink_faults result }
+    ensures flushes { W.flushes sink.new ≡ W.flushes sink.old }
+{
+    S::put(sink, held)?;
+    put_said::<S, W>(sink, held, &reply.said, reply.jumps)
 }
 
 /// Writes a reply as its lines, over an empty buffer.
@@ -59,7 +79,7 @@ pub fn write_reply<W: Sink>(
     ensures failures { W.failures sink.new ≡ W.failures sink.old + sink_faults result }
     ensures flushes { W.flushes sink.new ≡ W.flushes sink.old }
 {
-    put_said(sink, held, &reply.said, reply.jumps)?;
+    put_reply::<NoSign, W>(sink, held, reply)?;
     write_held(sink, held)
 }
 

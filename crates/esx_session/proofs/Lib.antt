@@ -1,5 +1,3 @@
-pub mod SignLemmas
-pub mod OneLineLemmas
 pub mod PuttingLemmas
 pub mod LineLemmas
 pub mod CallLemmas

@@ -7,6 +7,7 @@ pub use Rattle.esx_reading.specs.Fields
 pub use Rattle.esx_reading.specs.Written
 pub use Rattle.esx_writing.specs.Writing
 pub use Rattle.esx_words.specs.Commands
+pub use Rattle.esx_replies.specs.Signs
 pub use Rattle.esx_replies.specs.Replies
 pub mod Recorded
 pub mod Sessions

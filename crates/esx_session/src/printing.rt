@@ -6,14 +6,8 @@ ghost use Rattle.esx_writing.specs.Writing.{Writes, Puts, sink_faults};
 ghost use Rattle.esx_session.specs.Sessions.{call_text, head_text, site_text, end_text, logged, session_text};
 ghost use Rattle.esx_session.specs.Printing.{line_text};
 
-mod lines;
-mod marks;
-mod replies;
-mod sides;
-mod table;
-
-use crate::printing::replies::put_reply;
 use esx_events::{Call, Line};
+use esx_replies::{Sign, put_reply};
 use esx_types::{Config, MemorySink, Sink, SinkFailed};
 use esx_words::put_command;
 use esx_writing::{AnswerBuffer, Piece, put, put_pieces, write_held};
@@ -23,6 +17,17 @@ use std::sync::ledger::{Blank, Ledger};
 
 /// Room for the number of a caller and a space.
 const CALLER_ROOM: usize = 40;
+
+/// Before each line of a reply: an equals sign and a space.
+struct ReplySign;
+
+impl Sign for ReplySign {
+    ghost text = { codes "= " };
+
+    fn put<W: Sink>(sink: &mut W, held: &mut AnswerBuffer) -> Result<(), SinkFailed> {
+        put(sink, held, "= ".as_bytes())
+    }
+}
 
 /// The first line, and that of the site.
 fn put_opening<W: Sink>(
@@ -125,7 +130,7 @@ fn put_line<W: Sink>(sink: &mut W, held: &mut AnswerBuffer, line: &Line) -> Resu
     ensures flushes { W.flushes sink.new ≡ W.flushes sink.old }
 {
     put_call(sink, held, line)?;
-    put_reply(sink, held, &line.reply)
+    put_reply::<ReplySign, W>(sink, held, &line.reply)
 }
 
 /// The calls and their replies.

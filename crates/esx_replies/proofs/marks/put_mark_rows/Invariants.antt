@@ -1,13 +1,14 @@
 use Rattle.std.proofs.Common.{◌≡◌, take, flat_map}
 use Rattle.std.specs.Str.{IsUtf8}
 use Rattle.esx_writing.specs.Writing.{Passes}
+use Rattle.esx_replies.specs.Signs.{behind}
 use Rattle.esx_replies.specs.Replies.{mark_text}
 use Rattle.esx_replies.proofs.marks.put_mark_rows.Given as goal
 
 abbrev pub invariant-loop-row : goal.invariant-loop-row
 invariant-loop-row g l = record {
-  passed : Passes (g.W.Sink.contents l.initial.sink) l.initial.held (g.W.Sink.contents l.sink) l.held (flat_map mark_text (take l.row-index l.rows));
-  utf8 : IsUtf8 (flat_map mark_text (take l.row-index l.rows));
+  passed : Passes (g.W.Sink.contents l.initial.sink) l.initial.held (g.W.Sink.contents l.sink) l.held (behind g.S.Sign.text (flat_map mark_text (take l.row-index l.rows)));
+  utf8 : IsUtf8 (behind g.S.Sign.text (flat_map mark_text (take l.row-index l.rows)));
   failures : g.W.Sink.failures l.sink ≡ g.W.Sink.failures l.initial.sink;
   flushes : g.W.Sink.flushes l.sink ≡ g.W.Sink.flushes l.initial.sink;
 }
