@@ -1,0 +1,4 @@
+//! Waiting for the lock: no wake is lost.
+#![tactic(auto)]
+
+pub mod laws;
