@@ -13,32 +13,26 @@ use crate::rule::{
     About, Agreed, Cut, Fetches, Gives, Glue, Looks, Parts, Recalls, Settles, Takes, Union,
 };
 use crate::view::View;
+use crate::waiting::{Part, Waiting};
 use crate::word::word_of;
 use atomic_table::{Badge, Seat, Table};
 use esx_types::{CALLERS, Ids};
 use std::alloc::{AllocError, Global};
-use std::hint::spin_loop;
 use std::marker::{Brand, Model};
 use std::mem::replace;
 use std::snapshot::Snapshot;
 use std::sync::Wait;
-use std::sync::atomic::{AtomicU64, Ordering};
-
-/// How many times a take looks at a word that is held before it sleeps: a value is mostly given back sooner than
-/// a thread falls asleep and is woken.
-const LOOKS: u32 = 100;
 
 /// A value that threads take in turn, one at a time, for callers with the numbers below `callers`.
 ///
 /// Its word is eight times the free frames of the value's gauge, plus twice the number of the level (0 `High`
-/// to 3 `Low`), plus 1 while a pass holds the value. A pass that finds it held looks again for a while, and then
-/// sleeps until a give wakes it.
+/// to 3 `Low`), plus 1 while a pass holds the value. Of all that find it held one looks and naps by turns, and the
+/// others sleep until they are woken for that.
 #[derive(Drop)]
 pub struct OwnLock<V: Gauged> {
     table: Table<Option<V>, View, About<V>, Agreed<V>, Global>,
     callers: usize,
-    // 1 where a give has to wake a thread that sleeps in `take`, 0 where none sleeps or one was just woken.
-    asleep: AtomicU64,
+    waiting: Waiting,
 }
 
 impl<V: Gauged> Model for OwnLock<V> {
@@ -86,7 +80,7 @@ impl<V: Gauged> OwnLock<V> {
         let OwnLock {
             table,
             callers: _,
-            asleep: _,
+            waiting: _,
         } = self;
         let mut closed = table.close_with(pass.into_seat());
         let value = closed.take(0);
@@ -128,7 +122,7 @@ impl<V: Gauged> OwnLock<V> {
         }
     }
 
-    /// Gives the value and the lock back, and wakes one pass that waits, if there is one. The value has its
+    /// Gives the value and the lock back, and wakes one that sleeps where this is due. The value has its
     /// site, and the log that was taken, followed by lines of the pass's callers alone.
     pub fn give(&self, pass: &mut Pass, value: V)
         requires own { pass.old.table ≡ self.now.table }
@@ -224,7 +218,7 @@ impl<V: Gauged> OwnLock<V> {
         let lock = OwnLock {
             table,
             callers,
-            asleep: AtomicU64::new(0),
+            waiting: Waiting::nobody(),
         };
         Ok((lock, Pass::from_seat(ids, seat)))
     }
@@ -298,48 +292,18 @@ impl<V: Gauged> OwnLock<V> {
         ensures same { (seat.new.table_id ≡ seat.old.table_id) × (seat.new.id ≡ seat.old.id) × (seat.new.me.1 ≡ []) }
         ensures told { Took V.legal V.gauge_of seat.old.me.0 seat.new.me.0 (V.site result) (V.lines result) }
     {
-        let mut looks = 0;
+        let mut part = Part::Comes;
         for _ in rt.forever() {
             match self.try_seat(seat) {
-                Ok(value) => return value,
-                Err(word) if word % 2 == 1 => looks = self.wait(rt, looks),
+                Ok(value) => {
+                    self.waiting.taken(part);
+                    return value;
+                }
+                Err(word) if word % 2 == 1 => part = self.waiting.wait(rt, part),
                 Err(_) => {}
             }
         }
         unreachable!()
-    }
-
-    // Tells how many looks there were now. After the last of them it sleeps, and then they begin anew.
-    fn wait<R: Wait>(&self, rt: &R, looks: u32) -> u32
-        ensures look { looks < LOOKS → result ≡ looks + 1 }
-        ensures sleep { LOOKS ≤ looks → result ≡ 0 }
-    {
-        match next_look(looks) {
-            Some(next) => next,
-            None => {
-                self.sleep(rt);
-                0
-            }
-        }
-    }
-
-    // Sleeps until a give wakes it, unless the lock is free by now. It says so before it looks at the word again: a
-    // give that does not find it said has stored its word before that look, or another give has found it and wakes.
-    // After the sleep it says so for those who sleep still.
-    fn sleep<R: Wait>(&self, rt: &R) {
-        self.asleep.store(1, Ordering::SeqCst);
-        if self.table.shared.peek(0) % 2 == 1 {
-            self.asleep.park(rt, 1);
-            self.asleep.store(1, Ordering::SeqCst);
-        }
-    }
-
-    // Wakes one thread that sleeps, where one has said so since the last wake. A give asks for it after its store.
-    fn wake_sleeper(&self) {
-        if self.asleep.load(Ordering::SeqCst) != 0 {
-            self.asleep.store(0, Ordering::SeqCst);
-            self.asleep.wake_one();
-        }
     }
 
     // The slot comes out, the value goes into it, and both go home with the new word.
@@ -359,7 +323,7 @@ impl<V: Gauged> OwnLock<V> {
         shared.load::<Fetches<V>>(seat, 0);
         let empty = shared.exchange(seat, 0, Some(value));
         shared.store::<Gives<V>>(seat, 0, word);
-        self.wake_sleeper();
+        self.waiting.given();
         match empty {
             None => {}
             Some(_) => unreachable!(),
@@ -407,16 +371,4 @@ impl<V: Gauged> OwnLock<V> {
         self.table.shared.join_seat::<Glue<P>>(seat, other);
         self.table.shared.load::<Recalls<V>>(seat, 0);
     }
-}
-
-// Lets a moment pass, and tells how many looks there were now; or nothing after the last look.
-fn next_look(looks: u32) -> Option<u32>
-    ensures more { looks < LOOKS → result ≡ Some (looks + 1) }
-    ensures none { LOOKS ≤ looks → result ≡ None }
-{
-    if looks < LOOKS {
-        spin_loop();
-        return Some(looks + 1);
-    }
-    None
 }

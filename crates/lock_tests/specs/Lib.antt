@@ -1,2 +1,3 @@
 pub mod Tally
 pub mod Passes
+pub mod Crowd

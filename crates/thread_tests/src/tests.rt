@@ -1,5 +1,3 @@
 mod desk;
-mod lock;
-mod looks;
 mod rewinding;
 mod work;

@@ -1,8 +1,8 @@
 // What is run of the lock. Each test ends by itself, and its answer does not depend on which thread is first.
 
+use crate::plays::{alone, count_in_order, opened, submit_all, whole_and_part, words};
 use esx_lock::Gauge;
 use esx_types::Level;
-use lock_tests::plays::{alone, count_in_order, opened, submit_all, whole_and_part, words};
 use std::test::Fail;
 use std::thread;
 

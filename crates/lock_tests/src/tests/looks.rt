@@ -3,9 +3,9 @@
 ghost use Rattle.std.specs.Prelude.{IfOk};
 ghost use Rattle.lock_tests.specs.Passes.{IsIdle};
 
+use crate::plays::{count_in_order, opened, submit};
+use crate::tally::Tally;
 use esx_lock::{OwnLock, Pass};
-use lock_tests::plays::{count_in_order, opened, submit};
-use lock_tests::tally::Tally;
 use std::alloc::AllocError;
 use std::hint::spin_loop;
 use std::sync::Wait;

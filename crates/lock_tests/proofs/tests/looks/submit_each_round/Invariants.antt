@@ -1,5 +1,5 @@
 use Rattle.lock_tests.specs.Passes.{IsIdle}
-use Rattle.thread_tests.proofs.tests.looks.hold_each_round.Given as goal
+use Rattle.lock_tests.proofs.tests.looks.submit_each_round.Given as goal
 
 abbrev pub invariant-loop-round : goal.invariant-loop-round
 invariant-loop-round g l = IsIdle l.lock l.pass

@@ -1,7 +1,7 @@
 use Rattle.std.proofs.Common.{◌∙◌, ◌||◌, ap, Bool}
 use Rattle.std.proofs.Math.Bool.{or-true}
 use Rattle.esx_types.specs.Ids.{has}
-use Rattle.thread_tests.proofs.tests.lock.parts_and_joins.Goals as goal
+use Rattle.lock_tests.proofs.tests.lock.parts_and_joins.Goals as goal
 
 pub whole_and_part-whole-requires-clause-ids : goal.whole_and_part-whole-requires-clause-ids
 whole_and_part-whole-requires-clause-ids g c =
