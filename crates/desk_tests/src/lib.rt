@@ -6,3 +6,4 @@ pub mod crowd;
 pub mod plays;
 pub mod replays;
 pub mod signs;
+pub mod wanting;
