@@ -3,18 +3,21 @@
 ghost use Rattle.std.specs.Prelude.{◌≡◌, IfOk};
 ghost use Rattle.esx_desk.specs.Told.{IsOf};
 
+use super::done;
 use desk_tests::calls::guest as machine;
 use desk_tests::plays::{ENTERED, LOOKED, closed, comes_to, started};
+use desk_tests::replays::callers_of;
 use esx_console::Console;
 use esx_desk::{Desk, Pass};
 use esx_door::Gate;
-use esx_events::{Call, Refusal, Said};
+use esx_events::{Call, Line, Refusal, Said, Stand};
 use esx_scenario::TraceLine;
 use esx_work::DeskDoor;
 use esx_workers::{End, How, guest};
 use rand_core::SeedableRng;
 use rand_pcg::Pcg64;
 use std::alloc::{AllocError, Global};
+use std::process::Abort;
 use std::sync::Wait;
 use std::sync::atomic::{AtomicU64, Ordering};
 use std::test::Fail;
@@ -104,20 +107,54 @@ fn undo_between_turns<R: Threads + Wait + Sync>(
     Ok(closed(desk, first, second).zip(ended))
 }
 
+fn expect_end(rt: &impl Abort, end: End) {
+    assert_eq!(rt; (end.how, end.passed), (How::Rewound, 0));
+}
+
+fn expect_callers(rt: &impl Abort, alloc: Global, log: &[Line]) -> Result<(), Fail> {
+    let callers = callers_of(alloc, log)?;
+    assert_eq!(rt; callers.as_slice(), [0, 0, 0, 1, 0].as_slice());
+    Ok(())
+}
+
+fn expect_place(rt: &impl Abort, stand: &Stand) {
+    assert_eq!(rt; (stand.node, stand.depth), (4, 3));
+}
+
+fn expect_cursor(rt: &impl Abort, console: &mut Console) -> Result<(), Fail> {
+    match console.call(0, Call::Stand)?.said {
+        Said::Stand { stand } => expect_place(rt, &stand),
+        _ => return Err(Fail::new("the cursor")),
+    }
+    Ok(())
+}
+
+fn expect_rewound(
+    rt: &impl Abort,
+    alloc: Global,
+    console: &mut Console,
+    end: End,
+) -> Result<(), Fail> {
+    expect_end(rt, end);
+    expect_callers(rt, alloc, console.log())?;
+    expect_cursor(rt, console)
+}
+
+fn expect_ended(rt: &impl Abort, alloc: Global, ended: Option<(Console, End)>) -> Result<(), Fail> {
+    match ended {
+        Some((mut console, end)) => {
+            let outcome = expect_rewound(rt, alloc, &mut console, end);
+            done(console);
+            outcome
+        }
+        None => Err(Fail::new("the desk")),
+    }
+}
+
 #[test]
 fn an_undo_between_two_turns_rewinds_a_guest(rt: HostRuntime) -> Result<(), Fail> {
-    let Ok(Some((mut console, end))) = undo_between_turns(&rt, rt.alloc()) else {
-        return Err(Fail::new("the desk"));
-    };
-    assert_eq!(rt; (end.how, end.passed), (How::Rewound, 0));
-    let mut callers = Vec::new(rt.alloc());
-    for line in console.log() {
-        callers.push(line.caller)?;
+    match undo_between_turns(&rt, rt.alloc()) {
+        Ok(ended) => expect_ended(&rt, rt.alloc(), ended),
+        Err(refusal) => Err(Fail::from(refusal)),
     }
-    assert_eq!(rt; callers.as_slice(), [0, 0, 0, 1, 0].as_slice());
-    let Said::Stand { stand } = console.call(0, Call::Stand)?.said else {
-        return Err(Fail::new("the cursor"));
-    };
-    assert_eq!(rt; (stand.node, stand.depth), (4, 3));
-    Ok(())
 }
