@@ -4,10 +4,11 @@ ghost use Rattle.esx_types.specs.Ranges.{IsConfig};
 
 use super::site::{SITE, SPEC};
 use esx_events::{Boxed, Event};
-use esx_model::{Book, PeriodRow, VmRow};
+use esx_model::{Book, VmRow};
 use esx_plain::replay;
 use esx_types::{Config, FrameRow, MapRow, Rows, SlotRow, VmId, VmSpec, VmState};
 use std::alloc::Global;
+use std::process::Abort;
 use std::test::Fail;
 
 /// A small site, where frames are soon scarce.
@@ -42,6 +43,18 @@ fn first_row(book: &Book) -> Result<&VmRow, Fail> {
     }
 }
 
+fn expect_set(
+    rt: &impl Abort,
+    alloc: Global,
+    path: &[Event],
+    want: (u32, u32),
+) -> Result<(), Fail> {
+    let book = book_of(alloc, &SITE, path)?;
+    let row = first_row(&book)?;
+    assert_eq!(rt; (row.spec.shares, book.tau), want);
+    Ok(())
+}
+
 #[test]
 fn shares_and_a_tax_are_set(rt: HostRuntime) -> Result<(), Fail> {
     let vm = machine(0)?;
@@ -50,11 +63,13 @@ fn shares_and_a_tax_are_set(rt: HostRuntime) -> Result<(), Fail> {
         Event::SetShares { vm, shares: 2000 },
         Event::SetTax { tau: 50 },
     ];
-    let book = book_of(rt.alloc(), &SITE, &path[..2])?;
-    assert_eq!(rt; (first_row(&book)?.spec.shares, book.tau), (2000, 75));
-    let book = book_of(rt.alloc(), &SITE, &path)?;
-    assert_eq!(rt; (first_row(&book)?.spec.shares, book.tau), (2000, 50));
-    Ok(())
+    expect_set(&rt, rt.alloc(), &path[..2], (2000, 75))?;
+    expect_set(&rt, rt.alloc(), &path, (2000, 50))
+}
+
+fn expect_taken_back(rt: &impl Abort, pages: &[MapRow]) {
+    assert_eq!(rt; pages.get(3), Some(&MapRow::Lent { epoch: 0 }));
+    assert_eq!(rt; pages.get(4), Some(&MapRow::Untouched));
 }
 
 #[test]
@@ -78,57 +93,71 @@ fn a_lent_page_is_taken_back(rt: HostRuntime) -> Result<(), Fail> {
         Event::TakeBack { vm, page: 4 },
     ];
     let book = book_of(rt.alloc(), &FEW, &path)?;
-    let pages = first_row(&book)?.pages.as_slice();
-    assert_eq!(rt; pages.get(3), Some(&MapRow::Lent { epoch: 0 }));
-    assert_eq!(rt; pages.get(4), Some(&MapRow::Untouched));
+    expect_taken_back(&rt, first_row(&book)?.pages.as_slice());
+    Ok(())
+}
+
+/// A period of two accesses with one word.
+fn sample(alloc: Global, vm: VmId) -> Result<Event, Fail> {
+    let mut words = Vec::new(alloc);
+    words.push(1)?;
+    let words = Boxed::new(alloc, Rows::from_vec(words))?;
+    let length = 2;
+    Ok(Event::Sample { vm, length, words })
+}
+
+fn expect_open(
+    rt: &impl Abort,
+    alloc: Global,
+    path: &[Event],
+    want: (u32, u32),
+) -> Result<(), Fail> {
+    let book = book_of(alloc, &SITE, path)?;
+    match &first_row(&book)?.period {
+        Some(period) => assert_eq!(rt; (period.length, period.done), want),
+        None => return Err(Fail::new("a period")),
+    }
+    Ok(())
+}
+
+fn expect_counted(rt: &impl Abort, alloc: Global, path: &[Event]) -> Result<(), Fail> {
+    let book = book_of(alloc, &SITE, path)?;
+    let row = first_row(&book)?;
+    assert!(rt; row.period.is_none());
+    assert_eq!(rt; (row.slow, row.fast), (65536, 65536));
     Ok(())
 }
 
 #[test]
 fn a_period_opens_and_counts(rt: HostRuntime) -> Result<(), Fail> {
-    let alloc = rt.alloc();
     let vm = machine(0)?;
-    let mut words = Vec::new(alloc);
-    words.push(1)?;
-    let words = Boxed::new(alloc, Rows::from_vec(words))?;
     let path = [
         Event::Admit { vm, spec: SPEC },
         Event::Start { vm },
-        Event::Sample {
-            vm,
-            length: 2,
-            words,
-        },
+        sample(rt.alloc(), vm)?,
         read(vm, 1),
         read(vm, 0),
     ];
-    let book = book_of(alloc, &SITE, &path[..3])?;
-    assert!(rt;
-        matches!(
-            first_row(&book)?.period,
-            Some(PeriodRow {
-                length: 2,
-                done: 0,
-                ..
-            })
-        )
-    );
-    let book = book_of(alloc, &SITE, &path[..4])?;
-    assert!(rt;
-        matches!(
-            first_row(&book)?.period,
-            Some(PeriodRow {
-                length: 2,
-                done: 1,
-                ..
-            })
-        )
-    );
-    let book = book_of(alloc, &SITE, &path)?;
-    let row = first_row(&book)?;
-    assert!(rt; row.period.is_none());
-    assert_eq!(rt; (row.slow, row.fast), (65536, 65536));
-    Ok(())
+    expect_open(&rt, rt.alloc(), &path[..3], (2, 0))?;
+    expect_open(&rt, rt.alloc(), &path[..4], (2, 1))?;
+    expect_counted(&rt, rt.alloc(), &path)
+}
+
+fn expect_pages(rt: &impl Abort, pages: &[MapRow]) {
+    let here = |frame| MapRow::Here { frame };
+    let expected = [
+        here(2),
+        MapRow::Out { slot: 0 },
+        here(4),
+        here(3),
+        MapRow::Untouched,
+        MapRow::Untouched,
+    ];
+    assert_eq!(rt; pages, expected.as_slice());
+}
+
+fn expect_one_held(rt: &impl Abort, slots: &[SlotRow]) {
+    assert!(rt; matches!(slots, [SlotRow::Held { .. }, SlotRow::Free, ..]));
 }
 
 #[test]
@@ -153,28 +182,54 @@ fn a_page_makes_room_for_another(rt: HostRuntime) -> Result<(), Fail> {
         },
     ];
     let book = book_of(rt.alloc(), &FEW, &path)?;
-    let here = |frame| MapRow::Here { frame };
-    let expected = [
-        here(2),
-        MapRow::Out { slot: 0 },
-        here(4),
-        here(3),
-        MapRow::Untouched,
-        MapRow::Untouched,
-    ];
-    assert_eq!(rt; first_row(&book)?.pages.as_slice(), expected.as_slice());
-    assert!(rt;
-        matches!(
-            book.slots.as_slice(),
-            [SlotRow::Held { .. }, SlotRow::Free, ..]
-        )
-    );
+    expect_pages(&rt, first_row(&book)?.pages.as_slice());
+    expect_one_held(&rt, book.slots.as_slice());
     Ok(())
+}
+
+fn expect_first_page(rt: &impl Abort, pages: &[MapRow], want: MapRow) {
+    assert_eq!(rt; pages.first(), Some(&want));
+}
+
+fn expect_overhead(rt: &impl Abort, frames: usize, want: usize) {
+    assert_eq!(rt; frames, want);
+}
+
+fn expect_stopping(rt: &impl Abort, alloc: Global, path: &[Event]) -> Result<(), Fail> {
+    let book = book_of(alloc, &SITE, path)?;
+    let row = first_row(&book)?;
+    assert_eq!(rt; row.state, VmState::Stopping);
+    expect_first_page(rt, row.pages.as_slice(), MapRow::Here { frame: 2 });
+    Ok(())
+}
+
+fn expect_dropped(rt: &impl Abort, alloc: Global, path: &[Event]) -> Result<(), Fail> {
+    let book = book_of(alloc, &SITE, path)?;
+    let row = first_row(&book)?;
+    expect_first_page(rt, row.pages.as_slice(), MapRow::Untouched);
+    expect_overhead(rt, row.overhead.len(), 2);
+    Ok(())
+}
+
+fn expect_going(rt: &impl Abort, alloc: Global, path: &[Event]) -> Result<(), Fail> {
+    let book = book_of(alloc, &SITE, path)?;
+    expect_overhead(rt, first_row(&book)?.overhead.len(), 1);
+    Ok(())
+}
+
+fn expect_gone(rt: &impl Abort, alloc: Global, path: &[Event]) -> Result<(), Fail> {
+    let book = book_of(alloc, &SITE, path)?;
+    assert!(rt; matches!(book.vms.as_slice(), [None, ..]));
+    assert!(rt; are_free(book.frames.as_slice()));
+    Ok(())
+}
+
+fn are_free(frames: &[FrameRow]) -> bool {
+    frames.iter().all(|row| matches!(row, FrameRow::Free))
 }
 
 #[test]
 fn a_machine_leaves(rt: HostRuntime) -> Result<(), Fail> {
-    let alloc = rt.alloc();
     let vm = machine(0)?;
     let spec = VmSpec {
         overhead: 2,
@@ -190,26 +245,8 @@ fn a_machine_leaves(rt: HostRuntime) -> Result<(), Fail> {
         Event::Gone { vm },
         Event::Gone { vm },
     ];
-    let book = book_of(alloc, &SITE, &path[..5])?;
-    let row = first_row(&book)?;
-    assert_eq!(rt; row.state, VmState::Stopping);
-    assert_eq!(rt;
-        row.pages.as_slice().first(),
-        Some(&MapRow::Here { frame: 2 })
-    );
-    let book = book_of(alloc, &SITE, &path[..6])?;
-    let row = first_row(&book)?;
-    assert_eq!(rt; row.pages.as_slice().first(), Some(&MapRow::Untouched));
-    assert_eq!(rt; row.overhead.len(), 2);
-    let book = book_of(alloc, &SITE, &path[..7])?;
-    assert_eq!(rt; first_row(&book)?.overhead.len(), 1);
-    let book = book_of(alloc, &SITE, &path)?;
-    assert!(rt; matches!(book.vms.as_slice(), [None, ..]));
-    assert!(rt;
-        book.frames
-            .as_slice()
-            .iter()
-            .all(|row| matches!(row, FrameRow::Free))
-    );
-    Ok(())
+    expect_stopping(&rt, rt.alloc(), &path[..5])?;
+    expect_dropped(&rt, rt.alloc(), &path[..6])?;
+    expect_going(&rt, rt.alloc(), &path[..7])?;
+    expect_gone(&rt, rt.alloc(), &path)
 }

@@ -1,19 +1,29 @@
 //! What is run of the machine.
 
 use super::rise::expect_rise;
-use super::site::{SITE, SPEC};
+use super::site::{SITE, SPEC, done};
 use esx_events::{Answer, Event};
 use esx_machine::Machine;
 use esx_types::VmId;
 use std::process::Abort;
 use std::test::Fail;
 
-#[test]
-fn opens_with_ample_memory(rt: HostRuntime) -> Result<(), Fail> {
-    let machine = Machine::open(rt.alloc(), SITE)?;
+fn expect_frames(rt: &impl Abort, machine: &Machine) -> Result<(), Fail> {
     let book = machine.book()?;
     assert_eq!(rt; book.frames.len(), 20);
     Ok(())
+}
+
+#[test]
+fn opens_with_ample_memory(rt: HostRuntime) -> Result<(), Fail> {
+    match Machine::open(rt.alloc(), SITE) {
+        Ok(machine) => {
+            let outcome = expect_frames(&rt, &machine);
+            done(machine);
+            outcome
+        }
+        Err(refusal) => Err(Fail::from(refusal)),
+    }
 }
 
 /// What one event answers.
@@ -23,11 +33,21 @@ fn answer(rt: &impl Abort, machine: &mut Machine, event: &Event) -> Result<Answe
     Ok(answer)
 }
 
-#[test]
-fn admits_with_ample_memory(rt: HostRuntime) -> Result<(), Fail> {
+fn expect_admitted(rt: &impl Abort, machine: &mut Machine) -> Result<(), Fail> {
     let vm = VmId::new(0).ok_or("vm")?;
-    let mut machine = Machine::open(rt.alloc(), SITE)?;
-    let admitted = answer(&rt, &mut machine, &Event::Admit { vm, spec: SPEC })?;
+    let admitted = answer(rt, machine, &Event::Admit { vm, spec: SPEC })?;
     assert!(rt; matches!(&admitted, Answer::Admitted { reserves } if reserves.get().memory == 3));
     Ok(())
+}
+
+#[test]
+fn admits_with_ample_memory(rt: HostRuntime) -> Result<(), Fail> {
+    match Machine::open(rt.alloc(), SITE) {
+        Ok(mut machine) => {
+            let outcome = expect_admitted(&rt, &mut machine);
+            done(machine);
+            outcome
+        }
+        Err(refusal) => Err(Fail::from(refusal)),
+    }
 }

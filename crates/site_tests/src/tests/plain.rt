@@ -6,6 +6,7 @@ use esx_model::{Book, VmRow};
 use esx_plain::{PlainFault, replay};
 use esx_types::{Bytes, Config, FrameRow, Level, MapRow, Rows, SlotRow, VmId, VmSpec};
 use std::alloc::{AllocError, Global};
+use std::process::Abort;
 use std::rt::HostRuntime;
 
 const SPEC: VmSpec = VmSpec {
@@ -51,6 +52,13 @@ fn frames_are_right(frames: &[FrameRow]) -> bool {
     }
 }
 
+fn expect_equal(rt: &impl Abort, book: &Book) {
+    assert!(rt; frames_are_right(book.frames.as_slice()));
+    assert_eq!(rt; book.shared.len(), 1);
+    assert_eq!(rt; book.hints.len(), 0);
+    assert_eq!(rt; book.level, Level::High);
+}
+
 #[test]
 fn equal_pages_come_into_one_frame(rt: HostRuntime) {
     let alloc = rt.alloc();
@@ -73,47 +81,64 @@ fn equal_pages_come_into_one_frame(rt: HostRuntime) {
         Event::Scan { vm: two, page: 0 },
     ];
     let book = replay(alloc, &SITE, &path).expect(&rt, "a book");
-    assert!(rt; frames_are_right(book.frames.as_slice()));
-    assert_eq!(rt; book.shared.len(), 1);
-    assert_eq!(rt; book.hints.len(), 0);
-    assert_eq!(rt; book.level, Level::High);
+    expect_equal(&rt, &book);
+}
+
+/// The third event of a path is refused so.
+fn expect_refused(rt: &impl Abort, alloc: Global, last: Event, refusal: Refusal) {
+    let vm = VmId::new(0).expect(rt, "a number");
+    let path = [Event::Admit { vm, spec: SPEC }, Event::Start { vm }, last];
+    let fault = replay(alloc, &SITE, &path).err();
+    assert_eq!(rt; fault, Some(PlainFault::Refused { at: 2, refusal }));
+}
+
+fn refuses_a_machine(rt: &impl Abort, alloc: Global, vm: VmId, other: VmId) {
+    let spec = SPEC;
+    expect_refused(rt, alloc, Event::Admit { vm, spec }, Refusal::VmThere);
+    expect_refused(rt, alloc, Event::Start { vm }, Refusal::NotNeeded);
+    expect_refused(rt, alloc, Event::Ask { vm: other }, Refusal::NoVm);
+    expect_refused(rt, alloc, Event::SetTax { tau: 100 }, Refusal::BadSpec);
+    expect_refused(rt, alloc, Event::Gone { vm }, Refusal::NotNeeded);
+}
+
+fn refuses_a_balloon(rt: &impl Abort, alloc: Global, vm: VmId) {
+    let (low, none, page) = (0, 9, 3);
+    expect_refused(rt, alloc, Event::Lend { vm, page: low }, Refusal::OverGoal);
+    expect_refused(
+        rt,
+        alloc,
+        Event::TakeBack { vm, page: none },
+        Refusal::OutOfRange,
+    );
+    expect_refused(rt, alloc, Event::TakeBack { vm, page }, Refusal::NotLent);
+    let words = no_words(alloc, vm).expect(rt, "memory");
+    expect_refused(rt, alloc, words, Refusal::BadWords);
+}
+
+fn refuses_a_page(rt: &impl Abort, alloc: Global, vm: VmId) {
+    let (page, word, level) = (0, 0, Level::High);
+    expect_refused(rt, alloc, Event::Scan { vm, page }, Refusal::NotResident);
+    expect_refused(
+        rt,
+        alloc,
+        Event::SwapOut { vm, word },
+        Refusal::NotNow { level },
+    );
+    expect_refused(
+        rt,
+        alloc,
+        Event::Replace { vm, page, word },
+        Refusal::NotNeeded,
+    );
 }
 
 #[test]
 fn the_first_refusal_ends_a_path(rt: HostRuntime) {
     let vm = VmId::new(0).expect(&rt, "a number");
     let other = VmId::new(1).expect(&rt, "a number");
-    for (last, refusal) in [
-        (Event::Admit { vm, spec: SPEC }, Refusal::VmThere),
-        (Event::Start { vm }, Refusal::NotNeeded),
-        (Event::Ask { vm: other }, Refusal::NoVm),
-        (Event::Lend { vm, page: 0 }, Refusal::OverGoal),
-        (Event::TakeBack { vm, page: 9 }, Refusal::OutOfRange),
-        (Event::TakeBack { vm, page: 3 }, Refusal::NotLent),
-        (
-            no_words(rt.alloc(), vm).expect(&rt, "memory"),
-            Refusal::BadWords,
-        ),
-        (Event::Scan { vm, page: 0 }, Refusal::NotResident),
-        (
-            Event::SwapOut { vm, word: 0 },
-            Refusal::NotNow { level: Level::High },
-        ),
-        (
-            Event::Replace {
-                vm,
-                page: 0,
-                word: 0,
-            },
-            Refusal::NotNeeded,
-        ),
-        (Event::SetTax { tau: 100 }, Refusal::BadSpec),
-        (Event::Gone { vm }, Refusal::NotNeeded),
-    ] {
-        let path = [Event::Admit { vm, spec: SPEC }, Event::Start { vm }, last];
-        let fault = replay(rt.alloc(), &SITE, &path).err();
-        assert_eq!(rt; fault, Some(PlainFault::Refused { at: 2, refusal }));
-    }
+    refuses_a_machine(&rt, rt.alloc(), vm, other);
+    refuses_a_balloon(&rt, rt.alloc(), vm);
+    refuses_a_page(&rt, rt.alloc(), vm);
 }
 
 /// A small site, where frames are soon scarce.
@@ -152,6 +177,19 @@ fn is_first_read(frames: &[FrameRow]) -> bool {
     }
 }
 
+fn expect_first_read(rt: &impl Abort, book: &Book) {
+    assert!(rt; is_first_read(book.frames.as_slice()));
+    let row = first_row(book).expect(rt, "a machine");
+    let here = MapRow::Here { frame: 1 };
+    let none = MapRow::Untouched;
+    assert_eq!(rt; row.pages.as_slice(), [here, none, none, none].as_slice());
+}
+
+fn expect_out_of_range(rt: &impl Abort, fault: Option<PlainFault>) {
+    let refusal = Refusal::OutOfRange;
+    assert_eq!(rt; fault, Some(PlainFault::Refused { at: 3, refusal }));
+}
+
 #[test]
 fn a_page_comes_to_the_least_frame(rt: HostRuntime) {
     let vm = VmId::new(0).expect(&rt, "a number");
@@ -162,14 +200,22 @@ fn a_page_comes_to_the_least_frame(rt: HostRuntime) {
         read(vm, 4),
     ];
     let book = replay(rt.alloc(), &SITE, &path[..3]).expect(&rt, "a book");
-    assert!(rt; is_first_read(book.frames.as_slice()));
-    let row = first_row(&book).expect(&rt, "a machine");
-    let here = MapRow::Here { frame: 1 };
-    let none = MapRow::Untouched;
-    assert_eq!(rt; row.pages.as_slice(), [here, none, none, none].as_slice());
-    let fault = replay(rt.alloc(), &SITE, &path).err();
-    let refusal = Refusal::OutOfRange;
-    assert_eq!(rt; fault, Some(PlainFault::Refused { at: 3, refusal }));
+    expect_first_read(&rt, &book);
+    expect_out_of_range(&rt, replay(rt.alloc(), &SITE, &path).err());
+}
+
+/// What the first machine's row says after a path, and its fourth page.
+fn expect_row(
+    rt: &impl Abort,
+    alloc: Global,
+    path: &[Event],
+    want: (bool, u32, u32),
+    page: MapRow,
+) {
+    let book = replay(alloc, &FEW, path).expect(rt, "a book");
+    let row = first_row(&book).expect(rt, "a machine");
+    assert_eq!(rt; (row.due, row.epoch, row.target), want);
+    assert_eq!(rt; row.pages.as_slice().get(3), Some(&page));
 }
 
 #[test]
@@ -196,15 +242,9 @@ fn a_page_that_was_lent_pops_the_balloon(rt: HostRuntime) {
         read(vm, 4),
         Event::Ask { vm },
     ];
-    let book = replay(rt.alloc(), &FEW, &path[..11]).expect(&rt, "a book");
-    let row = first_row(&book).expect(&rt, "a machine");
-    assert_eq!(rt; (row.due, row.epoch, row.target), (true, 0, 2));
     let lent = MapRow::Lent { epoch: 0 };
-    assert_eq!(rt; row.pages.as_slice().get(3), Some(&lent));
-    let book = replay(rt.alloc(), &FEW, &path).expect(&rt, "a book");
-    let row = first_row(&book).expect(&rt, "a machine");
-    assert_eq!(rt; (row.due, row.epoch, row.target), (false, 1, 2));
-    assert_eq!(rt; row.pages.as_slice().get(3), Some(&MapRow::Untouched));
+    expect_row(&rt, rt.alloc(), &path[..11], (true, 0, 2), lent);
+    expect_row(&rt, rt.alloc(), &path, (false, 1, 2), MapRow::Untouched);
 }
 
 fn are_three_held(slots: &[SlotRow]) -> bool {
@@ -217,6 +257,20 @@ fn are_three_held(slots: &[SlotRow]) -> bool {
         ] => others.iter().all(|row| matches!(row, SlotRow::Free)),
         _ => false,
     }
+}
+
+fn expect_three_out(rt: &impl Abort, book: &Book) {
+    let row = first_row(book).expect(rt, "a machine");
+    let expected = [
+        MapRow::Here { frame: 1 },
+        MapRow::Out { slot: 2 },
+        MapRow::Out { slot: 0 },
+        MapRow::Here { frame: 4 },
+        MapRow::Out { slot: 1 },
+    ];
+    assert_eq!(rt; row.pages.as_slice(), expected.as_slice());
+    assert!(rt; are_three_held(book.slots.as_slice()));
+    assert_eq!(rt; book.level, Level::High);
 }
 
 #[test]
@@ -243,15 +297,5 @@ fn pages_go_to_the_least_slots(rt: HostRuntime) {
         Event::SwapOut { vm, word: 7 },
     ];
     let book = replay(rt.alloc(), &FEW, &path).expect(&rt, "a book");
-    let row = first_row(&book).expect(&rt, "a machine");
-    let expected = [
-        MapRow::Here { frame: 1 },
-        MapRow::Out { slot: 2 },
-        MapRow::Out { slot: 0 },
-        MapRow::Here { frame: 4 },
-        MapRow::Out { slot: 1 },
-    ];
-    assert_eq!(rt; row.pages.as_slice(), expected.as_slice());
-    assert!(rt; are_three_held(book.slots.as_slice()));
-    assert_eq!(rt; book.level, Level::High);
+    expect_three_out(&rt, &book);
 }

@@ -5,7 +5,7 @@ ghost use Rattle.esx_model.specs.declared.scene.Scene.{Scene};
 ghost use Rattle.esx_machine.specs.Machine.{Kept, Shows, Trades};
 
 use super::rise::expect_rise;
-use super::site::{SITE, SPEC};
+use super::site::{SITE, SPEC, done};
 use esx_events::{Boxed, Event};
 use esx_machine::{Machine, Record};
 use esx_types::{Bytes, VmId};
@@ -90,11 +90,28 @@ fn expect_access(
     expect_bytes(rt, machine, write, [2, 2, 2])
 }
 
+fn expect_records(
+    rt: &impl Abort,
+    machine: &mut Machine,
+    vm: VmId,
+    write: &Event,
+) -> Result<(), Fail>
+    requires shown { (scene : Scene) × Shows machine.old scene }
+{
+    expect_start(rt, machine, vm)?;
+    expect_access(rt, machine, vm, write)
+}
+
 #[test]
 fn records_hold_the_bytes_that_moved(rt: HostRuntime) -> Result<(), Fail> {
     let vm = VmId::new(0).ok_or("vm")?;
     let write = bytes_written(rt.alloc(), vm)?;
-    let mut machine = Machine::open(rt.alloc(), SITE)?;
-    expect_start(&rt, &mut machine, vm)?;
-    expect_access(&rt, &mut machine, vm, &write)
+    match Machine::open(rt.alloc(), SITE) {
+        Ok(mut machine) => {
+            let outcome = expect_records(&rt, &mut machine, vm, &write);
+            done(machine);
+            outcome
+        }
+        Err(refusal) => Err(Fail::from(refusal)),
+    }
 }

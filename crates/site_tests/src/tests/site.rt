@@ -21,3 +21,6 @@ pub const SPEC: VmSpec = VmSpec {
     shares: 1000,
     balloon_max: 0,
 };
+
+/// Drops a value. Where a large one goes, this call is much less to prove than its fields' own drops, one by one.
+pub fn done<T: Drop>(_it: T) {}

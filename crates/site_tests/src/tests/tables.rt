@@ -1,16 +1,28 @@
 //! What is run of the tables of a site, and of records of changes.
 
-use super::site::{SITE, SPEC};
+use super::site::{SITE, SPEC, done};
 use esx_tables::{Change, Record, SiteTables, VmTable};
 use esx_types::Level;
+use std::alloc::Global;
+use std::process::Abort;
 use std::test::Fail;
+
+fn expect_slots(rt: &impl Abort, alloc: Global, tables: &SiteTables) -> Result<(), Fail> {
+    let book = tables.book(alloc, Level::High)?;
+    assert_eq!(rt; book.slots.len(), 8);
+    Ok(())
+}
 
 #[test]
 fn opens_with_ample_memory(rt: HostRuntime) -> Result<(), Fail> {
-    let tables = SiteTables::open(rt.alloc(), &SITE)?;
-    let book = tables.book(rt.alloc(), Level::High)?;
-    assert_eq!(rt; book.slots.len(), 8);
-    Ok(())
+    match SiteTables::open(rt.alloc(), &SITE) {
+        Ok(tables) => {
+            let outcome = expect_slots(&rt, rt.alloc(), &tables);
+            done(tables);
+            outcome
+        }
+        Err(fault) => Err(Fail::from(fault)),
+    }
 }
 
 #[test]
