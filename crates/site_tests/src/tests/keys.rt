@@ -41,16 +41,19 @@ fn one_head_holds_eight_hints(rt: HostRuntime) -> Result<(), Fail> {
     let mut keys = Keys::new(rt.alloc(), 8)?;
     for page in 0..8_u32 {
         let key = u64::from(page) * 8;
-        expect_page(&rt, keys.hint(key), None);
+        assert!(rt; keys.hint(key).is_none());
         keys.put(key, Entry::Hint { vm, page });
     }
     expect_chain(&rt, keys.chain(0), 8);
     expect_chain(&rt, keys.chain(1), 0);
-    expect_entry(&rt, keys.take(24, Kind::Hint), Entry::Hint { vm, page: 3 });
+    assert_eq!(rt;
+        keys.take(24, Kind::Hint),
+        Some(Entry::Hint { vm, page: 3 })
+    );
     for page in [0, 1, 2, 4, 5, 6, 7_u32] {
         expect_page(&rt, keys.hint(u64::from(page) * 8), Some((vm, page)));
     }
-    expect_page(&rt, keys.hint(64), None);
+    assert!(rt; keys.hint(64).is_none());
     keys.put(64, Entry::Hint { vm, page: 8 });
     expect_page(&rt, keys.hint(64), Some((vm, 8)));
     Ok(())
@@ -60,9 +63,9 @@ fn one_head_holds_eight_hints(rt: HostRuntime) -> Result<(), Fail> {
 fn a_key_leads_to_a_frame_and_a_page(rt: HostRuntime) -> Result<(), Fail> {
     let vm = VmId::new(31).expect(&rt, "a machine has number 31");
     let mut keys = Keys::new(rt.alloc(), 2)?;
-    expect_frame(&rt, keys.shared(7), None);
+    assert!(rt; keys.shared(7).is_none());
     keys.put(7, Entry::Shared { frame: 5 });
-    expect_page(&rt, keys.hint(7), None);
+    assert!(rt; keys.hint(7).is_none());
     keys.put(7, Entry::Hint { vm, page: 6 });
     expect_frame(&rt, keys.shared(7), Some(5));
     expect_page(&rt, keys.hint(7), Some((vm, 6)));
