@@ -16,7 +16,7 @@ use esx_events::{Call, Line, Refusal, Reply};
 use esx_journal::Journal;
 use esx_machine::Machine;
 use esx_model::Book;
-use esx_types::{Config, Level};
+use esx_types::{Config, Level, VmId};
 use std::alloc::{AllocError, Global};
 use std::marker::Model;
 
@@ -125,6 +125,11 @@ impl Console {
         ensures replay { IfOk result (λ book. replay_of self.now.site (here (history self.now)) ≡ Ok book) }
     {
         self.machine().book()
+    }
+
+    /// Reads what an access of a page is to read, so that it is near when the access comes. What it gives means nothing.
+    pub fn look_at(&self, vm: VmId, page: u32) -> u8 {
+        self.machine().look_at(vm, page)
     }
 
     /// The site as it was opened.

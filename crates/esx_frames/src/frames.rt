@@ -12,19 +12,23 @@ ghost use Rattle.esx_frames.specs.Marks.{bytes_traded_at, mark_traded_at, moves_
 use crate::counts::Counts;
 use crate::marks::{Mark, moves, trade_bytes, trade_mark, trade_slot};
 use crate::seen::{Seen, bytes_of};
+use esx_grown::Grown;
 use esx_index::FreeIndex;
 use esx_known::KnownKeys;
 use esx_types::{Bytes, FrameRow, SlotRow};
 use std::alloc::{AllocError, Global};
 use std::marker::Model;
+use std::mem;
 
 /// The machine's frames, seen as the list of their rows; a frame's number is its place.
 ///
-/// No call after `new` takes memory but `learn_key`, which goes on without it. It and `found_key` go over the bytes of a
-/// page or two; each other call looks at a few words whatever the number of frames.
+/// The room for all rows is taken by `new`, which touches none of it: the first change of a frame's row writes the rows
+/// below it that were never written. No later call takes memory but `learn_key`, which goes on without it. It and
+/// `found_key` go over the bytes of a page or two; but for such first changes, each other call looks at a few words
+/// whatever the number of frames.
 #[derive(Drop)]
 pub struct FrameTable {
-    rows: Vec<FrameRow>,
+    rows: Grown<FrameRow>,
     free: FreeIndex,
     counts: Counts,
     known: KnownKeys,
@@ -38,19 +42,19 @@ impl Model for FrameTable {
 
     ghost Value = { List FrameRow };
 
-    ghost view = { λ a. a.rows.items };
+    ghost view = { λ a. a.rows };
 
-    ghost invariant = { λ a. IsKeyed a.rows.items a.free a.counts a.known };
+    ghost invariant = { λ a. IsKeyed a.rows a.free a.counts a.known };
 }
 
 impl FrameTable {
-    /// A table of that many frames, all of them free. A row brings its own bytes, so the size of a page
-    /// does not matter to an empty table.
+    /// A table of that many frames, all of them free. It takes the memory of all rows, and touches none of them. A row
+    /// brings its own bytes, so the size of a page does not matter to an empty table.
     pub fn new(alloc: Global, frames: u32, _page: u32) -> Result<FrameTable, AllocError>
         ensures { IfOk result (λ table. table ≡ replicate frames Free) }
     {
         let free = FreeIndex::new(alloc, frames as usize)?;
-        let rows = free_rows(alloc, frames)?;
+        let rows = Grown::new(alloc, frames as usize)?;
         let counts = Counts {
             overhead: 0,
             private: 0,
@@ -73,13 +77,6 @@ impl FrameTable {
         self.rows.len() as u32
     }
 
-    /// All rows, in the order of their frames.
-    pub fn rows(&self) -> &[FrameRow]
-        ensures { result.now ≡ self.now }
-    {
-        self.rows.as_slice()
-    }
-
     /// The row of a frame; none past the end.
     pub fn get(&self, mpn: u32) -> Option<&FrameRow>
         ensures { option_copied result ≡ slice_get self.now mpn }
@@ -93,7 +90,7 @@ impl FrameTable {
         requires holds { IsTrue (holds_bytes (frame_at self.now mpn)) }
         ensures { result.now ≡ bytes_of (frame_at self.now mpn) }
     {
-        match &self.rows[mpn as usize] {
+        match self.rows.row(mpn as usize) {
             FrameRow::Private { bytes } => bytes.as_slice(),
             FrameRow::Shared { bytes, .. } => bytes.as_slice(),
             FrameRow::Free | FrameRow::Overhead => unreachable!(),
@@ -180,14 +177,15 @@ impl FrameTable {
         ensures row { row.new ≡ frame_at self.old mpn }
     {
         let at = mpn as usize;
-        self.counts.remove(&self.rows[at]);
+        let there = self.rows.row_mut(at);
+        self.counts.remove(there);
         self.counts.add(row);
         let free = row.is_free();
-        if free != self.rows[at].is_free() {
+        if free != there.is_free() {
             self.free.set(at, free);
         }
         self.known.forget(mpn);
-        std::mem::swap(&mut self.rows[at], row);
+        mem::swap(there, row);
     }
 
     /// Trades a frame's row with the one that is handed over. Past the end nothing changes.
@@ -208,7 +206,7 @@ impl FrameTable {
     {
         if mpn < self.len() {
             self.known.forget(mpn);
-            trade_bytes(&mut self.rows[mpn as usize], offset as usize, bytes);
+            trade_bytes(self.rows.row_mut(mpn as usize), offset as usize, bytes);
         }
     }
 
@@ -219,9 +217,10 @@ impl FrameTable {
     {
         let at = mpn as usize;
         if at < self.rows.len() {
-            self.counts.remove(&self.rows[at]);
-            trade_mark(&mut self.rows[at], mark);
-            self.counts.add(&self.rows[at]);
+            let there = self.rows.row_mut(at);
+            self.counts.remove(there);
+            trade_mark(there, mark);
+            self.counts.add(there);
         }
     }
 
@@ -268,11 +267,12 @@ impl FrameTable {
             return false;
         }
         let at = mpn as usize;
-        let was = self.rows[at].is_free();
-        self.counts.remove(&self.rows[at]);
-        trade_slot(&mut self.rows[at], slot);
-        self.counts.add(&self.rows[at]);
-        let is = self.rows[at].is_free();
+        let there = self.rows.row_mut(at);
+        let was = there.is_free();
+        self.counts.remove(there);
+        trade_slot(there, slot);
+        self.counts.add(there);
+        let is = there.is_free();
         if is != was {
             self.free.set(at, is);
         }
@@ -306,7 +306,7 @@ impl FrameTable {
         ensures { let row = frame_at self.old mpn in
             self.new ≡ slice_set self.old mpn (with_count row (ref_count row + 1)) }
     {
-        match &mut self.rows[mpn as usize] {
+        match self.rows.row_mut(mpn as usize) {
             FrameRow::Shared { count, .. } => *count += 1,
             _ => unreachable!(),
         }
@@ -319,7 +319,7 @@ impl FrameTable {
         ensures count { result + 1 ≡ ref_count (frame_at self.old mpn) }
         ensures rows { self.new ≡ slice_set self.old mpn (with_count (frame_at self.old mpn) result) }
     {
-        match &mut self.rows[mpn as usize] {
+        match self.rows.row_mut(mpn as usize) {
             FrameRow::Shared { count, .. } => {
                 let left = *count - 1;
                 *count = left;
@@ -328,16 +328,6 @@ impl FrameTable {
             _ => unreachable!(),
         }
     }
-}
-
-fn free_rows(alloc: Global, frames: u32) -> Result<Vec<FrameRow>, AllocError>
-    ensures { IfOk result (λ rows. rows.items ≡ replicate frames Free) }
-{
-    let mut rows = Vec::with_capacity(alloc, frames as usize)?;
-    for _ in 0..frames {
-        rows.push(FrameRow::Free)?;
-    }
-    Ok(rows)
 }
 
 #[cfg(test)]
@@ -399,8 +389,26 @@ mod tests {
         table.trade(1, &mut row);
         assert!(rt; row.is_shared());
         assert_eq!(rt; table.counts().free, 2);
-        assert_eq!(rt; table.rows().len(), 2);
+        assert_eq!(rt; table.len(), 2);
         assert!(rt; table.get(2).is_none());
+        Ok(())
+    }
+
+    #[test]
+    fn rows_that_no_call_used_are_free(rt: HostRuntime) -> Result<(), Fail> {
+        let mut table = FrameTable::new(rt.alloc(), 5, 16)?;
+        assert_eq!(rt; table.len(), 5);
+        assert!(rt; table.get(4).is_some_and(|row| row.is_free()));
+        let mut row = FrameRow::Overhead;
+        table.trade(2, &mut row);
+        assert!(rt; row.is_free());
+        for mpn in 0..5 {
+            let free = mpn != 2;
+            assert!(rt; table.get(mpn).is_some_and(|row| row.is_free() == free));
+        }
+        assert!(rt; table.get(5).is_none());
+        assert_eq!(rt; table.counts().free, 4);
+        assert_eq!(rt; table.least_free(), Some(0));
         Ok(())
     }
 

@@ -7,6 +7,7 @@ ghost use Rattle.esx_known.specs.Known.{KnowsKeys};
 ghost use Rattle.esx_frames.specs.Known.{bytes_in};
 
 use esx_formulas::content_key;
+use esx_grown::Grown;
 use esx_known::KnownKeys;
 use esx_types::FrameRow;
 use std::alloc::Global;
@@ -54,7 +55,12 @@ impl Seen {
     }
 
     /// The key of these bytes, where a page that was seen has them and its key is kept.
-    pub(crate) fn find(&self, rows: &[FrameRow], known: &KnownKeys, bytes: &[u8]) -> Option<u64>
+    pub(crate) fn find(
+        &self,
+        rows: &Grown<FrameRow>,
+        known: &KnownKeys,
+        bytes: &[u8],
+    ) -> Option<u64>
         requires { KnowsKeys (bytes_in rows.now) known.now }
         ensures { IfSome result (λ key. key ≡ content_key bytes.now) }
     {
@@ -67,7 +73,7 @@ impl Seen {
     /// The key of the page with these bytes in a frame. It is hashed only where none is found, and the frame is noted then.
     pub(crate) fn key(
         &mut self,
-        rows: &[FrameRow],
+        rows: &Grown<FrameRow>,
         known: &KnownKeys,
         mpn: u32,
         bytes: &[u8],
@@ -99,7 +105,7 @@ pub(crate) fn bytes_of(row: &FrameRow) -> &[u8]
 }
 
 /// The key of the page in a frame, where it is kept and the page has these bytes.
-fn key_of_equal(rows: &[FrameRow], known: &KnownKeys, mpn: u32, bytes: &[u8]) -> Option<u64>
+fn key_of_equal(rows: &Grown<FrameRow>, known: &KnownKeys, mpn: u32, bytes: &[u8]) -> Option<u64>
     requires { KnowsKeys (bytes_in rows.now) known.now }
     ensures { IfSome result (λ key. key ≡ content_key bytes.now) }
 {

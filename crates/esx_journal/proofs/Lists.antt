@@ -1,7 +1,5 @@
 -- A list that changes at one place, or grows at its end.
-use Rattle.std.proofs.Common.{◌≡◌, ◌≢◌, ℕ, ◌+◌, ◌<◌, List, [], ◌∷◌, ◌++◌, length, slice_index_or, slice_set, slice_get, take, ap, ◌∙◌, arith, Some, suc}
-use Rattle.std.proofs.lemmas.Option.{slice_get_within, get_or_from_slice_get}
-use Rattle.std.proofs.Math.Seq.{take-suc}
+use Rattle.std.proofs.Common.{◌≡◌, ◌≢◌, ℕ, ◌+◌, ◌<◌, List, [], ◌∷◌, ◌++◌, length, slice_index_or, slice_set, arith}
 use Rattle.std.proofs.lemmas.Grind.{common_steps}
 
 pub set_there : {A : Type 0} (xs : List A) (c n : ℕ) (x d : A) → c < length xs → n ≡ c → slice_index_or (slice_set xs c x) n d ≡ x
@@ -27,8 +25,3 @@ pushed_length xs c x y = grind (arith, common_steps)
 
 pub any_default : {A : Type 0} (xs : List A) (n : ℕ) (c d : A) → n < length xs → slice_index_or xs n c ≡ slice_index_or xs n d
 any_default xs n c d fits = grind (arith, common_steps)
-
-pub take_more : {A : Type 0} (xs : List A) (i : ℕ) (x : A) → slice_get xs i ≡ Some x → take (i + 1) xs ≡ take i xs ++ x ∷ []
-take_more xs i x there =
-    let next : i + 1 ≡ suc i = omega arith in
-    ap (λ n. take n xs) next ∙ take-suc xs i x (slice_get_within xs i x there) ∙ ap (λ y. take i xs ++ y ∷ []) (get_or_from_slice_get xs i x x there)

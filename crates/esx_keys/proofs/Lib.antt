@@ -1,6 +1,7 @@
 pub mod Arenas
 pub mod Chained
 pub mod Counts
+pub mod Empties
 pub mod Found
 pub mod Heads
 pub mod Lists
@@ -13,5 +14,6 @@ pub mod Shifts
 pub mod Starts
 pub mod Tables
 pub mod Takes
+pub mod Used
 pub mod Walked
 pub mod Walks

@@ -1,5 +1,5 @@
 -- The index over listings. No public clause cites this module.
-use Rattle.std.specs.Prelude.{◌≡◌, ℕ, ◌%◌, ◌<◌, ◌^◌, List, length, Option, Some, None, Bool, true, false, count_by}
+use Rattle.std.specs.Prelude.{◌≡◌, ℕ, ◌%◌, ◌<◌, ◌≤◌, ◌^◌, List, length, Option, Some, None, Bool, true, false, count_by, vec_capacity}
 use Rattle.std.specs.Int.{IsPowerOfTwo}
 use Rattle.esx_types.specs.declared.table.Listing.{Listing}
 use Rattle.esx_types.specs.declared.table.Listing.TheVariants.{Unlisted, Shared, Hinted}
@@ -36,21 +36,32 @@ frame_chain heads listings frame = chain_of heads (listing_at listings frame)
 
 -- the same in an index
 abbrev pub chain_in : Index → ℕ → Option ℕ
-chain_in index = frame_chain (length index.heads.items) index.listings.items
+chain_in index = frame_chain (length index.heads.items) index.listings
 
 -- the frame that a place of a chain leads to
 abbrev pub link_in : Index → ℕ → Option ℕ → ℕ
-link_in index = link_at index.heads.items index.next.items
+link_in index = link_at index.heads.items index.next
 
--- the frames that stand under keys are chained, each in the chain of its key
+-- no frame stands under a key
+abbrev pub IsEmpty : List Listing → Type 0
+IsEmpty listings = (frame : ℕ) → listing_at listings frame ≡ Unlisted
+
+-- the frames that stand under keys are chained, each in the chain of its key; there is room for all chains,
+-- and all are there once a frame stands under a key
 pub record IsIndex (index : Index) : Type 0 where
-  pub fits : length index.listings.items < 2 ^ 32
-  pub links : length index.next.items ≡ length index.listings.items
+  pub fits : length index.listings < 2 ^ 32
+  pub links : length index.next ≡ length index.listings
   pub power : IsPowerOfTwo (length index.heads.items)
-  pub chained : IsChained (length index.listings.items) (chain_in index) index.heads.items index.next.items
+  pub chained : IsChained (length index.listings) (chain_in index) index.heads.items index.next
+  pub chains : IsPowerOfTwo index.chains
+  pub few : length index.heads.items ≤ index.chains
+  pub whole : length index.heads.items < index.chains → IsEmpty index.listings
+  pub room : index.chains ≤ vec_capacity index.heads
 
 -- as many frames and chains as before
 pub record SameSizes (before now : Index) : Type 0 where
   pub heads : length now.heads.items ≡ length before.heads.items
-  pub next : length now.next.items ≡ length before.next.items
-  pub listings : now.listings.items ≡ before.listings.items
+  pub next : length now.next ≡ length before.next
+  pub listings : now.listings ≡ before.listings
+  pub chains : now.chains ≡ before.chains
+  pub room : vec_capacity now.heads ≡ vec_capacity before.heads

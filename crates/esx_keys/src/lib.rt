@@ -3,6 +3,7 @@
 #![tactic(auto)]
 
 mod arena;
+mod chains;
 mod entry;
 mod index;
 pub mod laws;

@@ -20,7 +20,8 @@ use std::marker::Model;
 ///
 /// No call but `new` and the two that list what stands takes memory. A listing takes 16 bytes, and a frame
 /// 8 to 12 more, for the next of its chain and for the heads of chains, of which there are the least power
-/// of two that is not less than the frames.
+/// of two that is not less than the frames. `new` takes the room and touches none of it but one head: the
+/// first listing touches all heads, and a frame that is listed its own row and those of the frames before it.
 #[derive(Drop)]
 pub struct Listings {
     index: Index,
@@ -45,9 +46,9 @@ impl Model for Listings {
 
     ghost Value = { List Listing };
 
-    ghost view = { λ a. a.index.listings.items };
+    ghost view = { λ a. a.index.listings };
 
-    ghost invariant = { λ a. IsIndex a.index × IsCounted a.index.listings.items a.listed };
+    ghost invariant = { λ a. IsIndex a.index × IsCounted a.index.listings a.listed };
 }
 
 impl Listings {
@@ -107,14 +108,14 @@ impl Listings {
     pub fn shared(&self, alloc: Global) -> Result<Rows<KeyRow>, AllocError>
         ensures { IfOk result (λ rows. rows ≡ in_order (λ (row : KeyRow). row.key) (shared_from 0 self.now)) }
     {
-        order::shared_in_order(alloc, &self.index.listings)
+        order::shared_in_order(alloc, self.index.listings.used())
     }
 
     /// The hints in order of key, and those under one key in order of their frames.
     pub fn hints(&self, alloc: Global) -> Result<Rows<Hint>, AllocError>
         ensures { IfOk result (λ rows. rows ≡ in_order (λ (hint : Hint). hint.key) (hints_of self.now)) }
     {
-        order::hints_in_order(alloc, &self.index.listings)
+        order::hints_in_order(alloc, self.index.listings.used())
     }
 
     /// Trades what a frame stands under with what is handed over. Past the last frame nothing changes.
@@ -152,5 +153,45 @@ impl Listings {
             self.listed += 1;
         }
         self.index.enlist(frame, listing);
+    }
+}
+
+#[cfg(test)]
+mod tests {
+    use super::*;
+    use std::test::Fail;
+
+    #[test]
+    fn frames_are_listed_again_where_none_was(rt: HostRuntime) -> Result<(), Fail> {
+        let mut listings = Listings::new(rt.alloc(), 5)?;
+        let mut listing = Listing::Shared { key: 13 };
+        for frame in [4, 1, 3_u32] {
+            assert!(rt; listings.lists_none());
+            assert_eq!(rt; listings.shared_under(13), None);
+            listings.trade(frame, &mut listing);
+            assert_eq!(rt; listings.shared_under(13), Some(frame));
+            assert_eq!(rt; listings.shared_under(5), None);
+            assert_eq!(rt; listings.shared(rt.alloc())?.len(), 1);
+            listings.trade(frame, &mut listing);
+            assert_eq!(rt; listing, Listing::Shared { key: 13 });
+        }
+        assert_eq!(rt; listings.shared(rt.alloc())?.len(), 0);
+        Ok(())
+    }
+
+    #[test]
+    fn rows_and_heads_are_used_where_a_frame_is_listed(rt: HostRuntime) -> Result<(), Fail> {
+        let mut listings = Listings::new(rt.alloc(), 5)?;
+        listings.trade(4, &mut Listing::Unlisted);
+        assert_eq!(rt; listings.shared_under(13), None);
+        assert_eq!(rt; listings.index.heads.len(), 1);
+        assert_eq!(rt; listings.index.next.used().len(), 0);
+        assert_eq!(rt; listings.index.listings.used().len(), 0);
+
+        listings.trade(2, &mut Listing::Shared { key: 13 });
+        assert_eq!(rt; listings.index.heads.len(), 8);
+        assert_eq!(rt; listings.index.next.used().len(), 3);
+        assert_eq!(rt; listings.index.listings.used().len(), 3);
+        Ok(())
     }
 }

@@ -1,4 +1,5 @@
 pub mod Flips
+pub mod Sizes
 pub mod Applies
 pub mod Readable
 pub mod Read

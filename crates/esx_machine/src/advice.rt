@@ -51,7 +51,7 @@ fn target_row(vm: VmId, row: &VmTable) -> Row
     ensures good { IsRow result }
 {
     let pages = row.standing().resident;
-    prove!(pages as usize <= row.pages().len());
+    prove!(pages <= row.page_count());
     let spec = row.spec();
     let _number = vm.number();
     Row {

@@ -33,19 +33,23 @@ impl Model for Machine {
     ghost invariant = { λ a. IsKept (record { config = a.config; level = a.level; tables = a.tables }) };
 }
 
-/// What leads from the tables after an event to those before it, and back.
+/// What leads from the tables after an event to those before it, and back. Its changes keep their places in
+/// one list: one flip goes over it from its end, and the next from its front.
 #[derive(Drop)]
 pub struct Record {
     level: Level,
+    // Does the next flip begin at the end?
+    at_end: bool,
     changes: Changes,
 }
 
 impl Model for Record {
+    ghost use Rattle.esx_tables.specs.Changes.{in_order};
     ghost use Rattle.esx_machine.specs.Machine.{Back};
 
     ghost Value = { Back };
 
-    ghost view = { λ a. record { level = a.level; changes = a.changes } };
+    ghost view = { λ a. record { level = a.level; changes = in_order a.at_end a.changes } };
 }
 
 impl Record {
@@ -110,10 +114,15 @@ impl Machine {
         };
         let mut changes = plan.changes;
         let level = self.level;
-        self.tables.exchange(&mut changes);
+        self.tables.exchange_from(&mut changes, false);
         let free = self.tables.counts().free;
         self.level = Thresholds::of(self.config).next(level, free);
-        Ok((plan.answer, Record { level, changes }))
+        let back = Record {
+            level,
+            at_end: true,
+            changes,
+        };
+        Ok((plan.answer, back))
     }
 
     /// The plan of an event. What is kept while it is made is seen in no table.
@@ -138,7 +147,8 @@ impl Machine {
         ensures { (there : Kept) → Trades back.old self.old there
             → (self.new ≡ there) × Trades back.new there self.old × (back.new ≡ turned back.old self.old) }
     {
-        self.tables.exchange(&mut back.changes);
+        self.tables.exchange_from(&mut back.changes, back.at_end);
+        back.at_end = !back.at_end;
         mem::swap(&mut self.level, &mut back.level);
     }
 
@@ -206,6 +216,11 @@ impl Machine {
         ensures { result ≡ activity (book_in self.now) vm }
     {
         activity(&self.tables, vm)
+    }
+
+    /// Reads what an access of a page is to read, so that it is near when the access comes. What it gives means nothing.
+    pub fn look_at(&self, vm: VmId, page: u32) -> u8 {
+        self.tables.look_at(vm, page)
     }
 
     /// What lets a write to a page go on, or why its virtual machine can make none.

@@ -1,3 +1,4 @@
 pub mod GroupLemmas
 pub mod MapLemmas
 pub mod LoanLemmas
+pub mod UsedLemmas

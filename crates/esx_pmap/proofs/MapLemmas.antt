@@ -66,7 +66,7 @@ map_set rows blocks resident out i count all outside row m h counted alike away 
   outside = away ∙ (rw m.outside (sym (count_by-set is_out rows i row Untouched h)));
 }
 
-none_of : (k : ℕ) → resident_count (replicate k Untouched) ≡ 0
+pub none_of : (k : ℕ) → resident_count (replicate k Untouched) ≡ 0
 none_of k = count_by-replicate is_here k Untouched refl
 
 none_in : (k b : ℕ) → block_count (replicate k Untouched) b ≡ 0
@@ -111,8 +111,8 @@ block_rows rows b end e =
     let cut : end - b * 256 ≡ min 256 (length (drop (b * 256) rows)) = rw length-drop (omega arith) in
     rw cut (take_min 256 (drop (b * 256) rows))
 
-pub rest_within : (rows : List MapRow) (blocks : List ℕ) (resident out b rest end : ℕ) → IsMap rows blocks resident out → end ≡ min (b * 256 + 256) (length rows) → rest < get_or blocks b 0 → rest < resident_count (take (end - b * 256) (drop (b * 256) rows))
-rest_within rows blocks resident out b rest end m e h = rw (block_rows rows b end e, ← m.each b) h
+pub rest_within : (rows : List MapRow) (blocks : List ℕ) (b rest end : ℕ) → ((b : ℕ) → get_or blocks b 0 ≡ block_count rows b) → end ≡ min (b * 256 + 256) (length rows) → rest < get_or blocks b 0 → rest < resident_count (take (end - b * 256) (drop (b * 256) rows))
+rest_within rows blocks b rest end each e h = rw (block_rows rows b end e, ← each b) h
 
 next_entry : (p : ℕ) (row : MapRow) (rows : List MapRow) (i : ℕ) → get_or (resident_from (p + 1) rows) (resident_count (take i rows)) 0 ≡ p + 1 + i → (t : Bool) → is_here row ≡ t
     → get_or (resident_from p (row ∷ rows)) (resident_count (row ∷ take i rows)) 0 ≡ p + suc i
@@ -135,8 +135,8 @@ pub record IsNth (rows : List MapRow) (k page : ℕ) : Type 0 where
   pub here : is_here (page_at rows page) ≡ true
   pub entry : page ≡ get_or (resident_pages rows) k 0
 
-pub nth_is : (rows : List MapRow) (blocks : List ℕ) (resident out k b rest end at : ℕ) → IsMap rows blocks resident out → end ≡ min (b * 256 + 256) (length rows) → b < length blocks → sum (take b blocks) + rest ≡ k → at < length (take (end - b * 256) (drop (b * 256) rows)) → is_here (page_at (take (end - b * 256) (drop (b * 256) rows)) at) ≡ true → resident_count (take at (take (end - b * 256) (drop (b * 256) rows))) ≡ rest → IsNth rows k (b * 256 + at)
-nth_is rows blocks resident out k b rest end at m e in_blocks before there passes count =
+pub nth_is : (rows : List MapRow) (blocks : List ℕ) (k b rest end at : ℕ) → ((b : ℕ) → get_or blocks b 0 ≡ block_count rows b) → end ≡ min (b * 256 + 256) (length rows) → b < length blocks → sum (take b blocks) + rest ≡ k → at < length (take (end - b * 256) (drop (b * 256) rows)) → is_here (page_at (take (end - b * 256) (drop (b * 256) rows)) at) ≡ true → resident_count (take at (take (end - b * 256) (drop (b * 256) rows))) ≡ rest → IsNth rows k (b * 256 + at)
+nth_is rows blocks k b rest end at each e in_blocks before there passes count =
     let cut = block_rows rows b end e in
     let block = take 256 (drop (b * 256) rows) in
     let page = b * 256 + at in
@@ -147,7 +147,7 @@ nth_is rows blocks resident out k b rest end at m e in_blocks before there passe
     let here : is_here (page_at rows page) ≡ true = ap is_here (sym row) ∙ rw cut at passes in
     let part : resident_count (take at (drop (b * 256) rows)) ≡ rest = rw (cut, take-take at 256 (drop (b * 256) rows) (omega arith)) at count in
     let front : resident_count (take page rows) ≡ k =
-    rw (take-add (b * 256) at rows, sum_by-append (λ x. cond (is_here x) 1 0) (take (b * 256) rows) (take at (drop (b * 256) rows)), ← sum_blocks rows blocks m.each b (omega arith), part) before in
+    rw (take-add (b * 256) at rows, sum_by-append (λ x. cond (is_here x) 1 0) (take (b * 256) rows) (take at (drop (b * 256) rows)), ← sum_blocks rows blocks each b (omega arith), part) before in
     record {
       in_range = in_range;
       here = here;

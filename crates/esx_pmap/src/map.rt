@@ -8,22 +8,25 @@ ghost use Rattle.esx_pmap.specs.Blocks.{block_count};
 
 use crate::blocks::{nth_block, nth_here};
 use crate::loans::{Loan, enter, leave, lent_in};
+use esx_grown::Grown;
 use esx_lists::recount;
 use esx_types::MapRow;
 use std::alloc::{AllocError, Global};
 use std::marker::Model;
+use std::mem;
 
 /// How many pages a block has; the last may have fewer.
 const BLOCK: usize = 256;
 
 /// Where the pages of a virtual machine are, seen as the list of their rows; a page's number is its place.
 ///
-/// No call after `new` takes memory. A resident page is found by passing whole blocks of pages by their
-/// counts. The pages lent are counted by their epochs, so that a machine's next epoch, and its last one
-/// again, cost nothing here.
+/// The room for all rows and loans is taken by `new`, which touches none of it: the first change of a page's
+/// row writes the rows below it that were never written. No later call takes memory. A resident page is found
+/// by passing whole blocks of pages by their counts. The pages lent are counted by their epochs, so that a
+/// machine's next epoch, and its last one again, cost nothing here.
 #[derive(Drop)]
 pub struct PageMap {
-    rows: Vec<MapRow>,
+    rows: Grown<MapRow>,
     blocks: Vec<u32>,
     resident: u32,
     out: u32,
@@ -37,9 +40,9 @@ impl Model for PageMap {
 
     ghost Value = { List MapRow };
 
-    ghost view = { λ a. a.rows.items };
+    ghost view = { λ a. a.rows };
 
-    ghost invariant = { λ a. IsMap a.rows.items a.blocks.items a.resident a.out × AreLent a.rows.items a.loans.items (vec_capacity a.loans) };
+    ghost invariant = { λ a. IsMap a.rows a.blocks.items a.resident a.out × AreLent a.rows a.loans.items (vec_capacity a.loans) };
 }
 
 impl PageMap {
@@ -49,7 +52,7 @@ impl PageMap {
     {
         let len = max as usize;
         Ok(PageMap {
-            rows: vec![in alloc; MapRow::Untouched; len]?,
+            rows: Grown::new(alloc, len)?,
             blocks: vec![in alloc; 0; len.div_ceil(BLOCK)]?,
             resident: 0,
             out: 0,
@@ -69,7 +72,7 @@ impl PageMap {
         requires { page < length self.now }
         ensures { result ≡ page_at self.now page }
     {
-        self.rows[page as usize]
+        *self.rows.row(page as usize)
     }
 
     /// Exchanges a page's row with the one that is handed over.
@@ -79,14 +82,15 @@ impl PageMap {
         ensures row { row.new ≡ page_at self.old page }
     {
         let at = page as usize;
-        let old = self.rows[at];
+        let there = self.rows.row_mut(at);
+        let old = *there;
         let (was, is) = (old.is_here(), row.is_here());
         recount(&mut self.resident, was, is);
         recount(&mut self.blocks[at / BLOCK], was, is);
         recount(&mut self.out, old.is_out(), row.is_out());
         leave(&mut self.loans, &old);
         enter(&mut self.loans, row);
-        std::mem::swap(&mut self.rows[at], row);
+        mem::swap(there, row);
     }
 
     /// Trades a page's row with the one that is handed over. Past the end nothing changes.
@@ -97,13 +101,6 @@ impl PageMap {
         if page < self.len() {
             self.swap_row(page, row);
         }
-    }
-
-    /// All rows, in the order of their pages.
-    pub fn rows(&self) -> &[MapRow]
-        ensures { result.now ≡ self.now }
-    {
-        self.rows.as_slice()
     }
 
     /// How many pages are in a swap slot.
@@ -143,9 +140,10 @@ impl PageMap {
         ensures here { IsTrue (is_here (page_at self.now result)) }
     {
         let (block, rest) = nth_block(&self.blocks, k);
+        let used = self.rows.used();
         let start = block * BLOCK;
-        let end = (start + BLOCK).min(self.rows.len());
-        let page = start + nth_here(&self.rows[start..end], rest);
+        let end = (start + BLOCK).min(used.len());
+        let page = start + nth_here(&used[start..end], rest);
         page as u32
     }
 }
@@ -179,6 +177,22 @@ mod tests {
     }
 
     #[test]
+    fn reaches_pages_in_any_order(rt: HostRuntime) -> Result<(), Fail> {
+        let mut map = PageMap::new(rt.alloc(), 600)?;
+        map.swap_row(300, &mut MapRow::Here { frame: 7 });
+        assert_eq!(rt; map.resident(), 1);
+        assert_eq!(rt; map.nth_resident(0), 300);
+        map.swap_row(20, &mut MapRow::Here { frame: 8 });
+        assert_eq!(rt; map.resident(), 2);
+        assert_eq!(rt; map.nth_resident(0), 20);
+        assert_eq!(rt; map.nth_resident(1), 300);
+        assert_eq!(rt; map.at(300), MapRow::Here { frame: 7 });
+        assert_eq!(rt; map.at(299), MapRow::Untouched);
+        assert_eq!(rt; map.at(599), MapRow::Untouched);
+        Ok(())
+    }
+
+    #[test]
     fn counts_pages_out_and_lent(rt: HostRuntime) -> Result<(), Fail> {
         let mut map = PageMap::new(rt.alloc(), 4)?;
         for (page, epoch) in [(0, 5), (1, 5), (2, 3), (9, 5)] {
@@ -193,7 +207,7 @@ mod tests {
         map.trade(2, &mut row);
         assert_eq!(rt; row, MapRow::Lent { epoch: 3 });
         assert_eq!(rt; map.lent(3), 0);
-        assert_eq!(rt; map.rows().len(), 4);
+        assert_eq!(rt; map.len(), 4);
         Ok(())
     }
 }

@@ -6,20 +6,23 @@ ghost use Rattle.esx_types.specs.declared.table.SlotRow.TheVariants.{Free};
 ghost use Rattle.esx_types.specs.Slots.{held_bytes, is_empty, slot_at, least_slot};
 ghost use Rattle.esx_formulas.specs.Key.{content_key};
 
+use esx_grown::Grown;
 use esx_index::FreeIndex;
 use esx_known::KnownKeys;
 use esx_lists::recount;
 use esx_types::SlotRow;
 use std::alloc::{AllocError, Global};
 use std::marker::Model;
+use std::mem;
 
 /// The swap slots, seen as the list of their rows; a slot's number is its place.
 ///
-/// No call after `new` takes memory but `make_key_room`, which goes on without it. Each other call looks at a few words
-/// whatever the number of slots.
+/// The room for all rows is taken by `new`, which touches none of it: the first change of a slot's row writes the rows
+/// below it that were never written. No later call takes memory but `make_key_room`, which goes on without it. But for
+/// such first changes, each call looks at a few words whatever the number of slots.
 #[derive(Drop)]
 pub struct Slots {
-    rows: Vec<SlotRow>,
+    rows: Grown<SlotRow>,
     free: FreeIndex,
     count: u32,
     known: KnownKeys,
@@ -32,9 +35,9 @@ impl Model for Slots {
 
     ghost Value = { List SlotRow };
 
-    ghost view = { λ a. a.rows.items };
+    ghost view = { λ a. a.rows };
 
-    ghost invariant = { λ a. IsKeyed a.rows.items a.free a.count a.known };
+    ghost invariant = { λ a. IsKeyed a.rows a.free a.count a.known };
 }
 
 impl Slots {
@@ -42,11 +45,10 @@ impl Slots {
     pub fn new(alloc: Global, slots: u32) -> Result<Slots, AllocError>
         ensures { IfOk result (λ table. table ≡ replicate slots Free) }
     {
-        let free = FreeIndex::new(alloc, slots as usize)?;
-        let rows = free_rows(alloc, slots)?;
+        let len = slots as usize;
         Ok(Slots {
-            rows,
-            free,
+            rows: Grown::new(alloc, len)?,
+            free: FreeIndex::new(alloc, len)?,
             count: slots,
             known: KnownKeys::new(alloc),
         })
@@ -64,13 +66,6 @@ impl Slots {
         ensures { result ≡ count_by is_empty self.now }
     {
         self.count
-    }
-
-    /// All rows, in the order of their slots.
-    pub fn rows(&self) -> &[SlotRow]
-        ensures { result.now ≡ self.now }
-    {
-        self.rows.as_slice()
     }
 
     /// The row of a slot; none past the end.
@@ -119,14 +114,15 @@ impl Slots {
         ensures row { row.new ≡ slot_at self.old slot }
     {
         let at = slot as usize;
-        let was = self.rows[at].is_empty();
+        let there = self.rows.row_mut(at);
+        let was = there.is_empty();
         let is = row.is_empty();
+        mem::swap(there, row);
         recount(&mut self.count, was, is);
         if is != was {
             self.free.set(at, is);
         }
         self.known.forget(slot);
-        std::mem::swap(&mut self.rows[at], row);
     }
 
     /// Trades a slot's row with the one that is handed over. Past the end nothing changes.
@@ -138,16 +134,6 @@ impl Slots {
             self.swap_row(slot, row);
         }
     }
-}
-
-fn free_rows(alloc: Global, slots: u32) -> Result<Vec<SlotRow>, AllocError>
-    ensures { IfOk result (λ rows. rows.items ≡ replicate slots Free) }
-{
-    let mut rows = Vec::with_capacity(alloc, slots as usize)?;
-    for _ in 0..slots {
-        rows.push(SlotRow::Free)?;
-    }
-    Ok(rows)
 }
 
 #[cfg(test)]
@@ -179,8 +165,10 @@ mod tests {
         slots.trade(1, &mut row);
         assert!(rt; row.is_empty());
         assert_eq!(rt; slots.free(), 1);
-        assert_eq!(rt; slots.rows().len(), 2);
+        assert_eq!(rt; slots.len(), 2);
+        assert!(rt; slots.get(0).is_some_and(SlotRow::is_empty));
         assert!(rt; slots.get(1).is_some());
+        assert!(rt; slots.get(2).is_none());
         Ok(())
     }
 

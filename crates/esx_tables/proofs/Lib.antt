@@ -2,3 +2,4 @@ pub mod Back
 pub mod Opening
 pub mod Kept
 pub mod Summed
+pub mod Copied

@@ -1,6 +1,6 @@
 -- What making a change leaves of the tables, and the change that leads back. Each is its own inverse, and where there is no
 -- such place nothing changes.
-use Rattle.std.specs.Prelude.{ℕ, nat_lt, List, None, length, slice_set, if◌then◌else◌}
+use Rattle.std.specs.Prelude.{ℕ, nat_lt, Bool, List, None, length, reverse, slice_set, if◌then◌else◌}
 use Rattle.esx_types.specs.declared.table.FrameRow.{FrameRow}
 use Rattle.esx_types.specs.declared.table.SlotRow.{SlotRow}
 use Rattle.esx_types.specs.Slots.{slot_at}
@@ -32,3 +32,7 @@ traded t (TaxIs tau) = (record t { tau = tau }, TaxIs t.tau)
 -- changes made in turn; the list that leads back begins with the last of them
 unfoldable pub exchanged : Tables → List Change → Tables × List Change
 exchanged t changes = in_turn traded t changes
+
+-- a list from its front, or from its end
+abbrev pub in_order : Bool → List Change → List Change
+in_order at_end changes = if at_end then reverse changes else changes

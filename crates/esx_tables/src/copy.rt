@@ -5,7 +5,9 @@ ghost use Rattle.esx_model.specs.Tables.{read_place, read_vm, book_from};
 
 use crate::tables::SiteTables;
 use crate::vm_table::VmTable;
+use esx_frames::FrameTable;
 use esx_model::{Book, PeriodRow, VmRow};
+use esx_swap::Slots;
 use esx_types::{FrameRow, Level, MapRow, Rows, SlotRow};
 use std::alloc::{AllocError, Global};
 
@@ -25,11 +27,12 @@ fn copy_frame(row: &FrameRow) -> Result<FrameRow, AllocError>
     }
 }
 
-fn copy_frames(alloc: Global, rows: &[FrameRow]) -> Result<Rows<FrameRow>, AllocError>
-    ensures { IfOk result (λ copy. copy ≡ rows.now) }
+fn copy_frames(alloc: Global, frames: &FrameTable) -> Result<Rows<FrameRow>, AllocError>
+    ensures { IfOk result (λ copy. copy ≡ frames.now) }
 {
-    let mut copy = Vec::with_capacity(alloc, rows.len())?;
-    for row in rows {
+    let mut copy = Vec::with_capacity(alloc, frames.len() as usize)?;
+    for frame in 0..frames.len() {
+        let row = frames.get(frame).unwrap();
         copy.push(copy_frame(row)?)?;
     }
     Ok(Rows::from_vec(copy))
@@ -46,11 +49,12 @@ fn copy_slot(row: &SlotRow) -> Result<SlotRow, AllocError>
     }
 }
 
-fn copy_slots(alloc: Global, rows: &[SlotRow]) -> Result<Rows<SlotRow>, AllocError>
-    ensures { IfOk result (λ copy. copy ≡ rows.now) }
+fn copy_slots(alloc: Global, slots: &Slots) -> Result<Rows<SlotRow>, AllocError>
+    ensures { IfOk result (λ copy. copy ≡ slots.now) }
 {
-    let mut copy = Vec::with_capacity(alloc, rows.len())?;
-    for row in rows {
+    let mut copy = Vec::with_capacity(alloc, slots.len() as usize)?;
+    for slot in 0..slots.len() {
+        let row = slots.get(slot).unwrap();
         copy.push(copy_slot(row)?)?;
     }
     Ok(Rows::from_vec(copy))
@@ -73,12 +77,13 @@ fn row_in(row: MapRow, epoch: u32) -> MapRow
     }
 }
 
-fn copy_pages(alloc: Global, rows: &[MapRow], epoch: u32) -> Result<Rows<MapRow>, AllocError>
-    ensures { IfOk result (λ copy. copy ≡ map (read_place epoch) rows.now) }
+/// The rows of a machine's pages in an epoch.
+fn copy_pages(alloc: Global, vm: &VmTable, epoch: u32) -> Result<Rows<MapRow>, AllocError>
+    ensures { IfOk result (λ copy. copy ≡ map (read_place epoch) vm.now.pages) }
 {
-    let mut copy = Vec::with_capacity(alloc, rows.len())?;
-    for row in rows {
-        copy.push(row_in(*row, epoch))?;
+    let mut copy = Vec::with_capacity(alloc, vm.page_count() as usize)?;
+    for page in 0..vm.page_count() {
+        copy.push(row_in(vm.page(page), epoch))?;
     }
     Ok(Rows::from_vec(copy))
 }
@@ -108,7 +113,7 @@ fn copy_row(alloc: Global, vm: &VmTable) -> Result<VmRow, AllocError>
         due: facts.due,
         target: facts.target,
         overhead: copy_rows(alloc, vm.overhead())?,
-        pages: copy_pages(alloc, vm.pages(), facts.epoch)?,
+        pages: copy_pages(alloc, vm, facts.epoch)?,
         slow: averages.slow(),
         fast: averages.fast(),
         period: copy_period(alloc, vm.period())?,
@@ -141,8 +146,8 @@ impl SiteTables {
         ensures { IfOk result (λ book. book ≡ book_from self.now level) }
     {
         Ok(Book {
-            frames: copy_frames(alloc, self.frames.rows())?,
-            slots: copy_slots(alloc, self.slots.rows())?,
+            frames: copy_frames(alloc, &self.frames)?,
+            slots: copy_slots(alloc, &self.slots)?,
             vms: copy_vms(alloc, self.vms.as_slice())?,
             hints: self.listings.hints(alloc)?,
             shared: self.listings.shared(alloc)?,

@@ -1,10 +1,10 @@
 //! Changes that are made, each in trade for what stood in its place.
 
-ghost use Rattle.std.specs.Prelude.{◌≡◌, ◌<◌, IfSome, length, not, slice_set};
+ghost use Rattle.std.specs.Prelude.{◌≡◌, ◌<◌, IfSome, length, not, reverse, slice_set};
 ghost use Rattle.esx_types.specs.Slots.{held_bytes, is_empty, slot_at};
 ghost use Rattle.esx_formulas.specs.Key.{content_key};
 ghost use Rattle.esx_tables.specs.Machines.{vm_traded};
-ghost use Rattle.esx_tables.specs.Changes.{slots_traded, traded, exchanged};
+ghost use Rattle.esx_tables.specs.Changes.{slots_traded, traded, exchanged, in_order};
 
 use crate::change::{Change, VmPart};
 use crate::record::Record;
@@ -50,19 +50,43 @@ impl SiteTables {
         ensures tables { self.new ≡ (exchanged self.old back.old).0 }
         ensures back { back.new ≡ (exchanged self.old back.old).1 }
     {
-        self.make_all(&mut back.changes);
+        self.exchange_from(back, false);
+        back.changes.reverse();
     }
 
-    /// Makes changes in turn, and leaves the list that leads back.
+    /// Makes the changes of a record in turn, from its front or from its end, and leaves what leads back
+    /// from the other. No change moves in the record, and no memory is taken.
+    pub fn exchange_from(&mut self, back: &mut Record, at_end: bool)
+        ensures tables { self.new ≡ (exchanged self.old (in_order at_end back.old)).0 }
+        ensures back { in_order (not at_end) back.new ≡ (exchanged self.old (in_order at_end back.old)).1 }
+    {
+        if at_end {
+            self.make_from_end(&mut back.changes);
+        } else {
+            self.make_from_front(&mut back.changes);
+        }
+    }
+
+    /// Makes changes from the first to the last, and leaves each where it stood.
     #[tactic(auto, unfolding(crate::specs::Changes::exchanged))]
-    fn make_all(&mut self, changes: &mut Vec<Change>)
+    fn make_from_front(&mut self, changes: &mut Vec<Change>)
         ensures tables { self.new ≡ (exchanged self.old changes.old.items).0 }
-        ensures changes { changes.new.items ≡ (exchanged self.old changes.old.items).1 }
+        ensures changes { reverse changes.new.items ≡ (exchanged self.old changes.old.items).1 }
     {
         for i in 0..changes.len() {
             self.trade(&mut changes[i]);
         }
-        changes.reverse();
+    }
+
+    /// Makes changes from the last to the first, and leaves each where it stood.
+    #[tactic(auto, unfolding(crate::specs::Changes::exchanged))]
+    fn make_from_end(&mut self, changes: &mut Vec<Change>)
+        ensures tables { self.new ≡ (exchanged self.old (reverse changes.old.items)).0 }
+        ensures changes { changes.new.items ≡ (exchanged self.old (reverse changes.old.items)).1 }
+    {
+        for i in (0..changes.len()).rev() {
+            self.trade(&mut changes[i]);
+        }
     }
 }
 
@@ -109,7 +133,10 @@ fn holds_page(slots: &Slots, slot: u32) -> bool
     requires { slot < length slots.now }
     ensures { result ≡ not (is_empty (slot_at slots.now slot)) }
 {
-    !slots.rows()[slot as usize].is_empty()
+    match slots.get(slot) {
+        Some(row) => !row.is_empty(),
+        None => false,
+    }
 }
 
 /// Puts a page, or none, into a free slot.

@@ -1,6 +1,7 @@
 //! The tables of a site as one thing, changes of them that lead back, and records of such changes.
 #![tactic(auto)]
 
+mod ahead;
 mod change;
 mod copy;
 mod exchange;

@@ -43,7 +43,7 @@ impl Record {
         Record { changes }
     }
 
-    /// Its changes, in the order in which they are made.
+    /// Its changes, in the order in which `exchange` makes them.
     pub fn changes(&self) -> &[Change]
         ensures { result.now ≡ self.now }
     {

@@ -24,8 +24,9 @@ use std::marker::Model;
 
 /// Every table of a site, and the idle memory tax.
 ///
-/// No change takes memory but `learn_key` and `make_key_room`, which go on without it. A reading of one row, of a count or
-/// of the least free frame or slot takes the same time whatever the size of the site.
+/// No change takes memory but `learn_key` and `make_key_room`, which go on without it; the first one of a high row also
+/// writes the rows below it that were never written. A reading of one row, of a count or of the least free frame or slot
+/// takes the same time whatever the size of the site.
 #[derive(Drop)]
 pub struct SiteTables {
     pub(crate) frames: FrameTable,
@@ -142,7 +143,7 @@ impl SiteTables {
     pub fn bytes(&self, frame: u32) -> &[u8]
         ensures { result.now ≡ bytes_of (frame_at self.now.frames frame) }
     {
-        match self.frames.rows().get(frame as usize) {
+        match self.frames.get(frame) {
             Some(row) => bytes_of(row),
             None => &[],
         }
@@ -196,7 +197,7 @@ impl SiteTables {
     pub fn held(&self, slot: u32) -> &[u8]
         ensures { result.now ≡ held_bytes (slot_at self.now.slots slot) }
     {
-        match self.slots.rows().get(slot as usize) {
+        match self.slots.get(slot) {
             Some(row) => held_bytes(row),
             None => &[],
         }

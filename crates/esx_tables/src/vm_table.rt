@@ -136,12 +136,12 @@ impl VmTable {
         }
     }
 
-    /// The rows of all pages.
-    pub fn pages(&self) -> &[MapRow]
-        ensures value { result.now ≡ self.now.pages }
+    /// How many pages it has.
+    pub fn page_count(&self) -> u32
+        ensures value { result ≡ length self.now.pages }
         ensures all { length self.now.pages ≡ self.now.spec.max }
     {
-        self.fields.pages.rows()
+        self.fields.pages.len()
     }
 
     /// The page that comes `k`-th, counted from 0, among those that are in a frame.

@@ -1,6 +1,7 @@
 //! Commands and answers as text, and the loop that serves a console line by line.
 #![tactic(auto)]
 
+mod ahead;
 mod answer;
 mod fault;
 pub mod laws;

@@ -8,6 +8,7 @@ ghost use Rattle.esx_reading.specs.Whole.{AskForPieces};
 ghost use Rattle.esx_text.specs.Lines.{Holds, HasNoFeed};
 ghost use Rattle.esx_text.specs.Answers.{Progress, Answers, Stops, StopsLast, Faults, EndsEarly, Reaches, ReadsOn, Ends, ends_found, fault_writes, read_faults, write_faults};
 
+use crate::ahead::Ahead;
 use crate::answer::{Asked, answer_line};
 use crate::fault::ServeFault;
 use crate::line::{LineBuffer, either, split_line, without_return};
@@ -22,17 +23,18 @@ const CHUNK: usize = 65536;
 /// How many reads are made at most.
 const READS: u32 = 1 << 26;
 
-/// What is kept from one read to the next: the line that may go on, the room for an answer, and the
-/// number of lines so far.
+/// What is kept from one read to the next: the line that may go on, the room for an answer, the number of
+/// lines so far, and what was looked at ahead of them.
 #[derive(Drop)]
 struct Work {
     line: LineBuffer,
     answer: AnswerBuffer,
     count: u64,
+    ahead: Ahead,
 }
 
 impl Work {
-    fn new(alloc: Global) -> Result<Work, AllocError>
+    fn new(alloc: Global, console: &Console) -> Result<Work, AllocError>
         ensures empty { IfOk result (λ work. work.answer ≡ []) }
         ensures none { IfOk result (λ work. work.count ≡ 0) }
         ensures start { IfOk result (λ work. Holds work.line []) }
@@ -41,6 +43,7 @@ impl Work {
             line: LineBuffer::new(alloc)?,
             answer: AnswerBuffer::new(alloc)?,
             count: 0,
+            ahead: Ahead::new(console),
         })
     }
 }
@@ -112,6 +115,7 @@ fn serve_bytes<W: Sink>(
 {
     let mut rest = bytes;
     while let Some((piece, later)) = split_line(rest) {
+        work.ahead.look(console, rest);
         serve_line(alloc, console, caller, writer, work, piece)?;
         rest = later;
     }
@@ -310,7 +314,7 @@ pub fn serve<R: Source, W: Sink>(
         W.flushes writer.new + R.calls reader.old + failed ≡ W.flushes writer.old + R.calls reader.new + 1 }
     ensures sent { (IsErrOf result ServeFault.Write → ⊥) → W.waiting writer.new ≡ [] }
 {
-    let Ok(mut work) = Work::new(alloc) else {
+    let Ok(mut work) = Work::new(alloc, console) else {
         return Err(give_up(writer));
     };
     let Ok(mut chunk) = vec![in alloc; 0u8; CHUNK] else {

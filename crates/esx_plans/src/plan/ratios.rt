@@ -1,6 +1,6 @@
 //! What machines have, as rows that targets are made from.
 
-ghost use Rattle.std.specs.Prelude.{◌≡◌, ℕ, IfOk, Some, None, length, slice_index_or};
+ghost use Rattle.std.specs.Prelude.{◌≡◌, ℕ, IfOk, Some, None, [], count_by, is_some, length, slice_index_or, vec_capacity};
 ghost use Rattle.esx_types.specs.declared.config.TheConstants.{VM_NUMBERS};
 ghost use Rattle.esx_model.specs.declared.book.VmRow.{VmRow};
 ghost use Rattle.esx_changes.specs.Activity.{IsTold};
@@ -26,13 +26,27 @@ fn ratio_row(vm: VmId, row: &VmTable) -> Row
     }
 }
 
+/// Room for one item of each machine that there is.
+pub(crate) fn room<T>(alloc: Global, vms: &[Option<VmTable>]) -> Result<Vec<T>, AllocError>
+    ensures empty { IfOk result (λ items. items.items ≡ []) }
+    ensures room { IfOk result (λ items. vec_capacity items ≡ count_by is_some vms.now) }
+{
+    Vec::with_capacity(alloc, machine_count(vms))
+}
+
+fn machine_count(vms: &[Option<VmTable>]) -> usize
+    ensures { result ≡ count_by is_some vms.now }
+{
+    vms.iter().filter(|place| place.is_some()).count()
+}
+
 /// A row for each machine that there is, in order of number, of which it keeps its least memory.
 pub fn ratio_rows(alloc: Global, vms: &[Option<VmTable>]) -> Result<Vec<Row>, AllocError>
     requires places { length vms.now ≡ VM_NUMBERS }
     requires periods { (n : ℕ) (v : VmRow) → slice_index_or vms.now n None ≡ Some v → IsTold v.period }
     ensures { IfOk result (λ rows. rows.items ≡ numbered (ratio_row least_of) 0 vms.now) }
 {
-    let mut rows = Vec::with_capacity(alloc, vms.len())?;
+    let mut rows = room(alloc, vms)?;
     for (number, place) in vms.iter().enumerate() {
         if let Some(row) = place {
             let Some(vm) = VmId::new(number as u8) else {

@@ -9,7 +9,7 @@ ghost use Rattle.esx_changes.specs.Planned.{Plans};
 ghost use Rattle.esx_plans.specs.plan.Ratios.{numbered, HaveRatios};
 ghost use Rattle.esx_plans.specs.plan.Rebalancing.{to_max, to_targets, share_out_plan, rebalance_plan, tax_plan, shares_plan};
 
-use crate::plan::ratios::ratio_rows;
+use crate::plan::ratios::{ratio_rows, room};
 use esx_average::{Row, targets};
 use esx_changes::Plan;
 use esx_events::{Answer, Refusal};
@@ -34,7 +34,7 @@ fn all_to_max(alloc: Global, vms: &[Option<VmTable>]) -> Result<Vec<Change>, All
     requires { length vms.now ≡ VM_NUMBERS }
     ensures { IfOk result (λ changes. changes.items ≡ numbered to_max 0 vms.now) }
 {
-    let mut changes = Vec::with_capacity(alloc, vms.len())?;
+    let mut changes = room(alloc, vms)?;
     for (number, place) in vms.iter().enumerate() {
         if let Some(row) = place {
             let Some(vm) = VmId::new(number as u8) else {
@@ -50,13 +50,14 @@ fn all_to_max(alloc: Global, vms: &[Option<VmTable>]) -> Result<Vec<Change>, All
 fn to_targets(alloc: Global, rows: &[Row], targets: &[u32]) -> Result<Vec<Change>, AllocError>
     ensures { IfOk result (λ changes. changes.items ≡ to_targets rows.now targets.now) }
 {
-    rows.iter()
-        .zip(targets)
-        .map(|(row, target)| Change::OfVm {
+    let mut changes = Vec::with_capacity(alloc, rows.len())?;
+    changes.extend(
+        rows.iter().zip(targets).map(|(row, target)| Change::OfVm {
             vm: row.vm,
             part: VmPart::Target { target: *target },
-        })
-        .collect(alloc)
+        }),
+    )?;
+    Ok(changes)
 }
 
 /// How many frames are wanted until nothing has to be reclaimed.

@@ -38,3 +38,30 @@ fn a_record_of_one_change(rt: HostRuntime) -> Result<(), Fail> {
     assert_eq!(rt; record.changes().len(), 1);
     Ok(())
 }
+
+fn expect_back(rt: &impl Abort, alloc: Global, tables: &mut SiteTables) -> Result<(), Fail> {
+    let opened = tables.tau();
+    let changes = vec![in alloc; Change::TaxIs { tau: 50 }, Change::TaxIs { tau: 60 }]?;
+    let mut record = Record::of(changes);
+    tables.exchange_from(&mut record, false);
+    assert_eq!(rt; tables.tau(), 60);
+    tables.exchange_from(&mut record, true);
+    assert_eq!(rt; tables.tau(), opened);
+    tables.exchange(&mut record);
+    assert_eq!(rt; tables.tau(), 60);
+    tables.exchange(&mut record);
+    assert_eq!(rt; tables.tau(), opened);
+    Ok(())
+}
+
+#[test]
+fn a_record_leads_back_from_its_end(rt: HostRuntime) -> Result<(), Fail> {
+    match SiteTables::open(rt.alloc(), &SITE) {
+        Ok(mut tables) => {
+            let outcome = expect_back(&rt, rt.alloc(), &mut tables);
+            done(tables);
+            outcome
+        }
+        Err(fault) => Err(Fail::from(fault)),
+    }
+}

@@ -1,5 +1,5 @@
 use Rattle.std.proofs.Common.{◌≡◌, take}
 use Rattle.esx_tables.proofs.copy.copy_frames.Given as goal
 
-abbrev pub invariant-loop-row : goal.invariant-loop-row
-invariant-loop-row l = l.copy.items ≡ take l.row-index l.rows
+abbrev pub invariant-loop-frame : goal.invariant-loop-frame
+invariant-loop-frame l = l.copy.items ≡ take l.frame l.frames

@@ -7,5 +7,5 @@ pub invariant_of-result : goal.invariant_of-result
 invariant_of-result c =
     record {
       table = rw (c.in_ok-free.ensures, c.in_ok-rows.ensures) (table_new c.args.frames (omega arith));
-      keys = rw c.new-2.ensures (knows_none _);
+      keys = rw c.new-3.ensures (knows_none _);
     }

@@ -6,4 +6,4 @@ abbrev pub invariant-loop-at : goal.invariant-loop-at
 invariant-loop-at l = Walked l.self l.kind l.key l.at
 
 abbrev pub decreases-loop-at : goal.decreases-loop-at
-decreases-loop-at l = length l.self.listings.items - l.at
+decreases-loop-at l = length l.self.listings - l.at

@@ -1,4 +1,4 @@
-use Rattle.std.proofs.Common.{◌≡◌, ◌<◌, length, get_or, rules, arith}
+use Rattle.std.proofs.Common.{◌<◌, length, rules, arith}
 use Rattle.std.proofs.lemmas.List.{get_or_read}
 use Rattle.esx_keys.specs.Index.{chain_in}
 use Rattle.esx_keys.proofs.Chained.{lands_in, goes_up, found_before}
@@ -15,26 +15,23 @@ pub loop-at-smaller : goal.loop-at-smaller
 loop-at-smaller c =
     let index = c.args.self.now in
     let walk = c.loop-at.invariant in
-    let below : c.loop-at.at < length index.listings.items = omega (arith, c.requires.frame) in
-    let inside : c.loop-at.at < length index.next.items = omega (arith, c.requires.index.links) in
-    let here = lands_in _ (chain_in index) index.heads.items index.next.items c.args.chain c.loop-at.at c.loop-at.last c.requires.index.chained c.requires.chain walk.within walk.link below in
-    let read : c.index-at-in-loop-at.result.now ≡ get_or index.next.items c.loop-at.at 0 = get_or_read index.next.items c.loop-at.at _ inside c.index-at-in-loop-at.ensures 0 in
-    omega (arith, goes_up _ (chain_in index) index.heads.items index.next.items c.args.chain c.loop-at.at c.requires.index.chained c.requires.chain here)
+    let below : c.loop-at.at < length index.listings = omega (arith, c.requires.frame) in
+    let here = lands_in _ (chain_in index) index.heads.items index.next c.args.chain c.loop-at.at c.loop-at.last c.requires.index.chained c.requires.chain walk.within walk.link below in
+    omega (arith, c.row-at.ensures, goes_up _ (chain_in index) index.heads.items index.next c.args.chain c.loop-at.at c.requires.index.chained c.requires.chain here)
 
 pub loop-at-preserved : goal.loop-at-preserved
 loop-at-preserved c =
     let index = c.args.self.now in
     let walk = c.loop-at.invariant in
-    let below : c.loop-at.at < length index.listings.items = omega (arith, c.requires.frame) in
-    let inside : c.loop-at.at < length index.next.items = omega (arith, c.requires.index.links) in
+    let below : c.loop-at.at < length index.listings = omega (arith, c.requires.frame) in
     record {
-      within = lands_in _ (chain_in index) index.heads.items index.next.items c.args.chain c.loop-at.at c.loop-at.last c.requires.index.chained c.requires.chain walk.within walk.link below;
+      within = lands_in _ (chain_in index) index.heads.items index.next c.args.chain c.loop-at.at c.loop-at.last c.requires.index.chained c.requires.chain walk.within walk.link below;
       below = search rules;
-      link = get_or_read index.next.items c.loop-at.at _ inside c.index-at-in-loop-at.ensures 0;
+      link = c.row-at.ensures;
     }
 
 pub returns : goal.returns
 returns c =
     let index = c.args.self.now in
     let walk = c.loop-at.invariant in
-    found_before _ (chain_in index) index.heads.items index.next.items c.args.chain c.args.frame c.loop-at.at c.loop-at.last c.requires.index.chained c.requires.chain walk.within walk.link walk.below c.loop-at-test.false
+    found_before _ (chain_in index) index.heads.items index.next c.args.chain c.args.frame c.loop-at.at c.loop-at.last c.requires.index.chained c.requires.chain walk.within walk.link walk.below c.loop-at-test.false

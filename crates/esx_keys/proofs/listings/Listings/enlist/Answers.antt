@@ -8,7 +8,7 @@ use Rattle.esx_keys.proofs.listings.Listings.enlist.Goals as goal
 
 pub overflow_add-self : goal.overflow_add-self
 overflow_add-self c =
-    let xs = c.self.inside.index.listings.items in
+    let xs = c.self.inside.index.listings in
     let within : c.args.frame < length xs = rw c.self.view_is c.requires.frame in
     let none : listing_at xs c.args.frame ≡ Unlisted = rw c.self.view_is c.requires.unlisted in
     let before : one (is_listed (listing_at xs c.args.frame)) ≡ 0 = ap (λ l. one (is_listed l)) none in

@@ -8,18 +8,18 @@ use Rattle.esx_pmap.proofs.map.PageMap.swap_row.Goals as goal
 
 pub recount-requires-clause-fits : goal.recount-requires-clause-fits
 recount-requires-clause-fits c =
-    let rows = c.self.inside.rows.items in
+    let rows = c.self.inside.rows in
     let h : c.args.page < length rows = omega (arith, ap length c.self.view_is) in
-    let old = get_or_read rows c.args.page _ h c.index.ensures Untouched in
+    let old = c.row_mut-there.ensures.value in
     let m = c.self.invariant.0 in
     let was = c.is_here-was.ensures ∙ ap is_here old in
     rw (m.all, was, c.is_here-is.ensures) (count_by-set-fits is_here rows c.args.page c.args.row.now Untouched 4294967296 h m.fits)
 
 pub recount-requires-2 : goal.recount-requires-2
 recount-requires-2 c =
-    let rows = c.self.inside.rows.items in
+    let rows = c.self.inside.rows in
     let h : c.args.page < length rows = omega (arith, ap length c.self.view_is) in
-    let old = get_or_read rows c.args.page _ h c.index.ensures Untouched in
+    let old = c.row_mut-there.ensures.value in
     let m = c.self.invariant.0 in
     let was = c.is_here-was.ensures ∙ ap is_here old in
     let there : c.args.page / 256 < length c.self.inside.blocks.items = omega (arith, m.enough) in
@@ -31,36 +31,36 @@ recount-requires-2 c =
 
 pub recount-requires-3-clause-fits : goal.recount-requires-3-clause-fits
 recount-requires-3-clause-fits c =
-    let rows = c.self.inside.rows.items in
+    let rows = c.self.inside.rows in
     let h : c.args.page < length rows = omega (arith, ap length c.self.view_is) in
-    let old = get_or_read rows c.args.page _ h c.index.ensures Untouched in
+    let old = c.row_mut-there.ensures.value in
     let m = c.self.invariant.0 in
     let was = c.is_out.ensures ∙ ap is_out old in
     rw (m.outside, was, c.is_out-2.ensures) (count_by-set-fits is_out rows c.args.page c.args.row.now Untouched 4294967296 h m.fits)
 
 pub enter-requires-clause-room : goal.enter-requires-clause-room
 enter-requires-clause-room c =
-    let rows = c.self.inside.rows.items in
+    let rows = c.self.inside.rows in
     let h : c.args.page < length rows = omega (arith, ap length c.self.view_is) in
-    let old = get_or_read rows c.args.page _ h c.index.ensures Untouched in
+    let old = c.row_mut-there.ensures.value in
     let lost = rw (old, c.self.invariant.1.all) at c.leave.ensures.all in
     let few = others_lent rows c.args.page _ h lost in
     omega (arith, few, c.leave.ensures.room, c.self.invariant.1.room)
 
 pub enter-requires-clause-fits : goal.enter-requires-clause-fits
 enter-requires-clause-fits c =
-    let rows = c.self.inside.rows.items in
+    let rows = c.self.inside.rows in
     let h : c.args.page < length rows = omega (arith, ap length c.self.view_is) in
-    let old = get_or_read rows c.args.page _ h c.index.ensures Untouched in
+    let old = c.row_mut-there.ensures.value in
     let lost = rw (old, c.self.invariant.1.all) at c.leave.ensures.all in
     let few = others_lent rows c.args.page _ h lost in
     omega (arith, few, c.self.invariant.0.fits)
 
 pub invariant_of-self : goal.invariant_of-self
 invariant_of-self c =
-    let rows = c.self.inside.rows.items in
+    let rows = c.self.inside.rows in
     let h : c.args.page < length rows = omega (arith, ap length c.self.view_is) in
-    let old = get_or_read rows c.args.page _ h c.index.ensures Untouched in
+    let old = c.row_mut-there.ensures.value in
     let m = c.self.invariant.0 in
     let was = c.is_here-was.ensures ∙ ap is_here old in
     let there : c.args.page / 256 < length c.self.inside.blocks.items = omega (arith, m.enough) in

@@ -6,6 +6,6 @@ use Rattle.esx_swap.proofs.slots.Slots.new.Goals as goal
 pub invariant_of-result : goal.invariant_of-result
 invariant_of-result c =
     record {
-      table = rw (c.in_ok-free.ensures, c.in_ok-rows.ensures) (table_new c.args.slots (omega arith));
-      keys = rw c.new-2.ensures (knows_none _);
+      table = rw (c.in_ok-new-2.ensures, c.in_ok-new.ensures) (table_new c.args.slots (omega arith));
+      keys = rw c.new-3.ensures (knows_none _);
     }

@@ -1,0 +1,106 @@
+//! The list: the rows up to the highest that was used, and how many there are in all.
+
+ghost use Rattle.std.specs.Prelude.{◌≡◌, ◌<◌, ◌≤◌, ◌+◌, ◌-◌, ◌++◌, IfOk, length, option_copied, replicate, slice_get, slice_index_or, slice_set, vec_capacity};
+ghost use Rattle.std.specs.Borrow.{sem};
+
+use crate::blank::Blank;
+use std::alloc::{AllocError, Global};
+use std::marker::Model;
+
+/// Rows, seen as the list of them. Behind the highest that was used all are blank, and no memory of theirs was touched.
+///
+/// The room for all rows is taken by `new`, and no other call takes memory. The first use of a row writes those below it
+/// that were never used.
+#[derive(Drop)]
+pub struct Grown<T: Blank> {
+    used: Vec<T>,
+    len: usize,
+    unused: T,
+}
+
+impl<T: Blank> Model for Grown<T> {
+    ghost use Rattle.std.specs.Prelude.{◌≡◌, ◌≤◌, ◌-◌, ◌++◌, List, length, replicate, vec_capacity};
+    ghost use Rattle.esx_grown.specs.Grown.{grown, IsGrown};
+
+    ghost Value = { List T };
+
+    ghost view = { λ a. grown T.blank a.used.items a.len };
+
+    ghost invariant = { λ a. IsGrown T.blank a.unused (length a.used.items) a.len (vec_capacity a.used) };
+}
+
+impl<T: Blank> Grown<T> {
+    ghost use Rattle.esx_grown.specs.Grown.{grown};
+    ghost use Rattle.esx_grown.specs.Lends.{lends_row};
+
+    /// That many rows, all of them blank.
+    pub fn new(alloc: Global, len: usize) -> Result<Grown<T>, AllocError>
+        ensures { IfOk result (λ rows. rows ≡ replicate len T.blank) }
+    {
+        Ok(Grown {
+            used: Vec::with_capacity(alloc, len)?,
+            len,
+            unused: T::blank(),
+        })
+    }
+
+    /// How many rows there are.
+    pub fn len(&self) -> usize
+        ensures { result ≡ length self.now }
+    {
+        self.len
+    }
+
+    /// The row at a place; none past the end.
+    pub fn get(&self, at: usize) -> Option<&T>
+        ensures { option_copied result ≡ slice_get self.now at }
+    {
+        if at < self.used.len() {
+            Some(&self.used[at])
+        } else if at < self.len {
+            Some(&self.unused)
+        } else {
+            None
+        }
+    }
+
+    /// The row at a place.
+    pub fn row(&self, at: usize) -> &T
+        requires { at < length self.now }
+        ensures { result.now ≡ slice_index_or self.now at T.blank }
+    {
+        if at < self.used.len() {
+            &self.used[at]
+        } else {
+            &self.unused
+        }
+    }
+
+    /// The rows that were used, from the first on. All later ones are blank.
+    pub fn used(&self) -> &[T]
+        ensures { self.now ≡ grown T.blank result.now (length self.now) }
+    {
+        self.used.as_slice()
+    }
+
+    /// The row at a place, for writing.
+    pub fn row_mut(&mut self, at: usize) -> &mut T
+        requires { at < length self.old }
+        ensures* writes_back { sem 𝓛 (lends_row T.row T.Blank self.entry at result) }
+        ensures value { result.now ≡ slice_index_or self.old at T.blank }
+    {
+        reach(&mut self.used, at);
+        &mut self.used[at]
+    }
+}
+
+/// Uses the rows up to a place, in room that is there.
+fn reach<T: Blank>(used: &mut Vec<T>, at: usize)
+    requires { at < vec_capacity used.old }
+    ensures items { used.new.items ≡ used.old.items ++ replicate (at + 1 - length used.old.items) T.blank }
+    ensures room { vec_capacity used.new ≡ vec_capacity used.old }
+{
+    for _ in used.len()..at + 1 {
+        used.push_reserved(T::blank());
+    }
+}
