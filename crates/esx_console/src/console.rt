@@ -12,6 +12,7 @@ mod keeping;
 
 use crate::hearing::counted;
 use crate::hearing::twice::hear_twice;
+use crate::log::Log;
 use esx_events::{Call, Line, Refusal, Reply};
 use esx_journal::Journal;
 use esx_machine::Machine;
@@ -25,22 +26,23 @@ use std::marker::Model;
 /// Every answered call is a line, questions and refused calls too, and the log tells everything else:
 /// the tables, the tree of events and the count of jumps are those that its calls lead to.
 #[derive(Drop)]
-pub struct Console {
+pub struct Console<L: Log = Vec<Line>> {
+    alloc: Global,
     site: Config,
     journal: Journal,
-    log: Vec<Line>,
+    log: L,
     jumps: u64,
 }
 
-impl Model for Console {
+impl<L: Log> Model for Console<L> {
     ghost use Rattle.esx_model.specs.Console.{Session};
     ghost use Rattle.esx_console.specs.Console.{IsConsole};
 
     ghost Value = { Session };
 
-    ghost view = { λ c. record { site = c.site; log = c.log.items } };
+    ghost view = { λ c. record { site = c.site; log = L.lines c.log } };
 
-    ghost invariant = { λ c. IsConsole (record { site = c.site; log = c.log.items }) c.journal c.jumps };
+    ghost invariant = { λ c. IsConsole (record { site = c.site; log = L.lines c.log }) c.journal c.jumps };
 }
 
 impl Console {
@@ -50,11 +52,32 @@ impl Console {
         ensures refused { IfErr result (λ e. e ≢ Refusal.OutOfMemory → (e ≡ Refusal.BadSpec) × (IsConfig config → ⊥)) }
         ensures late { IfErr result (λ e. e ≡ Refusal.OutOfMemory → IsConfig config) }
     {
+        Console::over(alloc, config, Vec::new(alloc))
+    }
+
+    /// The lines so far, the oldest first.
+    pub fn log(&self) -> &[Line]
+        ensures lines { result.now ≡ self.now.log }
+        ensures legal { IsLegal self.now }
+    {
+        self.log.as_slice()
+    }
+}
+
+impl<L: Log> Console<L> {
+    /// Opens a site, with no virtual machine, over an empty log of any kind.
+    pub fn over(alloc: Global, config: Config, log: L) -> Result<Console<L>, Refusal>
+        requires { L.lines log ≡ [] }
+        ensures opens { IfOk result (λ c. (c ≡ record { site = config; log = [] }) × IsConfig config) }
+        ensures refused { IfErr result (λ e. e ≢ Refusal.OutOfMemory → (e ≡ Refusal.BadSpec) × (IsConfig config → ⊥)) }
+        ensures late { IfErr result (λ e. e ≡ Refusal.OutOfMemory → IsConfig config) }
+    {
         let journal = Journal::open(alloc, config)?;
         Ok(Console {
+            alloc,
             site: config,
             journal,
-            log: Vec::new(alloc),
+            log,
             jumps: 0,
         })
     }
@@ -65,31 +88,31 @@ impl Console {
         ensures err { OnErr result (self.new ≡ self.old) }
         ensures legal { IsLegal self.new }
     {
-        self.log.reserve(1)?;
-        let alloc = *self.log.allocator();
-        let (heard, copy) = hear_twice(&mut self.journal, alloc, &call)?;
+        self.log.take_room()?;
+        let (heard, copy) = hear_twice(&mut self.journal, self.alloc, &call)?;
         let jumps = counted(self.jumps, heard.jumped);
         self.jumps = jumps;
-        self.log.push_reserved(Line {
+        let line = Line {
             caller,
             call,
             reply: Reply {
                 jumps,
                 said: copy.said,
             },
-        });
+        };
+        self.log.note(line, &[]);
         Ok(Reply {
             jumps,
             said: heard.said,
         })
     }
 
-    /// The lines so far, the oldest first.
-    pub fn log(&self) -> &[Line]
-        ensures lines { result.now ≡ self.now.log }
+    /// Its log.
+    pub fn kept(&self) -> &L
+        ensures lines { L.lines result.now ≡ self.now.log }
         ensures legal { IsLegal self.now }
     {
-        self.log.as_slice()
+        &self.log
     }
 
     /// How many moves of the cursor were accepted so far.

@@ -5,7 +5,9 @@
 pub mod console;
 mod hearing;
 pub mod laws;
+pub mod log;
 pub mod unlogged;
 
 pub use console::Console;
+pub use log::Log;
 pub use unlogged::Unlogged;

@@ -12,6 +12,7 @@ ghost use Rattle.esx_console.specs.Hearing.{Hears};
 use crate::console::Console;
 use crate::hearing::twice::hear_twice;
 use crate::hearing::{Heard, counted, hear};
+use crate::log::Log;
 use esx_events::{Call, Line, Reply};
 use esx_journal::Journal;
 use std::alloc::{AllocError, Global};
@@ -30,6 +31,38 @@ fn hear_to_keep(journal: &mut Journal, alloc: Global, call: &Call) -> Result<Hea
     }
 }
 
+impl<L: Log> Console<L> {
+    /// Makes a call and logs it with its reply, as `call` does, and leaves the reply in the log alone: no copy is
+    /// made but of a list that grew, which is logged in exact room. Where memory runs out nothing changes, and there
+    /// is no line. The text may be the call's, for a log that would else have to make it.
+    pub fn call_spelled(
+        &mut self,
+        caller: u16,
+        call: Call,
+        spelled: &[u8],
+    ) -> Result<(), AllocError>
+        requires { L.spells spelled.now call }
+        ensures ok { OnOk result (self.new ≡ lined self.old caller call) }
+        ensures err { OnErr result (self.new ≡ self.old) }
+        ensures legal { IsLegal self.new }
+    {
+        self.log.take_room()?;
+        let heard = hear_to_keep(&mut self.journal, self.alloc, &call)?;
+        let jumps = counted(self.jumps, heard.jumped);
+        self.jumps = jumps;
+        let line = Line {
+            caller,
+            call,
+            reply: Reply {
+                jumps,
+                said: heard.said,
+            },
+        };
+        self.log.note(line, spelled);
+        Ok(())
+    }
+}
+
 impl Console {
     /// Makes a call and logs it with its reply, as `call` does, and leaves the reply in the log alone, where
     /// `last_reply` reads it: no copy is made but of a list that grew, which is logged in exact room. Where memory
@@ -39,20 +72,7 @@ impl Console {
         ensures err { OnErr result (self.new ≡ self.old) }
         ensures legal { IsLegal self.new }
     {
-        self.log.reserve(1)?;
-        let alloc = *self.log.allocator();
-        let heard = hear_to_keep(&mut self.journal, alloc, &call)?;
-        let jumps = counted(self.jumps, heard.jumped);
-        self.jumps = jumps;
-        self.log.push_reserved(Line {
-            caller,
-            call,
-            reply: Reply {
-                jumps,
-                said: heard.said,
-            },
-        });
-        Ok(())
+        self.call_spelled(caller, call, &[])
     }
 
     /// The reply in the last line of the log, if there is one: after a call it is what was answered to it.

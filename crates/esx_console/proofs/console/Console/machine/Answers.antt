@@ -7,12 +7,12 @@ use Rattle.esx_console.proofs.Keeps.{history_site}
 use Rattle.esx_console.proofs.console.Console.machine.Goals as goal
 
 pub returns-clause-config : goal.returns-clause-config
-returns-clause-config c =
-    let s : Session = record { site = c.self.inside.site; log = c.self.inside.log.items } in
+returns-clause-config g c =
+    let s : Session = record { site = c.self.inside.site; log = g.L.Log.lines c.self.inside.log } in
     ap (λ (k : machines.Kept). k.config) (c.machine.ensures.tables (history s) c.self.invariant.journal_holds) ∙ history_site s ∙ ap (λ (t : Session). t.site) c.self.view_is
 
 pub returns-clause-shows : goal.returns-clause-shows
-returns-clause-shows c =
-    let s : Session = record { site = c.self.inside.site; log = c.self.inside.log.items } in
+returns-clause-shows g c =
+    let s : Session = record { site = c.self.inside.site; log = g.L.Log.lines c.self.inside.log } in
     let P : Session → Type 0 = λ t. Shows c.machine.result.now (scene_at (history t)) in
     subst P c.self.view_is (c.machine.ensures.shows (history s) c.self.invariant.journal_holds)
