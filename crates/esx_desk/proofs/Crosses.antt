@@ -21,6 +21,10 @@ use Rattle.atomic_table.proofs.send_lease.SendLease.TheSendSync as SendLease
 use Rattle.atomic_table.proofs.shared.Shared.TheSendSync as Shared
 use Rattle.esx_journal.specs.contracts.marks.Marks as Marks
 use Rattle.esx_console.specs.contracts.console.Console as Console
+use Rattle.esx_console.specs.contracts.log.VecLineLog.TheImpl.{ghosts as lines}
+use Rattle.std.specs.contracts.vec.Vec as Vec
+use Rattle.std.specs.contracts.alloc.Global as Heap
+use Rattle.std.specs.contracts.impls.GlobalAllocator.TheImpl.{ghosts as heap}
 use Rattle.esx_lock.specs.contracts.pass.Pass as Pass
 use Rattle.esx_desk.specs.contracts.legal.LegalConsole as LegalConsole
 use Rattle.esx_desk.specs.contracts.desk.Desk as Desk
@@ -103,10 +107,10 @@ marks_send = search (maps.crosses, sendable, below.crosses) depth 60 fits 8000
 marks_sync : IsSync Marks.the_row
 marks_sync = search (maps.crosses, sendable, below.crosses) depth 60 fits 8000
 
-pub console_send : IsSend Console.the_row
+pub console_send : IsSend (Console.the_row (Vec.the_row Line.the_row Heap.the_row heap) lines)
 console_send = search (tables_send, change_send, marks_send, line_send, sendable, below.crosses) depth 60 fits 8000
 
-pub console_sync : IsSync Console.the_row
+pub console_sync : IsSync (Console.the_row (Vec.the_row Line.the_row Heap.the_row heap) lines)
 console_sync = search (tables_sync, change_sync, marks_sync, line_sync, sendable, below.crosses) depth 60 fits 8000
 
 legal_send : IsSend LegalConsole.the_row
