@@ -13,5 +13,7 @@ mod site;
 
 pub use calls::{Calls, open_calls};
 pub use parse::{parse_script, parse_session};
-pub use printing::{print_session, put_session, write_session};
+pub use printing::{
+    ReplySign, print_session, put_end, put_line, put_opening, put_session, write_session,
+};
 pub use session::{Entry, Request, Script, Session};

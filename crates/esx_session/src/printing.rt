@@ -19,7 +19,7 @@ use std::sync::ledger::{Blank, Ledger};
 const CALLER_ROOM: usize = 40;
 
 /// Before each line of a reply: an equals sign and a space.
-struct ReplySign;
+pub struct ReplySign;
 
 impl Sign for ReplySign {
     ghost text = { codes "= " };
@@ -30,7 +30,7 @@ impl Sign for ReplySign {
 }
 
 /// The first line, and that of the site.
-fn put_opening<W: Sink>(
+pub fn put_opening<W: Sink>(
     sink: &mut W,
     held: &mut AnswerBuffer,
     site: &Config,
@@ -123,7 +123,11 @@ fn put_call<W: Sink>(sink: &mut W, held: &mut AnswerBuffer, line: &Line) -> Resu
 }
 
 /// A call and its reply.
-fn put_line<W: Sink>(sink: &mut W, held: &mut AnswerBuffer, line: &Line) -> Result<(), SinkFailed>
+pub fn put_line<W: Sink>(
+    sink: &mut W,
+    held: &mut AnswerBuffer,
+    line: &Line,
+) -> Result<(), SinkFailed>
     ensures bytes { Puts (W.contents sink.old) held.old (W.contents sink.new) held.new (line_text line.now) result }
     ensures utf8 { OnOk result (IsUtf8 (line_text line.now)) }
     ensures failures { W.failures sink.new ≡ W.failures sink.old + sink_faults result }
@@ -147,7 +151,11 @@ fn put_log<W: Sink>(sink: &mut W, held: &mut AnswerBuffer, log: &[Line]) -> Resu
 }
 
 /// The last line.
-fn put_end<W: Sink>(sink: &mut W, held: &mut AnswerBuffer, count: usize) -> Result<(), SinkFailed>
+pub fn put_end<W: Sink>(
+    sink: &mut W,
+    held: &mut AnswerBuffer,
+    count: usize,
+) -> Result<(), SinkFailed>
     ensures bytes { Puts (W.contents sink.old) held.old (W.contents sink.new) held.new (end_text count) result }
     ensures utf8 { OnOk result (IsUtf8 (end_text count)) }
     ensures failures { W.failures sink.new ≡ W.failures sink.old + sink_faults result }

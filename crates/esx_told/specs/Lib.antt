@@ -1,0 +1,12 @@
+pub use Rattle.esx_types.specs.Ranges
+pub use Rattle.esx_events.specs.Names
+pub use Rattle.esx_events.specs.Lists
+pub use Rattle.esx_writing.specs.Writing
+pub use Rattle.esx_words.specs.Commands
+pub use Rattle.esx_replies.specs.Signs
+pub use Rattle.esx_replies.specs.Replies
+pub use Rattle.esx_session.specs.Sessions
+pub use Rattle.esx_session.specs.Printing
+pub mod Listed
+pub mod Told
+pub mod Lines

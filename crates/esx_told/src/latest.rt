@@ -1,0 +1,32 @@
+//! What a log has of its last line beside the text of its lines.
+
+ghost use Rattle.std.specs.Prelude.{◌≡◌};
+
+use esx_events::Line;
+
+/// Where the last reply is, and the last line where its text is not made yet.
+#[derive(Drop)]
+pub enum Latest {
+    /// There is no line.
+    Nothing,
+    /// The text is made, and its end is the reply, which is one line, from here on.
+    Said { at: usize },
+    /// The text is made of this line.
+    Told { line: Line },
+    /// No text is made of this line.
+    Kept { line: Line },
+}
+
+impl Latest {
+    ghost use Rattle.esx_told.specs.Told.{settled};
+
+    /// The same, where the text is made.
+    pub fn settled(self) -> Latest
+        ensures { result ≡ settled self }
+    {
+        match self {
+            Latest::Kept { line } => Latest::Told { line },
+            other => other,
+        }
+    }
+}

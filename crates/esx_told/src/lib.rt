@@ -1,0 +1,12 @@
+//! Logs that are told as texts, and one that is kept as the text of its session.
+#![tactic(auto)]
+
+mod latest;
+mod listed;
+mod part;
+mod spelled;
+mod tells;
+mod text_log;
+
+pub use tells::Tells;
+pub use text_log::TextLog;
