@@ -1,6 +1,5 @@
 -- How one line is answered.
-use Rattle.std.proofs.Common.{◌≡◌, ℕ, Bool, true, false, List, arith, ◌↔◌, ◌<◌, length, Option, Some, Bor, inl, sym, ◌∙◌, ap}
-use Rattle.std.specs.Option.{option_copied}
+use Rattle.std.proofs.Common.{◌≡◌, ℕ, Bool, true, false, List, [], ◌∷◌, ◌++◌, arith, ◌↔◌, ◌<◌, length, Option, inl}
 use Rattle.std.specs.Io.KnownBytes.{Appends}
 use Rattle.std.specs.Str.{IsUtf8}
 use Rattle.std.proofs.lemmas.Str.{IsUtf8-from_ascii}
@@ -21,9 +20,9 @@ asked_is_utf8 line call is = IsUtf8-from_ascii line (ascii_command line call is.
 pub asked_may_want : (line : List ℕ) (call : Call) → IsAsked line call → MayWantMemory line
 asked_may_want line call is = record { short = is.short; wants = inl (call, is) }
 
--- the reply that is read where a reference leads
-pub reply_read : (found : Option (Bor Reply)) (x : Bor Reply) (reply : Reply) → found ≡ Some x → option_copied found ≡ Some reply → x.now ≡ reply
-reply_read found x reply is copied = (let read : Some x.now ≡ Some reply = sym (ap option_copied is) ∙ copied in cc)
+pub last_is_some : {A : Type 0} (xs : List A) (x : A) → xs ++ x ∷ [] ≡ [] → ⊥
+last_is_some [] x e = cc
+last_is_some (y ∷ xs) x e = cc
 
 pub asked_whole : (n caller : ℕ) (before after : Session) (line : List ℕ) (call : Call) (reply : Reply) (old new : Option (List ℕ))
     → IsAsked line call → reply ≡ next_reply before call → after ≡ lined before caller call → Appends old new (reply_text reply)

@@ -1,7 +1,7 @@
 //! Accesses that are looked at before they are answered, so that what they read is near by then.
 
 use crate::line::split_line;
-use esx_console::Console;
+use esx_console::{Console, Log};
 use esx_types::VmId;
 
 /// How many lines are looked at before the first of them is answered.
@@ -22,7 +22,7 @@ pub struct Ahead {
 }
 
 impl Ahead {
-    pub fn new(console: &Console) -> Ahead {
+    pub fn new<L: Log>(console: &Console<L>) -> Ahead {
         Ahead {
             waits: NEAR < console.site().frames,
             lines: 0,
@@ -32,7 +32,7 @@ impl Ahead {
 
     /// The first line of a text is to be answered. Where it is an access that was not looked at, it is looked at now, and
     /// so are the accesses among the lines behind it.
-    pub fn look(&mut self, console: &Console, text: &[u8]) {
+    pub fn look<L: Log>(&mut self, console: &Console<L>, text: &[u8]) {
         if self.lines > 0 {
             self.lines -= 1;
         } else if self.waits && operands(text).is_some() {
@@ -41,7 +41,7 @@ impl Ahead {
     }
 
     /// Looks at the accesses among the next whole lines of a text, and tells how many lines these are.
-    fn look_on(&mut self, console: &Console, text: &[u8]) -> u32 {
+    fn look_on<L: Log>(&mut self, console: &Console<L>, text: &[u8]) -> u32 {
         let mut rest = text;
         for line in 0..LINES {
             let Some((piece, later)) = split_line(rest) else {

@@ -9,8 +9,7 @@ ghost use Rattle.esx_text.specs.Answers.{IsAsked, IsServed, MayWantMemory, sessi
 use crate::fault::ServeFault;
 use esx_console::Console;
 use esx_events::Call;
-use esx_replies::write_reply;
-use esx_session::write_session;
+use esx_told::Tells;
 use esx_types::Sink;
 use esx_words::parse_command;
 use esx_writing::{AnswerBuffer, Piece, write_pieces};
@@ -33,35 +32,35 @@ fn call_of_line(alloc: Global, line: &[u8]) -> Result<Option<Call>, AllocError>
     parse_command(alloc, text)
 }
 
-/// Makes a call and writes its reply from the log. Between the two no memory is taken.
-fn answer_call<W: Sink>(
-    console: &mut Console,
+/// Makes the call that a line asks for, and writes its reply from the log. Between the two no memory is taken.
+fn answer_call<L: Tells, W: Sink>(
+    console: &mut Console<L>,
     caller: u16,
     writer: &mut W,
     held: &mut AnswerBuffer,
     call: Call,
+    line: &[u8],
 ) -> Result<(), ServeFault>
-    requires { held.old ≡ [] }
-    ensures served { (n : ℕ) (line : List ℕ) → IsAsked line call
-        → IsServed n caller console.old line console.new (W.contents writer.old) (W.contents writer.new) result }
+    requires empty { held.old ≡ [] }
+    requires asked { IsAsked line.now call }
+    ensures served { (n : ℕ) → IsServed n caller console.old line.now console.new (W.contents writer.old) (W.contents writer.new) result }
     ensures empty { OnOk result (held.new ≡ []) }
     ensures failures { W.failures writer.new ≡ W.failures writer.old + write_faults result }
     ensures flushes { W.flushes writer.new ≡ W.flushes writer.old }
     ensures reads { IsErrOf result ServeFault.Read → ⊥ }
 {
-    let Ok(()) = console.call_kept(caller, call) else {
+    let Ok(()) = console.call_spelled(caller, call, line) else {
         return Err(ServeFault::OutOfMemory);
     };
-    let reply = console.last_reply().unwrap();
-    match write_reply(writer, held, reply) {
+    match console.kept().tell_reply(writer, held) {
         Ok(()) => Ok(()),
         Err(_) => Err(ServeFault::Write),
     }
 }
 
 /// Writes the session so far. No memory is taken.
-fn answer_session<W: Sink>(
-    console: &Console,
+fn answer_session<L: Tells, W: Sink>(
+    console: &Console<L>,
     writer: &mut W,
     held: &mut AnswerBuffer,
 ) -> Result<(), ServeFault>
@@ -73,7 +72,7 @@ fn answer_session<W: Sink>(
     ensures flushes { W.flushes writer.new ≡ W.flushes writer.old }
     ensures reads { IsErrOf result ServeFault.Read → ⊥ }
 {
-    match write_session(writer, held, &console.site(), console.log()) {
+    match console.kept().tell_session(writer, held, &console.site()) {
         Ok(()) => Ok(()),
         Err(_) => Err(ServeFault::Write),
     }
@@ -133,9 +132,9 @@ pub struct Asked<'a> {
 }
 
 /// Answers a line.
-pub fn answer_line<W: Sink>(
+pub fn answer_line<L: Tells, W: Sink>(
     alloc: Global,
-    console: &mut Console,
+    console: &mut Console<L>,
     caller: u16,
     writer: &mut W,
     held: &mut AnswerBuffer,
@@ -162,7 +161,7 @@ pub fn answer_line<W: Sink>(
         return Err(ServeFault::OutOfMemory);
     };
     match found {
-        Some(call) => answer_call(console, caller, writer, held, call),
+        Some(call) => answer_call(console, caller, writer, held, call, asked.kept),
         None => answer_unknown(writer, held, asked.number),
     }
 }

@@ -12,7 +12,8 @@ use crate::ahead::Ahead;
 use crate::answer::{Asked, answer_line};
 use crate::fault::ServeFault;
 use crate::line::{LineBuffer, either, split_line, without_return};
-use esx_console::Console;
+use esx_console::{Console, Log};
+use esx_told::Tells;
 use esx_types::{Sink, SinkFailed, Source};
 use esx_writing::AnswerBuffer;
 use std::alloc::{AllocError, Global};
@@ -34,7 +35,7 @@ struct Work {
 }
 
 impl Work {
-    fn new(alloc: Global, console: &Console) -> Result<Work, AllocError>
+    fn new<L: Log>(alloc: Global, console: &Console<L>) -> Result<Work, AllocError>
         ensures empty { IfOk result (λ work. work.answer ≡ []) }
         ensures none { IfOk result (λ work. work.count ≡ 0) }
         ensures start { IfOk result (λ work. Holds work.line []) }
@@ -49,9 +50,9 @@ impl Work {
 }
 
 /// Takes the bytes up to a line feed, and answers the line that they end.
-fn serve_line<W: Sink>(
+fn serve_line<L: Tells, W: Sink>(
     alloc: Global,
-    console: &mut Console,
+    console: &mut Console<L>,
     caller: u16,
     writer: &mut W,
     work: &mut Work,
@@ -91,9 +92,9 @@ fn serve_line<W: Sink>(
 }
 
 /// Takes the next bytes.
-fn serve_bytes<W: Sink>(
+fn serve_bytes<L: Tells, W: Sink>(
     alloc: Global,
-    console: &mut Console,
+    console: &mut Console<L>,
     caller: u16,
     writer: &mut W,
     work: &mut Work,
@@ -124,9 +125,9 @@ fn serve_bytes<W: Sink>(
 }
 
 /// Answers the last line where no line feed ends it, and counts the lines.
-fn serve_end<W: Sink>(
+fn serve_end<L: Tells, W: Sink>(
     alloc: Global,
-    console: &mut Console,
+    console: &mut Console<L>,
     caller: u16,
     writer: &mut W,
     work: &mut Work,
@@ -198,9 +199,9 @@ pub fn give_up<W: Sink>(writer: &mut W) -> ServeFault
 
 /// Reads lines to the end of the input, over an empty line and a room for what is read, and hands on
 /// the answers before each read. It gives the number of lines, or none where the input had no end.
-fn serve_reads<R: Source, W: Sink>(
+fn serve_reads<L: Tells, R: Source, W: Sink>(
     alloc: Global,
-    console: &mut Console,
+    console: &mut Console<L>,
     caller: u16,
     reader: &mut R,
     writer: &mut W,
@@ -275,9 +276,9 @@ fn finish<W: Sink>(
 /// A carriage return directly before a line feed is no part of the line. An empty line, and one that
 /// begins with `#`, is answered by nothing; `session` by the session so far; any other that is no command, or
 /// has more than 16,384 bytes, by `? line N`. All memory but that of the calls is taken before the first read.
-pub fn serve<R: Source, W: Sink>(
+pub fn serve<L: Tells, R: Source, W: Sink>(
     alloc: Global,
-    console: &mut Console,
+    console: &mut Console<L>,
     caller: u16,
     reader: &mut R,
     writer: &mut W,

@@ -29,7 +29,7 @@ returns-in_default-clause-served g c = λ line keeps.
 pub returns-in-Some-clause-served : goal.returns-in-Some-clause-served
 returns-in-Some-clause-served g c = λ line keeps.
     let e = kept_whole c.args.asked.now.kept.now c.args.asked.now.long line c.if-asked.false keeps in
-    c.answer_call.ensures.served c.args.asked.now.number line (rw e (rw c.in-Some.is at c.in-Ok.ensures.found))
+    rw e (c.answer_call.ensures.served c.args.asked.now.number)
 
 pub returns-in-None-clause-served : goal.returns-in-None-clause-served
 returns-in-None-clause-served g c = λ line keeps.

@@ -1,7 +1,16 @@
-use Rattle.std.proofs.Common.{[], ◌∷◌, ◌++◌, ◌≡◌, ◌∙◌, ap, arith, sym, append_assoc}
+use Rattle.std.proofs.Common.{[], ◌∷◌, ◌++◌, ◌≡◌, ◌∙◌, ap, arith, refl, sym, append-nil, append_assoc}
 use Rattle.esx_text.proofs.ProgressLemmas.{progress_on, progress_of, feed_inside, length_behind}
 use Rattle.esx_text.proofs.FaultLemmas.{handed_on, stops_of}
 use Rattle.esx_text.proofs.service.serve_bytes.Goals as goal
+
+pub loop-piece-init : goal.loop-piece-init
+loop-piece-init g c = record {
+  progress = ([], refl, λ before known input start. progress_of _ _ _ _ _ _ _ _ _ (sym (append-nil input)) start);
+  failures = refl;
+  flushes = refl;
+  empty = c.requires.empty;
+  count = omega arith;
+}
 
 pub loop-piece-preserved : goal.loop-piece-preserved
 loop-piece-preserved g c =
