@@ -60,9 +60,9 @@ fn checksum(alloc: Global, work: &Work) -> Result<u64> {
         let rows = make_rows(alloc, work.rows, round)?;
         ensure!(are_rows(rows.as_slice()), "the rows are out of range");
         let targets = if work.in_chunks {
-            esx_average::targets(alloc, TAU, rows.as_slice(), work.need)?
+            esx_average::targets(alloc, rows.as_slice(), work.need)?
         } else {
-            esx_formulas::targets::targets(alloc, TAU, rows.as_slice(), work.need)?
+            esx_formulas::targets::targets(alloc, rows.as_slice(), work.need)?
         };
         for target in &targets {
             sum = sum.wrapping_mul(1_000_003).wrapping_add(u64::from(*target));
@@ -85,6 +85,7 @@ fn make_rows(alloc: Global, count: u8, round: u32) -> Result<Vec<Row>, AllocErro
             pages: 32768 + mixed(seed, 2, 32769),
             floor: mixed(seed, 3, 1024),
             active: mixed(seed, 4, 65537),
+            tau: TAU,
         })?;
     }
     Ok(rows)

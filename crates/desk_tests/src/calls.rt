@@ -1,7 +1,7 @@
 //! Which calls a caller makes: the same ones in every run, whatever the others do.
 
-use esx_events::{Boxed, Call, Event};
-use esx_types::{Bytes, Config, VmId, VmSpec};
+use esx_events::{Call, Event};
+use esx_types::{Config, SmallBytes, VmId, VmSpec};
 use std::alloc::{AllocError, Global};
 
 pub const SITE: Config = Config {
@@ -58,7 +58,7 @@ pub fn read(vm: VmId, page: u32, len: u32) -> Call {
 }
 
 pub fn write(alloc: Global, vm: VmId, page: u32, byte: u8) -> Result<Call, AllocError> {
-    let bytes = Boxed::new(alloc, Bytes::copy_of(alloc, &[byte])?)?;
+    let bytes = SmallBytes::copy_of(alloc, &[byte])?;
     Ok(Call::Do {
         event: Event::Write {
             vm,

@@ -32,7 +32,7 @@ pub fn signs_of_call(call: &Call) -> [u32; 3] {
 /// The first byte, where the answer has one.
 pub fn first_byte(answer: &Answer) -> Option<u8> {
     match answer {
-        Answer::Bytes { bytes } => bytes.get().as_slice().first().copied(),
+        Answer::Bytes { bytes } => bytes.as_slice().first().copied(),
         _ => None,
     }
 }

@@ -14,10 +14,10 @@ ghost use Rattle.esx_access.specs.Access.{popped_parts, come_changes, told, read
 
 use esx_changes::Plan;
 use esx_changes::counted::{push_counted, push_part, room};
-use esx_events::{Answer, Boxed, Refusal};
+use esx_events::{Answer, Refusal};
 use esx_frames::Mark;
 use esx_tables::{Change, Facts, Record, SiteTables, VmPart, VmTable};
-use esx_types::{Bytes, Config, FrameRow, Level, Listing, MapRow, VmId, VmState};
+use esx_types::{Bytes, Config, FrameRow, Level, Listing, MapRow, SmallBytes, VmId, VmState};
 use std::alloc::{AllocError, Global};
 
 /// Why an access is refused, before a frame is looked for.
@@ -71,9 +71,8 @@ fn told(alloc: Global, bytes: &[u8], at: u32, len: u32) -> Result<Answer, AllocE
     ensures { IfOk result (λ answer. answer ≡ told at len bytes.now) }
 {
     let part = front(back(bytes, at as usize), len as usize);
-    let bytes = Bytes::copy_of(alloc, part)?;
     Ok(Answer::Bytes {
-        bytes: Boxed::new(alloc, bytes)?,
+        bytes: SmallBytes::copy_of(alloc, part)?,
     })
 }
 
@@ -284,7 +283,7 @@ fn push_bytes(
 ) -> Result<(), AllocError>
     ensures { OnOk result (changes.new.items ≡ changes.old.items ++ BytesAt frame at new.now ∷ []) }
 {
-    let bytes = Bytes::copy_of(alloc, new)?;
+    let bytes = SmallBytes::copy_of(alloc, new)?;
     changes.push(Change::BytesAt {
         frame,
         offset: at,

@@ -115,7 +115,7 @@ pub go_is_accepted : (c : Config) (t : Scene) (n page at : ℕ) (new : List ℕ)
 unfolding next
 go_is_accepted c t n page at new e some fits =
     let a = advised c t n page helps.Go e in
-    let can = go_writes (can_write c t a.vm page) (list_any is_above_min t.site.vms) (first_claim t.site.tau (rows_of target_of t.site)) a.help in
+    let can = go_writes (can_write c t a.vm page) (list_any is_above_min t.site.vms) (first_claim (rows_of target_of t.site)) a.help in
     let parts = both_true (not (is_blocked t.level (standing a.vm))) (is_some (write_frame c t.site (place_at a.vm page))) can in
     let f = some_of (write_frame c t.site (place_at a.vm page)) parts.1 in
     accepted_next c t.level (write c t.site t.level n page at new) (write_goes c t.site t.level n page at new a.vm f.0 a.there a.runs a.below (not_true (is_blocked t.level (standing a.vm)) parts.0) f.1 some fits)
@@ -204,44 +204,44 @@ pub record IsRowOf (floor : Vm → ℕ) (n : ℕ) (vms : List (Option Vm)) (row 
   pub pages : row.pages ≡ resident vm
   pub least : row.floor ≡ floor vm
 
-pub row_of : (floor : Vm → ℕ) (n : ℕ) (vms : List (Option Vm)) (i : ℕ) → i < length (rows_from floor n vms) → IsRowOf floor n vms (row_at (rows_from floor n vms) i)
-row_of floor n [] i below = absurd (omega arith)
-row_of floor n (None ∷ vms) i below =
-    let r = row_of floor (n + 1) vms i below in
+pub row_of : (tau : ℕ) (floor : Vm → ℕ) (n : ℕ) (vms : List (Option Vm)) (i : ℕ) → i < length (rows_from tau floor n vms) → IsRowOf floor n vms (row_at (rows_from tau floor n vms) i)
+row_of tau floor n [] i below = absurd (omega arith)
+row_of tau floor n (None ∷ vms) i below =
+    let r = row_of tau floor (n + 1) vms i below in
     let number = r.number in
     record { vm = r.vm; at = suc r.at; there = r.there; number = omega (arith, number); pages = r.pages; least = r.least }
-row_of floor n (Some v ∷ vms) zero below = record { vm = v; at = zero; there = refl; number = omega arith; pages = refl; least = refl }
-row_of floor n (Some v ∷ vms) (suc i) below =
-    let r = row_of floor (n + 1) vms i (omega (arith, below)) in
+row_of tau floor n (Some v ∷ vms) zero below = record { vm = v; at = zero; there = refl; number = omega arith; pages = refl; least = refl }
+row_of tau floor n (Some v ∷ vms) (suc i) below =
+    let r = row_of tau floor (n + 1) vms i (omega (arith, below)) in
     let number = r.number in
     record { vm = r.vm; at = suc r.at; there = r.there; number = omega (arith, number); pages = r.pages; least = r.least }
 
 -- the row of a machine
-pub record HasRow (floor : Vm → ℕ) (n : ℕ) (vms : List (Option Vm)) (v : Vm) : Type 0 where
+pub record HasRow (tau : ℕ) (floor : Vm → ℕ) (n : ℕ) (vms : List (Option Vm)) (v : Vm) : Type 0 where
   pub at : ℕ
-  pub below : at < length (rows_from floor n vms)
-  pub pages : (row_at (rows_from floor n vms) at).pages ≡ resident v
-  pub least : (row_at (rows_from floor n vms) at).floor ≡ floor v
+  pub below : at < length (rows_from tau floor n vms)
+  pub pages : (row_at (rows_from tau floor n vms) at).pages ≡ resident v
+  pub least : (row_at (rows_from tau floor n vms) at).floor ≡ floor v
 
-pub has_row : (floor : Vm → ℕ) (n : ℕ) (vms : List (Option Vm)) (k : ℕ) (v : Vm) → get_or vms k None ≡ Some v → HasRow floor n vms v
-has_row floor n [] k v h = cc
-has_row floor n (None ∷ vms) zero v h = cc
-has_row floor n (None ∷ vms) (suc k) v h = (let r = has_row floor (n + 1) vms k v h in record { at = r.at; below = r.below; pages = r.pages; least = r.least })
-has_row floor n (Some w ∷ vms) zero v h =
+pub has_row : (tau : ℕ) (floor : Vm → ℕ) (n : ℕ) (vms : List (Option Vm)) (k : ℕ) (v : Vm) → get_or vms k None ≡ Some v → HasRow tau floor n vms v
+has_row tau floor n [] k v h = cc
+has_row tau floor n (None ∷ vms) zero v h = cc
+has_row tau floor n (None ∷ vms) (suc k) v h = (let r = has_row tau floor (n + 1) vms k v h in record { at = r.at; below = r.below; pages = r.pages; least = r.least })
+has_row tau floor n (Some w ∷ vms) zero v h =
     let one : w ≡ v = cc in
     record { at = zero; below = omega arith; pages = ap resident one; least = ap floor one }
-has_row floor n (Some w ∷ vms) (suc k) v h =
-    let r = has_row floor (n + 1) vms k v h in
+has_row tau floor n (Some w ∷ vms) (suc k) v h =
+    let r = has_row tau floor (n + 1) vms k v h in
     let below = r.below in
     record { at = suc r.at; below = omega (arith, below); pages = r.pages; least = r.least }
 
 -- what the first claim tells
-pub claims : (c : Config) (s : Site) (o : Option Claim) → IsSound c s → first_claim s.tau (rows_of target_of s) ≡ o → MatchOption o (AreAtFloor (rows_of target_of s)) (λ a. HasLeastRatio s.tau (rows_of target_of s) a.vm)
+pub claims : (c : Config) (s : Site) (o : Option Claim) → IsSound c s → first_claim (rows_of target_of s) ≡ o → MatchOption o (AreAtFloor (rows_of target_of s)) (λ a. HasLeastRatio (rows_of target_of s) a.vm)
 claims c s o sound e =
     let rows = rows_of target_of s in
     let are = rows_of_sound c s target_of sound (λ v fine. (let most = fine.most_target in omega (arith, most, fine.good.most_max))) in
-    let P : Option Claim → Type 0 = λ x. MatchOption x (AreAtFloor rows) (λ a. HasLeastRatio s.tau rows a.vm) in
-    subst P e (least_of_found s.tau rows (first_claim s.tau rows) (first_found s.tau rows sound.tau are))
+    let P : Option Claim → Type 0 = λ x. MatchOption x (AreAtFloor rows) (λ a. HasLeastRatio rows a.vm) in
+    subst P e (least_of_found rows (first_claim rows) (first_found rows are))
 
 -- Where a machine is to page out.
 
@@ -286,10 +286,10 @@ swap_out_is_accepted c t n page m word on_path e =
     let s = t.site in
     let sound = every_run_sound c on_path.path t on_path.config on_path.runs in
     let a = advised c t n page (helps.SwapOut m) e in
-    let names = swap_named (can_write c t a.vm page) (list_any is_above_min s.vms) (first_claim s.tau (rows_of target_of s)) m a.help in
+    let names = swap_named (can_write c t a.vm page) (list_any is_above_min s.vms) (first_claim (rows_of target_of s)) m a.help in
     let low = cannot_write c on_path.path t n page a.vm on_path.runs a.there names.not_now in
     let least = claims c s (Some names.claim) sound names.some in
-    let r = row_of target_of 0 s.vms least.at least.least.within in
+    let r = row_of s.tau target_of 0 s.vms least.at least.least.within in
     let number : r.at ≡ m = (let one = r.number in let two = least.is in let three = names.machine in omega (arith, one, two, three)) in
     let there : vm_at s m ≡ Some r.vm = ap (λ k. vm_at s k) (sym number) ∙ r.there in
     let above : r.vm.target < resident r.vm = (let one = least.least.above in let two = r.pages in let three = r.least in omega (arith, one, two, three)) in
@@ -353,9 +353,9 @@ replace_is_accepted c t n page word on_path e =
     let sound = every_run_sound c on_path.path t on_path.config on_path.runs in
     let a = advised c t n page helps.Replace e in
     let v = a.vm in
-    let names = replace_named (can_write c t v page) (list_any is_above_min s.vms) (first_claim s.tau (rows_of target_of s)) a.help in
+    let names = replace_named (can_write c t v page) (list_any is_above_min s.vms) (first_claim (rows_of target_of s)) a.help in
     let floors = claims c s None sound names.none in
-    let row = has_row target_of 0 s.vms n v a.there in
+    let row = has_row s.tau target_of 0 s.vms n v a.there in
     let within : resident v ≤ v.target = (let one = floors.none row.at row.below in let two = row.pages in let three = row.least in omega (arith, one, two, three)) in
     let free = none_of_both (is_low t.level) (nat_lt v.target (resident v)) (at_its_target v.target (resident v) within) in
     let lack = short c s (place_at v page) (not_both (not (is_blocked t.level (standing v))) (is_some (write_frame c s (place_at v page))) names.not_now (ap not free)) in

@@ -40,9 +40,9 @@ max_places (Some v ∷ vms) = ap (λ ps. v.places ++ ps) (max_places vms)
 pub rebalance_places : (c : Config) (s : Site) (level : Level) (r : Answer × Site) → rebalance c s level ≡ Ok r → all_places r.1 ≡ all_places s
 unfolding rebalance all_places
 rebalance_places c s High r h = ap all_places (sym (same_site (answers.Rebalanced 0 0) (record s { vms = map (option_map at_max) s.vms }) r h)) ∙ max_places s.vms
-rebalance_places c s Soft r h = ap all_places (sym (same_site _ (record s { vms = with_targets s.vms (targets_of s.tau (rows_of min_of s) (need c s)) }) r h)) ∙ places_retargeted s (targets_of s.tau (rows_of min_of s) (need c s))
-rebalance_places c s Hard r h = ap all_places (sym (same_site _ (record s { vms = with_targets s.vms (targets_of s.tau (rows_of min_of s) (need c s)) }) r h)) ∙ places_retargeted s (targets_of s.tau (rows_of min_of s) (need c s))
-rebalance_places c s Low r h = ap all_places (sym (same_site _ (record s { vms = with_targets s.vms (targets_of s.tau (rows_of min_of s) (need c s)) }) r h)) ∙ places_retargeted s (targets_of s.tau (rows_of min_of s) (need c s))
+rebalance_places c s Soft r h = ap all_places (sym (same_site _ (record s { vms = with_targets s.vms (targets_of (rows_of min_of s) (need c s)) }) r h)) ∙ places_retargeted s (targets_of (rows_of min_of s) (need c s))
+rebalance_places c s Hard r h = ap all_places (sym (same_site _ (record s { vms = with_targets s.vms (targets_of (rows_of min_of s) (need c s)) }) r h)) ∙ places_retargeted s (targets_of (rows_of min_of s) (need c s))
+rebalance_places c s Low r h = ap all_places (sym (same_site _ (record s { vms = with_targets s.vms (targets_of (rows_of min_of s) (need c s)) }) r h)) ∙ places_retargeted s (targets_of (rows_of min_of s) (need c s))
 
 pub rebalance_stays : (c : Config) (t u : Scene) (a : Answer) → Fits c t → next c t events.Rebalance ≡ Ok (a, u) → debt_of c u ≡ debt_of c t
 rebalance_stays c t u a fits h =

@@ -136,7 +136,7 @@ replaced c t u n page word r sound h after =
     let target = i.target in
     let can = page_comes c u i.vm page i.bytes i.frame i.place (omega (arith, full, most, target, fine.least_target)) in
     advice_is c u n page i.vm helps.Go (ap (λ x. vm_at x n) (sym after) ∙ i.there) (ap (λ x. not (is_running x)) i.state ∙ pass.0.0) (ap (λ k. nat_le k page) i.max ∙ pass.0.1.0)
-    (ap (λ b. cond b helps.Go (help_by (list_any is_above_min u.site.vms) (first_claim u.site.tau (rows_of target_of u.site)))) can)
+    (ap (λ b. cond b helps.Go (help_by (list_any is_above_min u.site.vms) (first_claim (rows_of target_of u.site)))) can)
   where
     taken_or : (a b : Bool) → (a || b) ≡ false → (a ≡ false) × (b ≡ false)
     taken_or false b h = (refl, h)
@@ -210,38 +210,38 @@ retargeted_vm (Some w ∷ vms) (t ∷ ts) (suc n) v h = (let r = retargeted_vm v
 
 -- Its row: as many pages, and the target as its floor.
 
-record RowAfter (n : ℕ) (vms : List (Option Vm)) (ts : List ℕ) (i : ℕ) : Type 0 where
-  below : i < length (rows_from target_of n (with_targets vms ts))
-  pages : (row_at (rows_from target_of n (with_targets vms ts)) i).pages ≡ (row_at (rows_from min_of n vms) i).pages
-  floor : (row_at (rows_from target_of n (with_targets vms ts)) i).floor ≡ get_or ts i 0
+record RowAfter (tau n : ℕ) (vms : List (Option Vm)) (ts : List ℕ) (i : ℕ) : Type 0 where
+  below : i < length (rows_from tau target_of n (with_targets vms ts))
+  pages : (row_at (rows_from tau target_of n (with_targets vms ts)) i).pages ≡ (row_at (rows_from tau min_of n vms) i).pages
+  floor : (row_at (rows_from tau target_of n (with_targets vms ts)) i).floor ≡ get_or ts i 0
 
-row_after : (n : ℕ) (vms : List (Option Vm)) (ts : List ℕ) (i : ℕ) → length ts ≡ length (rows_from min_of n vms) → i < length ts → RowAfter n vms ts i
-row_after n [] ts i len below = absurd (omega arith)
-row_after n (None ∷ vms) ts i len below = (let r = row_after (n + 1) vms ts i len below in record { below = r.below; pages = r.pages; floor = r.floor })
-row_after n (Some v ∷ vms) [] i len below = absurd (omega arith)
-row_after n (Some v ∷ vms) (t ∷ ts) zero len below = record { below = omega arith; pages = refl; floor = refl }
-row_after n (Some v ∷ vms) (t ∷ ts) (suc i) len below =
-    let r = row_after (n + 1) vms ts i (omega (arith, len)) (omega (arith, below)) in
+row_after : (tau n : ℕ) (vms : List (Option Vm)) (ts : List ℕ) (i : ℕ) → length ts ≡ length (rows_from tau min_of n vms) → i < length ts → RowAfter tau n vms ts i
+row_after tau n [] ts i len below = absurd (omega arith)
+row_after tau n (None ∷ vms) ts i len below = (let r = row_after tau (n + 1) vms ts i len below in record { below = r.below; pages = r.pages; floor = r.floor })
+row_after tau n (Some v ∷ vms) [] i len below = absurd (omega arith)
+row_after tau n (Some v ∷ vms) (t ∷ ts) zero len below = record { below = omega arith; pages = refl; floor = refl }
+row_after tau n (Some v ∷ vms) (t ∷ ts) (suc i) len below =
+    let r = row_after tau (n + 1) vms ts i (omega (arith, len)) (omega (arith, below)) in
     let less = r.below in
     record { below = omega (arith, less); pages = r.pages; floor = r.floor }
 
 -- Some machine has more than its least, so some pages can be revoked.
 
-spare_some : (n : ℕ) (vms : List (Option Vm)) → list_any is_above_min vms ≡ true → 1 ≤ sum_by spare (rows_from min_of n vms)
-spare_some n [] h = cc
-spare_some n (None ∷ vms) h = spare_some (n + 1) vms h
-spare_some n (Some v ∷ vms) h = of (has_more (standing v)) refl h (spare_some (n + 1) vms)
+spare_some : (tau n : ℕ) (vms : List (Option Vm)) → list_any is_above_min vms ≡ true → 1 ≤ sum_by spare (rows_from tau min_of n vms)
+spare_some tau n [] h = cc
+spare_some tau n (None ∷ vms) h = spare_some tau (n + 1) vms h
+spare_some tau n (Some v ∷ vms) h = of (has_more (standing v)) refl h (spare_some tau (n + 1) vms)
   where
     more : (a b : ℕ) → nat_lt a b ≡ true → 1 ≤ b - a
     more a b k = grind (arith, nat_tests)
 
-    of : (b : Bool) → has_more (standing v) ≡ b → (b || list_any is_above_min vms) ≡ true → (list_any is_above_min vms ≡ true → 1 ≤ sum_by spare (rows_from min_of (n + 1) vms)) → 1 ≤ sum_by spare (rows_from min_of n (Some v ∷ vms))
+    of : (b : Bool) → has_more (standing v) ≡ b → (b || list_any is_above_min vms) ≡ true → (list_any is_above_min vms ≡ true → 1 ≤ sum_by spare (rows_from tau min_of (n + 1) vms)) → 1 ≤ sum_by spare (rows_from tau min_of n (Some v ∷ vms))
     of true e k rest =
-        let a = sum_by-cons spare (row_of_vm n (min_of v) v) (rows_from min_of (n + 1) vms) in
+        let a = sum_by-cons spare (row_of_vm tau n (min_of v) v) (rows_from tau min_of (n + 1) vms) in
         let some = more v.spec.min (resident v) e in
         omega (arith, a, some)
     of false e k rest =
-        let a = sum_by-cons spare (row_of_vm n (min_of v) v) (rows_from min_of (n + 1) vms) in
+        let a = sum_by-cons spare (row_of_vm tau n (min_of v) v) (rows_from tau min_of (n + 1) vms) in
         let some = rest k in
         omega (arith, a, some)
 
@@ -251,8 +251,8 @@ record IsRevoked (rows : List Row) (ts : List ℕ) : Type 0 where
   within : at < length ts
   above : get_or ts at 0 < (row_at rows at).pages
 
-some_revoked : (tau : ℕ) (rows : List Row) (wanted : ℕ) (ts : List ℕ) → AreTargets tau rows wanted ts → 1 ≤ wanted → 1 ≤ sum_by spare rows → IsRevoked rows ts
-some_revoked tau rows wanted ts are some more = elim (below_or_above (all_held rows) ts (let count = are.count in omega (arith, length-map rows held, count))) [
+some_revoked : (rows : List Row) (wanted : ℕ) (ts : List ℕ) → AreTargets rows wanted ts → 1 ≤ wanted → 1 ≤ sum_by spare rows → IsRevoked rows ts
+some_revoked rows wanted ts are some more = elim (below_or_above (all_held rows) ts (let count = are.count in omega (arith, length-map rows held, count))) [
   | inl below ↦ (let none = gap-none (all_held rows) ts below in
       let is = revoked_is_gap rows ts in
       let total = are.total in
@@ -267,22 +267,22 @@ some_revoked tau rows wanted ts are some more = elim (below_or_above (all_held r
 ]
 
 claimed : (c : Config) (t u : Scene) (n page : ℕ) (w : Vm) (o : Option Claim) → IsSound c u.site → vm_at u.site n ≡ Some w → not (is_running w.state) ≡ false → nat_le w.spec.max page ≡ false → can_write c u w page ≡ false
-    → first_claim u.site.tau (rows_of target_of u.site) ≡ o → (AreAtFloor (rows_of target_of u.site) → ⊥) → (m : ℕ) × (advice c u n page ≡ Ok (helps.SwapOut m))
+    → first_claim (rows_of target_of u.site) ≡ o → (AreAtFloor (rows_of target_of u.site) → ⊥) → (m : ℕ) × (advice c u n page ≡ Ok (helps.SwapOut m))
 claimed c t u n page w None sound there runs below unable found some = absurd (some (claims c u.site None sound found))
 claimed c t u n page w (Some a) sound there runs below unable found some = (
   a.vm,
   advice_is c u n page w (helps.SwapOut a.vm) there runs below
-      (ap (λ b. cond b helps.Go (help_by (list_any is_above_min u.site.vms) (first_claim u.site.tau (rows_of target_of u.site)))) unable
+      (ap (λ b. cond b helps.Go (help_by (list_any is_above_min u.site.vms) (first_claim (rows_of target_of u.site)))) unable
       ∙ ap (help_by (list_any is_above_min u.site.vms)) found),
 )
 
 -- new targets at the deepest level
-lowly : (c : Config) (s : Site) (level : Level) (r : Answer × Site) → level ≡ Low → rebalance c s level ≡ Ok r → retargeted s (targets_of s.tau (rows_of min_of s) (need c s)) ≡ r.1
+lowly : (c : Config) (s : Site) (level : Level) (r : Answer × Site) → level ≡ Low → rebalance c s level ≡ Ok r → retargeted s (targets_of (rows_of min_of s) (need c s)) ≡ r.1
 unfolding rebalance
 lowly c s High r low h = cc
 lowly c s Soft r low h = cc
 lowly c s Hard r low h = cc
-lowly c s Low r low h = same_site _ (retargeted s (targets_of s.tau (rows_of min_of s) (need c s))) r h
+lowly c s Low r low h = same_site _ (retargeted s (targets_of (rows_of min_of s) (need c s))) r h
 
 wanted : (c : Config) (s : Site) → free_count c.frames s ≡ 0 → 1 ≤ need c s
 wanted c s none = omega (arith, none)
@@ -293,16 +293,16 @@ swap_out_follows c t u n page a fits advised h =
     let s = t.site in
     let b = taken.advised c t n page helps.Rebalance advised in
     let v = b.vm in
-    let names = reset_named (can_write c t v page) (list_any is_above_min s.vms) (first_claim s.tau (rows_of target_of s)) b.help in
+    let names = reset_named (can_write c t v page) (list_any is_above_min s.vms) (first_claim (rows_of target_of s)) b.help in
     let floors = claims c s None fits.sound names.none in
-    let row = has_row target_of 0 s.vms n v b.there in
+    let row = has_row s.tau target_of 0 s.vms n v b.there in
     let most : resident v ≤ v.target = (let one = floors.none row.at row.below in let two = row.pages in let three = row.least in omega (arith, one, two, three)) in
     let free = none_of_both (is_low t.level) (nat_lt v.target (resident v)) (at_its_target v.target (resident v) most) in
     let no_frame = not_both (not (is_blocked t.level (standing v))) (is_some (write_frame c s (place_at v page))) names.not_now (ap not free) in
     let none = none_free c.frames s (short c s (place_at v page) no_frame).none in
     let low = fits.low n v b.there none in
     let q = step_of c t events.Rebalance (a, u) h in
-    let ts = targets_of s.tau (rows_of min_of s) (need c s) in
+    let ts = targets_of (rows_of min_of s) (need c s) in
     let after : retargeted s ts ≡ u.site = lowly c s t.level q.0 low q.1 ∙ q.3 in
     let later = fits_next c t events.Rebalance (a, u) fits h in
     let w = retargeted_vm s.vms ts n v b.there in
@@ -312,10 +312,10 @@ swap_out_follows c t u n page a fits advised h =
     ap (λ x. is_some (write_frame c x (place_at w.vm page))) (sym after) ∙ ap (λ p. is_some (write_frame c (retargeted s ts) p)) place ∙ ap is_some (frame_same c s ts (place_at v page)) ∙ no_frame in
     let unable : can_write c u w.vm page ≡ false = none_of_both (not (is_blocked u.level (standing w.vm))) (is_some (write_frame c u.site (place_at w.vm page))) frame in
     let one = site_targets c s (need c s) fits.sound in
-    let are : AreTargets s.tau (rows_of min_of s) (need c s) ts = (one.one ts).1 refl in
-    let i = some_revoked s.tau (rows_of min_of s) (need c s) ts are (wanted c s none) (spare_some 0 s.vms names.some) in
-    let r = row_after 0 s.vms ts i.at are.count i.within in
+    let are : AreTargets (rows_of min_of s) (need c s) ts = (one.one ts).1 refl in
+    let i = some_revoked (rows_of min_of s) (need c s) ts are (wanted c s none) (spare_some s.tau 0 s.vms names.some) in
+    let r = row_after s.tau 0 s.vms ts i.at are.count i.within in
     let P : Site → Type 0 = λ x. AreAtFloor (rows_of target_of x) → ⊥ in
     let some : AreAtFloor (rows_of target_of (retargeted s ts)) → ⊥ = λ k. (
     let all = k.none i.at r.below in let pages = r.pages in let floor = r.floor in let above = i.above in absurd (omega (arith, all, pages, floor, above))) in
-    claimed c t u n page w.vm (first_claim u.site.tau (rows_of target_of u.site)) later.sound there (ap (λ x. not (is_running x)) w.state ∙ b.runs) (ap (λ k. nat_le k page) w.max ∙ b.below) unable refl (subst P after some)
+    claimed c t u n page w.vm (first_claim (rows_of target_of u.site)) later.sound there (ap (λ x. not (is_running x)) w.state ∙ b.runs) (ap (λ k. nat_le k page) w.max ∙ b.below) unable refl (subst P after some)

@@ -60,7 +60,7 @@ pub read_is_accepted : (c : Config) (t : Scene) (n page at len : ℕ) → advice
 unfolding next
 read_is_accepted c t n page at len e some fits =
     let a = advised c t n page helps.Go e in
-    let can = go_writes (can_write c t a.vm page) (list_any is_above_min t.site.vms) (first_claim t.site.tau (rows_of target_of t.site)) a.help in
+    let can = go_writes (can_write c t a.vm page) (list_any is_above_min t.site.vms) (first_claim (rows_of target_of t.site)) a.help in
     let parts = both_true (not (is_blocked t.level (standing a.vm))) (is_some (write_frame c t.site (place_at a.vm page))) can in
     let f = some_of (write_frame c t.site (place_at a.vm page)) parts.1 in
     let g = read_too c t.site (place_at a.vm page) f.0 f.1 in

@@ -1,9 +1,9 @@
 -- Where all pages that cost more than a limit are revoked, and these are no more than are needed, none is revoked that the targets leave.
 use Rattle.std.proofs.Common.{◌≡◌, ℕ, suc, ◌+◌, ◌-◌, ◌*◌, ◌/◌, ◌<◌, ◌≤◌, List, [], ◌∷◌, length, get_or, refl, sym, ◌∙◌, inl, inr, arith}
-use Rattle.std.proofs.Math.Nat.{mul-le-mul_left, div-mul-le_self, div-lt_iff_lt-mul, mul-le-mul_right}
+use Rattle.std.proofs.Math.Nat.{mul-le-mul, mul-le-mul_left, div-mul-le_self, div-lt_iff_lt-mul, mul-le-mul_right}
 use Rattle.std.proofs.lemmas.Bool.{cases_lt, cases_eq}
 use Rattle.esx_formulas.specs.declared.targets.Row.{Row}
-use Rattle.esx_formulas.specs.Ratio.{claim, ComesNoLater, AreRows, row_at}
+use Rattle.esx_formulas.specs.Ratio.{claim, ComesNoLater, IsRow, AreRows, row_at}
 use Rattle.esx_formulas.specs.Targets.{held, AreTargets}
 use Rattle.esx_formulas.proofs.Gaps.{gap, AreBelow, below_from_places, below_length, below_at, gap_chain, gap-at-le}
 use Rattle.esx_formulas.proofs.RatioLaws.{price_above_none}
@@ -11,9 +11,24 @@ use Rattle.esx_formulas.proofs.TargetLaws.{all_held, revoked_is_gap, held_at, be
 use Rattle.esx_average.specs.Bulk.{kept, dearer, AreKept, WereRevoked}
 use Rattle.esx_average.proofs.ChunkLaws.{IsPartial, partial_count}
 
+abbrev weight : Row → ℕ
+weight row = row.shares * (100 - row.tau)
+
+abbrev price : Row → ℕ
+price row = 6553600 - row.tau * row.active
+
+weight_above_none : (row : Row) → IsRow row → 1 ≤ weight row
+weight_above_none row good =
+    let left : 1 ≤ 100 - row.tau = omega (arith, good.most_tau) in
+    mul-le-mul good.least_shares left
+
+-- of two products over one unit the order is that without it
+same_unit : (a b c d : ℕ) → a * b ≤ c * d → a * (b * 128) ≤ c * (d * 128)
+same_unit a b c d p = omega arith
+
 -- a page that costs more than a limit comes before one that does not
-clash : (over_i under_i over_j under_j limit : ℕ) → 1 ≤ over_j → over_j * under_i ≤ over_i * under_j → under_j ≤ over_j * limit → over_i * limit < under_i → ⊥
-clash over_i under_i over_j under_j limit some fair cheap dear =
+clash_of : (over_i under_i over_j under_j limit : ℕ) → 1 ≤ over_j → over_j * under_i ≤ over_i * under_j → under_j ≤ over_j * limit → over_i * limit < under_i → ⊥
+clash_of over_i under_i over_j under_j limit some fair cheap dear =
     let a : over_i * under_j ≤ over_i * (over_j * limit) = mul-le-mul_left over_i cheap in
     let b : over_j * (over_i * limit + 1) ≤ over_j * under_i = mul-le-mul_left over_j (omega arith) in
     absurd (omega arith)
@@ -28,23 +43,32 @@ cheap_page product price n p =
 dear_page : (product price n : ℕ) → 0 < price → product / price < n → product < n * price
 dear_page product price n pos p = (div-lt_iff_lt-mul pos).0 p
 
+clash : (a b : Row) (m n limit : ℕ) → IsRow a → IsRow b → weight b * (m * price a) ≤ weight a * (n * price b) →
+    n ≤ weight b * limit / (price b * 128) → weight a * limit / (price a * 128) < m → ⊥
+clash a b m n limit good_a good_b fair cheap dear =
+    let pos : 0 < price a = price_above_none a.tau a.active good_a.most_tau good_a.most_active in
+    clash_of (weight a) (m * (price a * 128)) (weight b) (n * (price b * 128)) limit (weight_above_none b good_b)
+    (omega (arith, same_unit (weight b) (m * price a) (weight a) (n * price b) fair))
+    (cheap_page (weight b * limit) (price b * 128) n cheap)
+    (dear_page (weight a * limit) (price a * 128) m (omega arith) dear)
+
 -- what is revoked is how far the rows fall
-dearer_is_gap : (tau : ℕ) (rows : List Row) (limit : ℕ) (t after : List ℕ) → length t ≡ length rows → AreKept tau rows limit t after →
-    dearer tau rows limit t ≡ gap t after
-dearer_is_gap tau [] limit [] after e k = refl
-dearer_is_gap tau [] limit (x ∷ xs) after e k = absurd (omega arith)
-dearer_is_gap tau (row ∷ rows) limit [] after e k = absurd (omega arith)
-dearer_is_gap tau (row ∷ rows) limit (x ∷ xs) [] e k = absurd (omega (arith, k.count))
-dearer_is_gap tau (row ∷ rows) limit (x ∷ xs) (y ∷ ys) e k =
-    let here : y ≡ kept tau row limit x = k.each 0 (omega arith) in
-    let rest : dearer tau rows limit xs ≡ gap xs ys =
-    dearer_is_gap tau rows limit xs ys (omega arith) (record { count = omega (arith, k.count); each = λ i p. k.each (suc i) (omega arith) }) in
+dearer_is_gap : (rows : List Row) (limit : ℕ) (t after : List ℕ) → length t ≡ length rows → AreKept rows limit t after →
+    dearer rows limit t ≡ gap t after
+dearer_is_gap [] limit [] after e k = refl
+dearer_is_gap [] limit (x ∷ xs) after e k = absurd (omega arith)
+dearer_is_gap (row ∷ rows) limit [] after e k = absurd (omega arith)
+dearer_is_gap (row ∷ rows) limit (x ∷ xs) [] e k = absurd (omega (arith, k.count))
+dearer_is_gap (row ∷ rows) limit (x ∷ xs) (y ∷ ys) e k =
+    let here : y ≡ kept row limit x = k.each 0 (omega arith) in
+    let rest : dearer rows limit xs ≡ gap xs ys =
+    dearer_is_gap rows limit xs ys (omega arith) (record { count = omega (arith, k.count); each = λ i p. k.each (suc i) (omega arith) }) in
     rw (here, rest) refl
 
-module _ (tau : ℕ) (rows : List Row) (low : tau ≤ 99) (are : AreRows rows) (need : ℕ) (t after : List ℕ) (left limit : ℕ)
-    (h : IsPartial tau rows need t left) (k : AreKept tau rows limit t after) where
+module _ (rows : List Row) (are : AreRows rows) (need : ℕ) (t after : List ℕ) (left limit : ℕ)
+    (h : IsPartial rows need t left) (k : AreKept rows limit t after) where
   count : length t ≡ length rows
-  count = partial_count tau rows need t left h
+  count = partial_count rows need t left h
 
   falls : AreBelow after t
   falls = below_from_places after t (k.count ∙ sym count) (λ i p. omega (arith, k.each i (omega (arith, count))))
@@ -52,24 +76,19 @@ module _ (tau : ℕ) (rows : List Row) (low : tau ≤ 99) (are : AreRows rows) (
   held_gap : gap (all_held rows) after ≡ gap (all_held rows) t + gap t after
   held_gap = gap_chain (all_held rows) t after h.below falls
 
-  module _ (fits : gap t after ≤ left) (targets : List ℕ) (are_targets : AreTargets tau rows need targets) where
+  module _ (fits : gap t after ≤ left) (targets : List ℕ) (are_targets : AreTargets rows need targets) where
     -- where one row fell below its target, none is left above its target
     others : (i j : ℕ) → i < length rows → j < length rows → get_or after i 0 < get_or targets i 0 → get_or targets j 0 < get_or after j 0 → ⊥
     others i j p q far near =
-        let price_i : ℕ = 6553600 - tau * (row_at rows i).active in
-        let price_j : ℕ = 6553600 - tau * (row_at rows j).active in
         let target_i : get_or targets i 0 ≤ get_or t i 0 = below_at targets t i (h.safe targets are_targets) in
         let held_j : get_or t j 0 ≤ held (row_at rows j) = omega (arith, below_at t (all_held rows) j h.below, held_at rows j q) in
-        let dear : (row_at rows i).shares * limit / price_i < get_or targets i 0 = omega (arith, k.each i p) in
+        let dear : weight (row_at rows i) * limit / (price (row_at rows i) * 128) < get_or targets i 0 = omega (arith, k.each i p) in
         let above : (row_at rows i).floor < get_or targets i 0 = omega (arith, k.each i p) in
-        let cheap : get_or targets j 0 + 1 ≤ (row_at rows j).shares * limit / price_j = omega (arith, k.each j q, are_targets.least j q) in
+        let cheap : get_or targets j 0 + 1 ≤ weight (row_at rows j) * limit / (price (row_at rows j) * 128) = omega (arith, k.each j q, are_targets.least j q) in
         let paid : get_or targets j 0 < held (row_at rows j) = omega (arith, k.each j q) in
-        let fair : ComesNoLater (claim tau (row_at rows j) (get_or targets j 0 + 1)) (claim tau (row_at rows i) (get_or targets i 0)) =
+        let fair : ComesNoLater (claim (row_at rows j) (get_or targets j 0 + 1)) (claim (row_at rows i) (get_or targets i 0)) =
         are_targets.fair j i q p paid above in
-        clash (row_at rows i).shares (get_or targets i 0 * price_i) (row_at rows j).shares ((get_or targets j 0 + 1) * price_j) limit
-        (are.each j q).least_shares fair.ratio
-        (cheap_page ((row_at rows j).shares * limit) price_j (get_or targets j 0 + 1) cheap)
-        (dear_page ((row_at rows i).shares * limit) price_i (get_or targets i 0) (price_above_none tau (row_at rows i).active low (are.each i p).most_active) dear)
+        clash (row_at rows i) (row_at rows j) (get_or targets i 0) (get_or targets j 0 + 1) limit (are.each i p) (are.each j q) fair.ratio cheap dear
 
     -- so no row fell below its target
     stays : (i : ℕ) → i < length rows → get_or targets i 0 ≤ get_or after i 0
@@ -84,14 +103,14 @@ module _ (tau : ℕ) (rows : List Row) (low : tau ≤ 99) (are : AreRows rows) (
               ] in
               let below : AreBelow after targets = below_from_places after targets (k.count ∙ sym are_targets.count) all in
               let chain : gap (all_held rows) after ≡ gap (all_held rows) targets + gap targets after =
-              gap_chain (all_held rows) targets after (below_held tau need rows targets are_targets) below in
+              gap_chain (all_held rows) targets after (below_held need rows targets are_targets) below in
               let part : get_or targets i 0 - get_or after i 0 ≤ gap targets after = gap-at-le targets after i (omega (arith, k.count)) in
               absurd (omega (arith, held_gap, h.sum, are_targets.total, revoked_is_gap rows t, revoked_is_gap rows targets))
         ]
 
-  bulk_after : (pages : ℕ) → pages ≡ dearer tau rows limit t → pages ≤ left → IsPartial tau rows need after (left - pages)
+  bulk_after : (pages : ℕ) → pages ≡ dearer rows limit t → pages ≤ left → IsPartial rows need after (left - pages)
   bulk_after pages sum fits =
-      let is_gap : pages ≡ gap t after = sum ∙ dearer_is_gap tau rows limit t after count k in
+      let is_gap : pages ≡ gap t after = sum ∙ dearer_is_gap rows limit t after count k in
       record {
         below = below_from_places after (all_held rows) (below_length after t falls ∙ below_length t (all_held rows) h.below)
             (λ i p. omega (arith, below_at after t i falls, below_at t (all_held rows) i h.below));
@@ -101,14 +120,14 @@ module _ (tau : ℕ) (rows : List Row) (low : tau ≤ 99) (are : AreRows rows) (
       }
 
 -- many pages at once were revoked, or none
-pub partial_bulk : (tau : ℕ) (rows : List Row) (need : ℕ) (t after : List ℕ) (left pages : ℕ) → tau ≤ 99 → AreRows rows → IsPartial tau rows need t left →
-    pages ≤ left → (pages ≡ 0 → after ≡ t) → (0 < pages → WereRevoked tau rows t after pages) → IsPartial tau rows need after (left - pages)
-partial_bulk tau rows need t after left pages low are h fits none some =
+pub partial_bulk : (rows : List Row) (need : ℕ) (t after : List ℕ) (left pages : ℕ) → AreRows rows → IsPartial rows need t left →
+    pages ≤ left → (pages ≡ 0 → after ≡ t) → (0 < pages → WereRevoked rows t after pages) → IsPartial rows need after (left - pages)
+partial_bulk rows need t after left pages are h fits none some =
     elim (cases_eq pages 0) [
       | inl e ↦
           let same : left - pages ≡ left = omega arith in
           rw (none e, same) h
       | inr ne ↦
-          let were : WereRevoked tau rows t after pages = some (omega arith) in
-          bulk_after tau rows low are need t after left were.limit h were.rest pages were.sum fits
+          let were : WereRevoked rows t after pages = some (omega arith) in
+          bulk_after rows are need t after left were.limit h were.rest pages were.sum fits
     ]

@@ -15,15 +15,19 @@ ghost use Rattle.std.specs.List.{AllWithin};
 ghost use Rattle.esx_formulas.specs.Ratio.{IsRow, AreRows, row_at};
 ghost use Rattle.esx_average.specs.Bulk.{rate, IsPart, IsAbove};
 
-use crate::bulk::price;
+use crate::bulk::PARTS;
 use esx_formulas::Row;
+use esx_formulas::ratio::{price, weight};
 use esx_types::VM_NUMBERS;
 
 /// The unit in which rates are told.
 const UNIT: u64 = 1 << 43;
 
+/// The unit of a rate of one, in which a limit is told in parts.
+const WHOLE_RATE: u64 = UNIT / PARTS;
+
 /// A limit that no page costs more than.
-const HIGHEST: u64 = 1 << 39;
+const HIGHEST: u64 = 1 << 46;
 
 /// How many limits are tried at most: two for each row that they settle.
 const MOST_TRIES: usize = 2 * VM_NUMBERS;
@@ -51,19 +55,17 @@ struct Sums {
 }
 
 /// How many of a row's pages cost no more than a limit of one, in units of 1/2^43, rounded down.
-fn rate(tau: u32, row: &Row) -> u64
-    requires tax { tau ≤ 99 }
+fn rate(row: &Row) -> u64
     requires row { IsRow row.now }
-    ensures value { result ≡ rate tau row.now }
+    ensures value { result ≡ rate row.now }
     ensures most { result ≤ 140737488355328 }
 {
-    u64::from(row.shares) * UNIT / price(tau, row)
+    u64::from(weight(row)) * WHOLE_RATE / price(row)
 }
 
 /// The parts of the rows that have pages above their floors, in front, and how many they are. Rows at their
 /// least can revoke nothing, and are left out.
-fn open_parts(tau: u32, rows: &[Row], targets: &[u32], parts: &mut [Part; VM_NUMBERS]) -> usize
-    requires tax { tau ≤ 99 }
+fn open_parts(rows: &[Row], targets: &[u32], parts: &mut [Part; VM_NUMBERS]) -> usize
     requires rows { AreRows rows.now }
     requires count { length targets.now ≡ length rows.now }
     requires most { (i : ℕ) → i < length targets.now → slice_index targets.now i ≤ 65536 }
@@ -77,7 +79,7 @@ fn open_parts(tau: u32, rows: &[Row], targets: &[u32], parts: &mut [Part; VM_NUM
         let pages = targets[i];
         if row.floor < pages {
             parts[count] = Part {
-                rate: rate(tau, row),
+                rate: rate(row),
                 pages,
                 floor: row.floor,
             };
@@ -108,8 +110,8 @@ fn limit_of(sums: &Sums, pages: u32) -> u64
     requires pages { sums.now.pages ≤ 2097152 }
     requires rate { 0 < sums.now.rate }
     requires some { 1 ≤ pages }
-    ensures value { result ≡ min ((sums.now.pages - pages) * 8796093022208 / sums.now.rate + 1) 549755813888 }
-    ensures most { result ≤ 549755813888 }
+    ensures value { result ≡ min ((sums.now.pages - pages) * 8796093022208 / sums.now.rate + 1) 70368744177664 }
+    ensures most { result ≤ 70368744177664 }
 {
     let kept = u64::from(sums.pages.saturating_sub(pages));
     (kept * UNIT / sums.rate + 1).min(HIGHEST)
@@ -118,7 +120,7 @@ fn limit_of(sums: &Sums, pages: u32) -> u64
 /// About how many pages a row keeps, where those that cost more than a limit are revoked: rounded down.
 fn kept_about(part: &Part, limit: u64) -> u32
     requires part { IsPart part.now }
-    requires limit { limit ≤ 549755813888 }
+    requires limit { limit ≤ 70368744177664 }
     ensures value { result ≡ min part.now.pages (max (limit * part.now.rate / 8796093022208) part.now.floor) }
     ensures most { result ≤ part.now.pages }
 {
@@ -130,7 +132,7 @@ fn kept_about(part: &Part, limit: u64) -> u32
 fn count_about(parts: &[Part], limit: u64) -> u32
     requires parts { All IsPart parts.now }
     requires few { length parts.now ≤ 32 }
-    requires limit { limit ≤ 549755813888 }
+    requires limit { limit ≤ 70368744177664 }
     ensures { result ≤ 2097152 }
 {
     let mut count = 0;
@@ -160,7 +162,7 @@ fn count_above_floors(rows: &[Row], targets: &[u32]) -> u32
 fn settle(parts: &mut [Part; VM_NUMBERS], count: usize, limit: u64, at_floors: bool) -> (usize, u32)
     requires parts { All IsPart parts.old }
     requires count { count ≤ 32 }
-    requires limit { limit ≤ 549755813888 }
+    requires limit { limit ≤ 70368744177664 }
     ensures parts { All IsPart parts.new }
     ensures few { result.0 ≤ count }
 {
@@ -182,19 +184,18 @@ fn settle(parts: &mut [Part; VM_NUMBERS], count: usize, limit: u64, at_floors: b
 /// A limit that `left` pages or a few less cost more than, mostly.
 ///
 /// It aims somewhat below what is left, since a count is rounded up, and lower where this was not enough.
-pub(crate) fn find_limit(tau: u32, rows: &[Row], targets: &[u32], left: u32) -> u64
-    requires tax { tau ≤ 99 }
+pub(crate) fn find_limit(rows: &[Row], targets: &[u32], left: u32) -> u64
     requires rows { AreRows rows.now }
     requires count { length targets.now ≡ length rows.now }
     requires most { (i : ℕ) → i < length targets.now → slice_index targets.now i ≤ 65536 }
     requires left { left ≤ 2097152 }
-    ensures { result ≤ 549755813888 }
+    ensures { result ≤ 70368744177664 }
 {
     if count_above_floors(rows, targets) <= left {
         return 0;
     }
     let mut parts = [NO_PART; VM_NUMBERS];
-    let mut count = open_parts(tau, rows, targets, &mut parts);
+    let mut count = open_parts(rows, targets, &mut parts);
     let mut left = left;
     let mut found = HIGHEST;
     let mut stuck = false;

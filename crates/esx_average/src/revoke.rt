@@ -14,7 +14,7 @@ use std::alloc::{AllocError, Global};
 /// The most pages that are revoked at once.
 const MOST_PAGES: u32 = 65536;
 
-/// The target of each row where `need` pages are needed, at a tax of `tau` percent, 0 to 99.
+/// The target of each row where `need` pages are needed.
 ///
 /// As many pages are revoked as are needed and stand above the floors, each from the row of least ratio
 /// at what it then has. The rows stand in order of machine, and a target lies between a row's floor and
@@ -25,21 +25,20 @@ const MOST_PAGES: u32 = 65536;
 /// row whose last page of a chunk comes first. So each size of a chunk takes at most one step for each row,
 /// and a step looks at every row: the time grows with the square of the rows and with the logarithm of what
 /// is revoked from each, and most often, after the bulk, with the rows alone.
-pub fn targets(alloc: Global, tau: u32, rows: &[Row], need: u32) -> Result<Vec<u32>, AllocError>
-    requires tax { tau ≤ 99 }
+pub fn targets(alloc: Global, rows: &[Row], need: u32) -> Result<Vec<u32>, AllocError>
     requires rows { AreRows rows.now }
-    ensures fits { IfOk result (λ v. AreTargets tau rows.now need v.items) }
-    ensures value { IfOk result (λ v. v.items ≡ targets_of tau rows.now need) }
+    ensures fits { IfOk result (λ v. AreTargets rows.now need v.items) }
+    ensures value { IfOk result (λ v. v.items ≡ targets_of rows.now need) }
 {
     let mut targets = held(alloc, rows)?;
     let mut left = spare(rows).min(need);
-    left -= revoke_in_bulk(tau, rows, &mut targets, left);
+    left -= revoke_in_bulk(rows, &mut targets, left);
     let mut chunk = MOST_PAGES;
     while left > 0 {
         if left <= rows.len() as u32 * (chunk - 1) {
             chunk /= 2;
         } else {
-            let Some(payer) = next_payer(tau, rows, targets.as_slice(), chunk - 1) else {
+            let Some(payer) = next_payer(rows, targets.as_slice(), chunk - 1) else {
                 unreachable!("some row has a chunk");
             };
             targets[payer] -= chunk;
@@ -61,12 +60,11 @@ fn spare(rows: &[Row]) -> u32
 
 /// The row that comes first with `less` pages fewer than its target, of those that then have some above
 /// their floor.
-fn next_payer(tau: u32, rows: &[Row], targets: &[u32], less: u32) -> Option<usize>
-    requires tax { tau ≤ 99 }
+fn next_payer(rows: &[Row], targets: &[u32], less: u32) -> Option<usize>
     requires rows { AreRows rows.now }
     requires count { length targets.now ≡ length rows.now }
     requires most { (i : ℕ) → i < length targets.now → slice_index targets.now i ≤ 65536 }
-    ensures { IsBestBelow tau rows.now (λ i. slice_index targets.now i - less) (length rows.now) result }
+    ensures { IsBestBelow rows.now (λ i. slice_index targets.now i - less) (length rows.now) result }
 {
     let mut best: Option<usize> = None;
     for (i, row) in rows.iter().enumerate() {
@@ -75,8 +73,7 @@ fn next_payer(tau: u32, rows: &[Row], targets: &[u32], less: u32) -> Option<usiz
             continue;
         }
         match best {
-            Some(b)
-                if comes_no_later_at(tau, &rows[b], targets[b].saturating_sub(less), row, pages) =>
+            Some(b) if comes_no_later_at(&rows[b], targets[b].saturating_sub(less), row, pages) =>
                 {}
             _ => best = Some(i),
         }

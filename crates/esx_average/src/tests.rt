@@ -34,6 +34,7 @@ fn an_open_period_counts(rt: HostRuntime) {
     assert_eq!(rt; idle.active(Some((1, 1))), 33792);
 }
 
+/// A row at a tax of 75 percent.
 fn row(vm: u8, shares: u32, pages: u32, floor: u32, active: u32) -> Result<Row, Fail> {
     let vm = VmId::new(vm).ok_or("no machine has this number")?;
     Ok(Row {
@@ -42,10 +43,16 @@ fn row(vm: u8, shares: u32, pages: u32, floor: u32, active: u32) -> Result<Row, 
         pages,
         floor,
         active,
+        tau: 75,
     })
 }
 
-/// The targets of rows where pages are needed at a tax of 75 percent, by both ways to find them.
+/// A row at a tax of its own.
+fn at_tax(tau: u32, row: Row) -> Row {
+    Row { tau, ..row }
+}
+
+/// The targets of rows where pages are needed, by both ways to find them.
 fn expect_targets(
     rt: &impl Abort,
     alloc: Global,
@@ -54,8 +61,8 @@ fn expect_targets(
     expected: &[u32],
 ) -> Result<(), Fail> {
     assert!(rt; are_rows(rows));
-    assert_eq!(rt; targets(alloc, 75, rows, need)?.as_slice(), expected);
-    assert_eq!(rt; plain::targets(alloc, 75, rows, need)?.as_slice(), expected);
+    assert_eq!(rt; targets(alloc, rows, need)?.as_slice(), expected);
+    assert_eq!(rt; plain::targets(alloc, rows, need)?.as_slice(), expected);
     Ok(())
 }
 
@@ -105,6 +112,38 @@ fn a_machine_at_its_least_changes_nothing_for_seven_others(rt: HostRuntime) -> R
     ];
     let expected = [2000, 19862, 19862, 19862, 19862, 19862, 19863, 19863];
     expect_targets(&rt, rt.alloc(), &rows, 2000, &expected)
+}
+
+#[test]
+fn machines_at_taxes_of_their_own_pay_in_bulk(rt: HostRuntime) -> Result<(), Fail> {
+    let rows = [
+        at_tax(0, row(0, 1000, 1000, 2, 0)?),
+        at_tax(99, row(1, 2000, 1010, 3, 8192)?),
+        at_tax(50, row(2, 3000, 1020, 4, 16384)?),
+        at_tax(75, row(3, 4000, 1030, 5, 24576)?),
+        at_tax(10, row(4, 5000, 1040, 6, 32768)?),
+        at_tax(90, row(5, 6000, 1050, 7, 40960)?),
+        at_tax(75, row(6, 7000, 1060, 8, 49152)?),
+        at_tax(98, row(7, 8000, 1070, 9, 57344)?),
+    ];
+    let expected = [329, 7, 564, 458, 1040, 452, 1060, 370];
+    expect_targets(&rt, rt.alloc(), &rows, 4000, &expected)
+}
+
+#[test]
+fn the_dearest_and_the_cheapest_pages_compare(rt: HostRuntime) -> Result<(), Fail> {
+    let rows = [
+        at_tax(99, row(0, 1, 60000, 59000, 0)?),
+        at_tax(0, row(1, 1048576, 50000, 49000, 65536)?),
+        at_tax(75, row(2, 1, 60000, 59500, 0)?),
+        at_tax(99, row(3, 1048576, 65536, 65000, 0)?),
+        at_tax(50, row(4, 500, 40000, 39900, 30000)?),
+        at_tax(99, row(5, 1, 65536, 65536, 0)?),
+        at_tax(0, row(6, 1000, 30000, 29999, 0)?),
+        at_tax(99, row(7, 1, 65536, 64000, 65536)?),
+    ];
+    let expected = [59000, 50000, 59500, 65536, 40000, 65536, 30000, 64536];
+    expect_targets(&rt, rt.alloc(), &rows, 2500, &expected)
 }
 
 #[test]

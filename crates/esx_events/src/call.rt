@@ -324,10 +324,14 @@ pub struct Line {
     pub reply: Reply,
 }
 
-const _: () = prove!(size_of::<Call>() == 32);
+const _: () = prove!(size_of::<Event>() == 40);
 
-const _: () = prove!(size_of::<Answer>() == 16);
+const _: () = prove!(size_of::<Call>() == 48);
 
-const _: () = prove!(size_of::<Said>() == 24);
+const _: () = prove!(size_of::<Answer>() == 32);
 
-const _: () = prove!(size_of::<Line>() == 72);
+const _: () = prove!(size_of::<Said>() == 40);
+
+const _: () = prove!(size_of::<Reply>() == 48);
+
+const _: () = prove!(size_of::<Line>() == 104);

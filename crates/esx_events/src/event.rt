@@ -3,7 +3,7 @@
 ghost use Rattle.std.specs.Prelude.{◌≡◌, IfOk};
 
 use crate::boxed::Boxed;
-use esx_types::{Bytes, Level, Rows, VmId, VmSpec};
+use esx_types::{Level, Rows, SmallBytes, VmId, VmSpec};
 use std::alloc::{AllocError, AllocFailed};
 
 /// What changes the machine.
@@ -30,7 +30,7 @@ pub enum Event {
         vm: VmId,
         page: u32,
         at: u32,
-        bytes: Boxed<Bytes>,
+        bytes: SmallBytes,
     },
     /// The guest's balloon driver asks how many pages it is to lend.
     Ask {
@@ -93,13 +93,6 @@ pub enum Event {
     },
 }
 
-fn copy_bytes(bytes: &Boxed<Bytes>) -> Result<Boxed<Bytes>, AllocError>
-    ensures { IfOk result (λ copy. copy ≡ bytes.now) }
-{
-    let copy = bytes.get().copy()?;
-    Boxed::new(bytes.allocator(), copy)
-}
-
 fn copy_words(words: &Boxed<Rows<u64>>) -> Result<Boxed<Rows<u64>>, AllocError>
     ensures { IfOk result (λ copy. copy ≡ words.now) }
 {
@@ -133,7 +126,7 @@ impl Event {
                 vm: *vm,
                 page: *page,
                 at: *at,
-                bytes: copy_bytes(bytes)?,
+                bytes: bytes.copy()?,
             }),
             Event::Ask { vm } => Ok(Event::Ask { vm: *vm }),
             Event::Lend { vm, page } => Ok(Event::Lend {
@@ -218,7 +211,7 @@ pub enum Answer {
         overhead: u32,
     },
     Bytes {
-        bytes: Boxed<Bytes>,
+        bytes: SmallBytes,
     },
     Done,
     /// How many pages the balloon is to lend, how many it lends, and how often it was reset.
@@ -292,7 +285,7 @@ impl Answer {
                 overhead: *overhead,
             }),
             Answer::Bytes { bytes } => Ok(Answer::Bytes {
-                bytes: copy_bytes(bytes)?,
+                bytes: bytes.copy()?,
             }),
             Answer::Done => Ok(Answer::Done),
             Answer::Goal { goal, lent, epoch } => Ok(Answer::Goal {

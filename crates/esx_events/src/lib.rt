@@ -1,6 +1,6 @@
 //! What is said to a machine and its console: all events with their answers and refusals, all calls with
-//! their replies, and the lines of a log. The rare large parts stand on the heap, so that a line of a log
-//! takes 72 bytes.
+//! their replies, and the lines of a log. A few bytes stand in place, and the rare large parts on the heap:
+//! a line of a log takes 104 bytes.
 #![tactic(auto)]
 
 pub mod boxed;

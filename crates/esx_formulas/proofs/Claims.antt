@@ -44,15 +44,15 @@ test_from_comes a b h =
           or_right _ _ (and_from _ _ (eq-eqb _ _ same) (le-leb _ _ (h.tie same)))
     ]
 
-module _ (tau : ℕ) (rows : List Row) where
+module _ (rows : List Row) where
   abbrev pub own_pages : ℕ → ℕ
   own_pages i = (row_at rows i).pages
 
   -- the claim of the row that comes first of n rows
   pub record IsFirstClaim (n : ℕ) (a : Claim) : Type 0 where
     pub at : ℕ
-    pub first : IsFirstBelow tau rows own_pages n at
-    pub is : a ≡ claim tau (row_at rows at) (own_pages at)
+    pub first : IsFirstBelow rows own_pages n at
+    pub is : a ≡ claim (row_at rows at) (own_pages at)
 
   -- what is found in n rows
   abbrev pub IsFound : ℕ → Option Claim → Type 0
@@ -60,24 +60,24 @@ module _ (tau : ℕ) (rows : List Row) where
   IsFound n (Some a) = IsFirstClaim n a
 
   abbrev judged : Option Claim → Row → Option Claim
-  judged best row = cond (nat_lt row.floor row.pages) (sooner best (claim tau row row.pages)) best
+  judged best row = cond (nat_lt row.floor row.pages) (sooner best (claim row row.pages)) best
 
   found_skips : (n : ℕ) (best : Option Claim) → IsFound n best → own_pages n ≤ (row_at rows n).floor → IsFound (n + 1) best
-  found_skips n None h below = none_skips tau rows own_pages n h below
-  found_skips n (Some a) h below = record { at = h.at; first = first_skips tau rows own_pages n h.at h.first below; is = h.is }
+  found_skips n None h below = none_skips rows own_pages n h below
+  found_skips n (Some a) h below = record { at = h.at; first = first_skips rows own_pages n h.at h.first below; is = h.is }
 
-  module _ (low : tau ≤ 99) (are : AreRows rows) where
-    found_takes : (n : ℕ) (best : Option Claim) → n < length rows → IsFound n best → (row_at rows n).floor < own_pages n → IsFound (n + 1) (sooner best (claim tau (row_at rows n) (own_pages n)))
-    found_takes n None fits h above = record { at = n; first = none_takes tau rows own_pages n h above; is = refl }
+  module _ (are : AreRows rows) where
+    found_takes : (n : ℕ) (best : Option Claim) → n < length rows → IsFound n best → (row_at rows n).floor < own_pages n → IsFound (n + 1) (sooner best (claim (row_at rows n) (own_pages n)))
+    found_takes n None fits h above = record { at = n; first = none_takes rows own_pages n h above; is = refl }
     found_takes n (Some a) fits h above =
-        let new = claim tau (row_at rows n) (own_pages n) in
+        let new = claim (row_at rows n) (own_pages n) in
         cond_both (comes_no_later a new) (Some a) (Some new) (IsFound (n + 1))
-        (λ e. record { at = h.at; first = first_keeps tau rows own_pages n h.at h.first (rw (← h.is) (comes_from_test a new e)); is = h.is })
-        (λ e. record { at = n; first = first_yields tau rows own_pages n h.at low are fits h.first above (rw (← h.is) (comes_from_no_test a new e)); is = refl })
+        (λ e. record { at = h.at; first = first_keeps rows own_pages n h.at h.first (rw (← h.is) (comes_from_test a new e)); is = h.is })
+        (λ e. record { at = n; first = first_yields rows own_pages n h.at are fits h.first above (rw (← h.is) (comes_from_no_test a new e)); is = refl })
 
     found_more : (n : ℕ) (best : Option Claim) → n < length rows → IsFound n best → IsFound (n + 1) (judged best (row_at rows n))
     found_more n best fits h =
-        cond_both (nat_lt (row_at rows n).floor (own_pages n)) (sooner best (claim tau (row_at rows n) (own_pages n))) best (IsFound (n + 1))
+        cond_both (nat_lt (row_at rows n).floor (own_pages n)) (sooner best (claim (row_at rows n) (own_pages n))) best (IsFound (n + 1))
         (λ e. found_takes n best fits h (ltb-true _ _ e))
         (λ e. found_skips n best h (ltb-false _ _ e))
 
@@ -87,24 +87,24 @@ module _ (tau : ℕ) (rows : List Row) where
         rw (← add-one, fold_more judged None rows n no_row (omega arith)) (found_more n (fold judged None (take n rows)) (omega arith) (found_within n (omega arith)))
 
     -- the first claim is that of the row that comes first
-    pub first_found : IsFound (length rows) (first_claim tau rows)
+    pub first_found : IsFound (length rows) (first_claim rows)
     unfolding first_claim
     first_found = rw (take-length rows) at (found_within (length rows) (omega arith))
 
   -- what a search by place finds is the machine of the claim that is found
-  pub same_machine : (n : ℕ) (best : Option ℕ) (o : Option Claim) → IsBestBelow tau rows own_pages n best → IsFound n o →
+  pub same_machine : (n : ℕ) (best : Option ℕ) (o : Option Claim) → IsBestBelow rows own_pages n best → IsFound n o →
       option_map (λ i. (row_at rows i).vm) best ≡ option_map (λ (a : Claim). a.vm) o
   same_machine n None None h f = refl
   same_machine n None (Some a) h f = absurd (omega (arith, h.none f.at f.first.within, f.first.above))
   same_machine n (Some i) None h f = absurd (omega (arith, f.none i h.within, h.above))
   same_machine n (Some i) (Some a) h f =
       let same : (row_at rows i).vm ≡ (row_at rows f.at).vm =
-      no_later_same (claim tau (row_at rows i) (own_pages i)) (claim tau (row_at rows f.at) (own_pages f.at))
+      no_later_same (claim (row_at rows i) (own_pages i)) (claim (row_at rows f.at) (own_pages f.at))
       (h.first f.at f.first.within f.first.above) (f.first.first i h.within h.above) in
       ap (λ v. let o : Option ℕ = Some v in o) (same ∙ ap (λ (c : Claim). c.vm) (sym f.is))
 
   -- the claim that is found has the least ratio
-  pub least_of_found : (o : Option Claim) → IsFound (length rows) o → MatchOption o (AreAtFloor rows) (λ a. HasLeastRatio tau rows a.vm)
+  pub least_of_found : (o : Option Claim) → IsFound (length rows) o → MatchOption o (AreAtFloor rows) (λ a. HasLeastRatio rows a.vm)
   least_of_found None h = record { none = h.none }
   least_of_found (Some a) h = record {
     at = h.at;

@@ -6,6 +6,7 @@ pub mod PayerLaws
 pub mod Claims
 pub mod TargetLaws
 pub mod Revoking
+pub mod CommonTax
 pub mod AverageLaws
 pub mod LevelLaws
 pub mod rows

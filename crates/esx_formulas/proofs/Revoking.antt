@@ -39,12 +39,12 @@ each_held : (rows : List Row) → map (λ (row : Row). with_pages row (held row)
 each_held [] = refl
 each_held (row ∷ rows) = ap (λ r. with_pages row (held row) ∷ r) (each_held rows)
 
-module _ (tau : ℕ) (rows : List Row) (low : tau ≤ 99) (are : AreRows rows) where
+module _ (rows : List Row) (are : AreRows rows) where
   -- no row has more pages than a machine may have
-  most_pages : (need : ℕ) (t : List ℕ) (i : ℕ) → AreTargets tau rows need t → i < length rows → get_or t i 0 ≤ 65536
+  most_pages : (need : ℕ) (t : List ℕ) (i : ℕ) → AreTargets rows need t → i < length rows → get_or t i 0 ≤ 65536
   most_pages need t i h p = omega (arith, h.most i p, (are.each i p).most_pages, (are.each i p).most_floor)
 
-  each_are : (need : ℕ) (t : List ℕ) → AreTargets tau rows need t → AreRows (with_each rows t)
+  each_are : (need : ℕ) (t : List ℕ) → AreTargets rows need t → AreRows (with_each rows t)
   each_are need t h =
       let n : length (with_each rows t) ≡ length rows = each_length rows t h.count in
       record {
@@ -57,6 +57,7 @@ module _ (tau : ℕ) (rows : List Row) (low : tau ≤ 99) (are : AreRows rows) w
               most_pages = most_pages need t i h q;
               most_floor = (are.each i q).most_floor;
               most_active = (are.each i q).most_active;
+              most_tau = (are.each i q).most_tau;
             });
         ordered = λ i j p q.
             let r : j < length rows = omega arith in
@@ -71,8 +72,8 @@ module _ (tau : ℕ) (rows : List Row) (low : tau ≤ 99) (are : AreRows rows) w
   }
 
   first_of_each : (t : List ℕ) (i : ℕ) → length t ≡ length rows →
-      IsFirstBelow tau (with_each rows t) (λ j. (row_at (with_each rows t) j).pages) (length (with_each rows t)) i →
-      IsFirstBelow tau rows (λ j. get_or t j 0) (length rows) i
+      IsFirstBelow (with_each rows t) (λ j. (row_at (with_each rows t) j).pages) (length (with_each rows t)) i →
+      IsFirstBelow rows (λ j. get_or t j 0) (length rows) i
   first_of_each t i e h =
       let n : length (with_each rows t) ≡ length rows = each_length rows t e in
       let p : i < length rows = omega (arith, h.within) in
@@ -99,7 +100,7 @@ module _ (tau : ℕ) (rows : List Row) (low : tau ≤ 99) (are : AreRows rows) w
             cond-true ((row_at rows j).vm == a.vm) _ _ (eq-eqb _ _ (ap (λ k. (row_at rows k).vm) same ∙ sym named))
             ∙ ap (with_pages (row_at rows j)) (ap (λ k. get_or t k 0 - 1) same ∙ sym (ap (λ k. get_or u k 0) same ∙ get_or-set_same t i (get_or t i 0 - 1) 0 (omega arith)))
         | inr apart ↦
-            cond-false ((row_at rows j).vm == a.vm) _ _ (ne_eqb _ _ (λ k. apart (same_row tau rows low are j i r p (k ∙ named))))
+            cond-false ((row_at rows j).vm == a.vm) _ _ (ne_eqb _ _ (λ k. apart (same_row rows are j i r p (k ∙ named))))
             ∙ ap (with_pages (row_at rows j)) (sym (get_or-set_other t i j (get_or t i 0 - 1) 0 apart))
       ]
       ∙ sym (each_at rows u j count r))
@@ -107,36 +108,36 @@ module _ (tau : ℕ) (rows : List Row) (low : tau ≤ 99) (are : AreRows rows) w
   -- the targets after one more page
   record After (need : ℕ) (t : List ℕ) (o : Option Claim) : Type 0 where
     targets : List ℕ
-    hold : AreTargets tau rows (need + 1) targets
+    hold : AreTargets rows (need + 1) targets
     is : paid (with_each rows t) o ≡ with_each rows targets
 
-  after_one : (need : ℕ) (t : List ℕ) (o : Option Claim) → AreTargets tau rows need t → IsFound tau (with_each rows t) (length (with_each rows t)) o → After need t o
+  after_one : (need : ℕ) (t : List ℕ) (o : Option Claim) → AreTargets rows need t → IsFound (with_each rows t) (length (with_each rows t)) o → After need t o
   after_one need t None h f =
-      record { targets = t; hold = targets_stay tau rows low are need (need + 1) t h (none_of_each t h.count f) (omega arith); is = refl }
+      record { targets = t; hold = targets_stay rows are need (need + 1) t h (none_of_each t h.count f) (omega arith); is = refl }
   after_one need t (Some a) h f =
       let first = first_of_each t f.at h.count f.first in
       let named : a.vm ≡ (row_at rows f.at).vm = ap (λ (c : Claim). c.vm) f.is ∙ ap (λ (r : Row). r.vm) (each_at rows t f.at h.count first.within) in
       record {
         targets = set t f.at (get_or t f.at 0 - 1);
-        hold = targets_step tau rows low are need t f.at h first;
+        hold = targets_step rows are need t f.at h first;
         is = each_paid t f.at a h.count first.within named;
       }
 
   -- rows of targets are rows of targets after some more pages
-  after_more : (n need : ℕ) (t : List ℕ) → AreTargets tau rows need t → AreTargets tau rows (need + n) (map pages_of (after_revoking tau n (with_each rows t)))
+  after_more : (n need : ℕ) (t : List ℕ) → AreTargets rows need t → AreTargets rows (need + n) (map pages_of (after_revoking n (with_each rows t)))
   unfolding after_revoking
   after_more zero need t h = rw (each_pages rows t h.count) (let e : need + 0 ≡ need = omega arith in rw e h)
   after_more (suc n) need t h =
-      let next = after_one need t (first_claim tau (with_each rows t)) h (first_found tau (with_each rows t) low (each_are need t h)) in
+      let next = after_one need t (first_claim (with_each rows t)) h (first_found (with_each rows t) (each_are need t h)) in
       let e : need + suc n ≡ need + 1 + n = omega arith in
       rw (e, next.is) (after_more n (need + 1) next.targets next.hold)
 
   -- the list that is worked out page by page are targets
-  pub worked_out : (need : ℕ) → AreTargets tau rows need (targets_of tau rows need)
+  pub worked_out : (need : ℕ) → AreTargets rows need (targets_of rows need)
   unfolding targets_of
   worked_out need =
       let e : 0 + need ≡ need = omega arith in
-      rw (e, ← each_held rows) at (after_more need 0 (all_held rows) (targets_begin tau rows))
+      rw (e, ← each_held rows) at (after_more need 0 (all_held rows) (targets_begin rows))
 
-  pub only_worked_out : (need : ℕ) (targets : List ℕ) → AreTargets tau rows need targets → targets ≡ targets_of tau rows need
-  only_worked_out need targets h = targets_same tau rows low are need targets (targets_of tau rows need) h (worked_out need)
+  pub only_worked_out : (need : ℕ) (targets : List ℕ) → AreTargets rows need targets → targets ≡ targets_of rows need
+  only_worked_out need targets h = targets_same rows are need targets (targets_of rows need) h (worked_out need)

@@ -36,19 +36,19 @@ held_at rows i p = get_or-map held rows i no_row 0 p
 pub floor_at : (rows : List Row) (i : ℕ) → i < length rows → get_or (all_floors rows) i 0 ≡ (row_at rows i).floor
 floor_at rows i p = get_or-map floor_of rows i no_row 0 p
 
-pub below_held : (tau need : ℕ) (rows : List Row) (t : List ℕ) → AreTargets tau rows need t → AreBelow t (all_held rows)
-below_held tau need rows t h =
+pub below_held : (need : ℕ) (rows : List Row) (t : List ℕ) → AreTargets rows need t → AreBelow t (all_held rows)
+below_held need rows t h =
     below_from_places t (all_held rows) (omega (arith, h.count, length-map rows held))
     (λ i p. omega (arith, length-map rows held, held_at rows i (omega (arith, length-map rows held)), h.most i (omega (arith, length-map rows held))))
 
-pub above_floors : (tau need : ℕ) (rows : List Row) (t : List ℕ) → AreTargets tau rows need t → AreBelow (all_floors rows) t
-above_floors tau need rows t h =
+pub above_floors : (need : ℕ) (rows : List Row) (t : List ℕ) → AreTargets rows need t → AreBelow (all_floors rows) t
+above_floors need rows t h =
     below_from_places (all_floors rows) t (omega (arith, h.count, length-map rows floor_of))
     (λ i p. omega (arith, floor_at rows i (omega (arith, h.count)), h.least i (omega (arith, h.count))))
 
 -- before anything is needed each row keeps all
-pub targets_begin : (tau : ℕ) (rows : List Row) → AreTargets tau rows 0 (all_held rows)
-targets_begin tau rows = record {
+pub targets_begin : (rows : List Row) → AreTargets rows 0 (all_held rows)
+targets_begin rows = record {
   count = length-map rows held;
   least = λ i p. omega (arith, held_at rows i p);
   most = λ i p. omega (arith, held_at rows i p);
@@ -57,20 +57,20 @@ targets_begin tau rows = record {
 }
 
 -- what is left to revoke is what stands above the floors
-pub left_is_gap : (tau need : ℕ) (rows : List Row) (t : List ℕ) → AreTargets tau rows need t →
+pub left_is_gap : (need : ℕ) (rows : List Row) (t : List ℕ) → AreTargets rows need t →
     revoked rows t + gap t (all_floors rows) ≡ sum_by spare rows
-left_is_gap tau need rows t h =
+left_is_gap need rows t h =
     omega (
       arith,
       revoked_is_gap rows t,
       spare_is_gap rows,
-      gap_chain (all_held rows) t (all_floors rows) (below_held tau need rows t h) (above_floors tau need rows t h),
+      gap_chain (all_held rows) t (all_floors rows) (below_held need rows t h) (above_floors need rows t h),
     )
 
-module _ (tau : ℕ) (rows : List Row) (low : tau ≤ 99) (are : AreRows rows) where
+module _ (rows : List Row) (are : AreRows rows) where
   -- one more page comes from the row that pays next
-  pub targets_step : (need : ℕ) (t : List ℕ) (i : ℕ) → AreTargets tau rows need t → IsFirstBelow tau rows (λ k. get_or t k 0) (length rows) i →
-      AreTargets tau rows (need + 1) (set t i (get_or t i 0 - 1))
+  pub targets_step : (need : ℕ) (t : List ℕ) (i : ℕ) → AreTargets rows need t → IsFirstBelow rows (λ k. get_or t k 0) (length rows) i →
+      AreTargets rows (need + 1) (set t i (get_or t i 0 - 1))
   targets_step need t i h f =
       let within : i < length t = omega (arith, f.within, h.count) in
       let above : (row_at rows i).floor < get_or t i 0 = f.above in
@@ -93,33 +93,33 @@ module _ (tau : ℕ) (rows : List Row) (low : tau ≤ 99) (are : AreRows rows) w
             let stands : get_or t i 0 - get_or (all_floors rows) i 0 ≤ gap t (all_floors rows) =
             gap-at-le t (all_floors rows) i (omega (arith, length-map rows floor_of, f.within)) in
             let floor : get_or (all_floors rows) i 0 ≡ (row_at rows i).floor = floor_at rows i f.within in
-            let all : revoked rows t + gap t (all_floors rows) ≡ sum_by spare rows = left_is_gap tau need rows t h in
+            let all : revoked rows t + gap t (all_floors rows) ≡ sum_by spare rows = left_is_gap need rows t h in
             omega (arith, revoked_is_gap rows t, revoked_is_gap rows (set t i (get_or t i 0 - 1)), h.total);
         fair = λ k j p q r s.
             let again : get_or t i 0 - 1 + 1 ≡ get_or t i 0 = omega arith in
             elim (cases_eq k i) [
               | inl ek ↦ elim (cases_eq j i) [
-                | inl ej ↦ rw (ek, ej, same) (more_pages_no_later tau (row_at rows i) (get_or t i 0 - 1 + 1) (get_or t i 0 - 1) (omega arith))
+                | inl ej ↦ rw (ek, ej, same) (more_pages_no_later (row_at rows i) (get_or t i 0 - 1 + 1) (get_or t i 0 - 1) (omega arith))
                 | inr nj ↦ rw (ek, same, again, other j nj) (f.first j q (omega (arith, other j nj)))
               ]
               | inr nk ↦ elim (cases_eq j i) [
                 | inl ej ↦
                     let left : (row_at rows i).floor < get_or (set t i (get_or t i 0 - 1)) i 0 = rw ej at s in
                     rw (other k nk, ej, same) (no_later_chain
-                    (claim tau (row_at rows k) (get_or t k 0 + 1)) (claim tau (row_at rows i) (get_or t i 0)) (claim tau (row_at rows i) (get_or t i 0 - 1))
-                    (claim_above_none tau (row_at rows k) (get_or t k 0 + 1) low (are.each k p).most_active (omega arith))
-                    (claim_above_none tau (row_at rows i) (get_or t i 0) low (are.each i f.within).most_active (omega arith))
-                    (claim_above_none tau (row_at rows i) (get_or t i 0 - 1) low (are.each i f.within).most_active (omega arith))
+                    (claim (row_at rows k) (get_or t k 0 + 1)) (claim (row_at rows i) (get_or t i 0)) (claim (row_at rows i) (get_or t i 0 - 1))
+                    (claim_above_none (row_at rows k) (get_or t k 0 + 1) (are.each k p) (omega arith))
+                    (claim_above_none (row_at rows i) (get_or t i 0) (are.each i f.within) (omega arith))
+                    (claim_above_none (row_at rows i) (get_or t i 0 - 1) (are.each i f.within) (omega arith))
                     (h.fair k i p f.within (omega (arith, other k nk)) above)
-                    (more_pages_no_later tau (row_at rows i) (get_or t i 0) (get_or t i 0 - 1) (omega arith)))
+                    (more_pages_no_later (row_at rows i) (get_or t i 0) (get_or t i 0 - 1) (omega arith)))
                 | inr nj ↦ rw (other k nk, other j nj) (h.fair k j p q (omega (arith, other k nk)) (omega (arith, other j nj)))
               ]
             ];
       }
 
   -- where no row has pages above its floor all is revoked, and a greater need revokes no more
-  pub targets_stay : (need more : ℕ) (t : List ℕ) → AreTargets tau rows need t → AreNoneBelow rows (λ k. get_or t k 0) (length rows) →
-      need ≤ more → AreTargets tau rows more t
+  pub targets_stay : (need more : ℕ) (t : List ℕ) → AreTargets rows need t → AreNoneBelow rows (λ k. get_or t k 0) (length rows) →
+      need ≤ more → AreTargets rows more t
   targets_stay need more t h none p =
       let low_t : AreBelow t (all_floors rows) =
       below_from_places t (all_floors rows) (omega (arith, h.count, length-map rows floor_of))
@@ -129,20 +129,20 @@ module _ (tau : ℕ) (rows : List Row) (low : tau ≤ 99) (are : AreRows rows) w
         count = h.count;
         least = h.least;
         most = h.most;
-        total = omega (arith, h.total, left_is_gap tau need rows t h);
+        total = omega (arith, h.total, left_is_gap need rows t h);
         fair = h.fair;
       }
 
   pub record HasTargets (need : ℕ) : Type 0 where
     pub targets : List ℕ
-    pub hold : AreTargets tau rows need targets
+    pub hold : AreTargets rows need targets
 
   -- there are targets for every need
   pub targets_for : (need : ℕ) → HasTargets need
-  targets_for zero = record { targets = all_held rows; hold = targets_begin tau rows }
+  targets_for zero = record { targets = all_held rows; hold = targets_begin rows }
   targets_for (suc need) =
       let before : HasTargets need = targets_for need in
-      rw (← add-one) (elim (first_or_none tau rows (λ k. get_or before.targets k 0) (length rows) low are (omega arith)) [
+      rw (← add-one) (elim (first_or_none rows (λ k. get_or before.targets k 0) (length rows) are (omega arith)) [
         | inl f ↦ record { targets = set before.targets f.at (get_or before.targets f.at 0 - 1); hold = targets_step need before.targets f.at before.hold f.first }
         | inr none ↦ record { targets = before.targets; hold = targets_stay need (need + 1) before.targets before.hold none (omega arith) }
       ])
@@ -159,30 +159,30 @@ module _ (tau : ℕ) (rows : List Row) (low : tau ≤ 99) (are : AreRows rows) w
       ]
 
   -- if one list leaves more at i and the other more at j, then i is j
-  crossed : (need : ℕ) (a b : List ℕ) (i j : ℕ) → AreTargets tau rows need a → AreTargets tau rows need b → i < length rows → j < length rows →
+  crossed : (need : ℕ) (a b : List ℕ) (i j : ℕ) → AreTargets rows need a → AreTargets rows need b → i < length rows → j < length rows →
       get_or b i 0 < get_or a i 0 → get_or a j 0 < get_or b j 0 → i ≡ j
   crossed need a b i j ha hb p q r s =
-      let i_pays : ComesNoLater (claim tau (row_at rows i) (get_or b i 0 + 1)) (claim tau (row_at rows j) (get_or b j 0)) =
+      let i_pays : ComesNoLater (claim (row_at rows i) (get_or b i 0 + 1)) (claim (row_at rows j) (get_or b j 0)) =
       hb.fair i j p q (omega (arith, ha.most i p)) (omega (arith, ha.least j q)) in
-      let j_pays : ComesNoLater (claim tau (row_at rows j) (get_or a j 0 + 1)) (claim tau (row_at rows i) (get_or a i 0)) =
+      let j_pays : ComesNoLater (claim (row_at rows j) (get_or a j 0 + 1)) (claim (row_at rows i) (get_or a i 0)) =
       ha.fair j i q p (omega (arith, hb.most j q)) (omega (arith, hb.least i p)) in
-      let i_rises : ComesNoLater (claim tau (row_at rows i) (get_or a i 0)) (claim tau (row_at rows i) (get_or b i 0 + 1)) =
-      more_pages_no_later tau (row_at rows i) (get_or a i 0) (get_or b i 0 + 1) (omega arith) in
-      let j_rises : ComesNoLater (claim tau (row_at rows j) (get_or b j 0)) (claim tau (row_at rows j) (get_or a j 0 + 1)) =
-      more_pages_no_later tau (row_at rows j) (get_or b j 0) (get_or a j 0 + 1) (omega arith) in
-      let above : (k n : ℕ) → k < length rows → 0 < n → 0 < (claim tau (row_at rows k) n).under =
-      λ k n t u. claim_above_none tau (row_at rows k) n low (are.each k t).most_active u in
-      let back : ComesNoLater (claim tau (row_at rows j) (get_or b j 0)) (claim tau (row_at rows i) (get_or b i 0 + 1)) =
+      let i_rises : ComesNoLater (claim (row_at rows i) (get_or a i 0)) (claim (row_at rows i) (get_or b i 0 + 1)) =
+      more_pages_no_later (row_at rows i) (get_or a i 0) (get_or b i 0 + 1) (omega arith) in
+      let j_rises : ComesNoLater (claim (row_at rows j) (get_or b j 0)) (claim (row_at rows j) (get_or a j 0 + 1)) =
+      more_pages_no_later (row_at rows j) (get_or b j 0) (get_or a j 0 + 1) (omega arith) in
+      let above : (k n : ℕ) → k < length rows → 0 < n → 0 < (claim (row_at rows k) n).under =
+      λ k n t u. claim_above_none (row_at rows k) n (are.each k t) u in
+      let back : ComesNoLater (claim (row_at rows j) (get_or b j 0)) (claim (row_at rows i) (get_or b i 0 + 1)) =
       no_later_chain _ _ _ (above j (get_or b j 0) q (omega arith)) (above j (get_or a j 0 + 1) q (omega arith)) (above i (get_or b i 0 + 1) p (omega arith))
       j_rises
       (no_later_chain _ _ _ (above j (get_or a j 0 + 1) q (omega arith)) (above i (get_or a i 0) p (omega arith)) (above i (get_or b i 0 + 1) p (omega arith)) j_pays i_rises) in
       same_row i j p q (no_later_same _ _ i_pays back)
 
   -- there is one list of targets at most
-  pub targets_same : (need : ℕ) (a b : List ℕ) → AreTargets tau rows need a → AreTargets tau rows need b → a ≡ b
+  pub targets_same : (need : ℕ) (a b : List ℕ) → AreTargets rows need a → AreTargets rows need b → a ≡ b
   targets_same need a b ha hb =
-      let below_a : AreBelow a (all_held rows) = below_held tau need rows a ha in
-      let below_b : AreBelow b (all_held rows) = below_held tau need rows b hb in
+      let below_a : AreBelow a (all_held rows) = below_held need rows a ha in
+      let below_b : AreBelow b (all_held rows) = below_held need rows b hb in
       let total : gap (all_held rows) a ≡ gap (all_held rows) b =
       omega (arith, ha.total, hb.total, revoked_is_gap rows a, revoked_is_gap rows b) in
       elim (below_or_above a b (ha.count ∙ sym hb.count)) [

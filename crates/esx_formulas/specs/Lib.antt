@@ -7,5 +7,6 @@ pub mod Estimates
 pub mod Ratio
 pub mod Targets
 pub mod Payers
+pub mod v1
 pub mod ShareLaws
 pub mod LevelLaws

@@ -9,9 +9,10 @@ pub record Claim : Type 0 where
   pub over : ℕ
   pub under : ℕ
 
--- the taxed ratio of a row, were it to have so many pages: tau in percent, the active share in units of 1/65,536
-abbrev pub claim : ℕ → Row → ℕ → Claim
-claim tau row pages = record { vm = row.vm; over = row.shares; under = pages * (6553600 - tau * row.active) }
+-- the taxed ratio of a row at its own tax, were it to have so many pages: the tax in percent, the active share in units of 1/65,536.
+-- An idle page costs 1 / (1 - tau) of an active one, so what is left of the tax stands over the fraction.
+abbrev pub claim : Row → ℕ → Claim
+claim row pages = record { vm = row.vm; over = row.shares * (100 - row.tau); under = pages * (6553600 - row.tau * row.active) }
 
 -- The less fraction comes first, and of equal ones the lower machine.
 pub record ComesNoLater (a b : Claim) : Type 0 where
@@ -26,9 +27,10 @@ pub record IsRow (row : Row) : Type 0 where
   pub most_pages : row.pages ≤ 65536
   pub most_floor : row.floor ≤ 65536
   pub most_active : row.active ≤ 65536
+  pub most_tau : row.tau ≤ 99
 
 abbrev pub no_row : Row
-no_row = record { vm = 0; shares = 0; pages = 0; floor = 0; active = 0 }
+no_row = record { vm = 0; shares = 0; pages = 0; floor = 0; active = 0; tau = 0 }
 
 abbrev pub row_at : List Row → ℕ → Row
 row_at rows i = slice_index_or rows i no_row
@@ -39,18 +41,18 @@ pub record AreRows (rows : List Row) : Type 0 where
   pub ordered : (i j : ℕ) → i < j → j < length rows → (row_at rows i).vm < (row_at rows j).vm
 
 -- the row at i comes first of those with pages above their floor
-pub record IsLeast (tau : ℕ) (rows : List Row) (i : ℕ) : Type 0 where
+pub record IsLeast (rows : List Row) (i : ℕ) : Type 0 where
   pub within : i < length rows
   pub above : (row_at rows i).floor < (row_at rows i).pages
   pub first : (j : ℕ) → j < length rows → (row_at rows j).floor < (row_at rows j).pages →
-      ComesNoLater (claim tau (row_at rows i) (row_at rows i).pages) (claim tau (row_at rows j) (row_at rows j).pages)
+      ComesNoLater (claim (row_at rows i) (row_at rows i).pages) (claim (row_at rows j) (row_at rows j).pages)
 
 -- no row has pages above its floor
 pub record AreAtFloor (rows : List Row) : Type 0 where
   pub none : (i : ℕ) → i < length rows → (row_at rows i).pages ≤ (row_at rows i).floor
 
 -- the machine whose row comes first of those with pages above their floor
-pub record HasLeastRatio (tau : ℕ) (rows : List Row) (vm : ℕ) : Type 0 where
+pub record HasLeastRatio (rows : List Row) (vm : ℕ) : Type 0 where
   pub at : ℕ
-  pub least : IsLeast tau rows at
+  pub least : IsLeast rows at
   pub is : (row_at rows at).vm ≡ vm

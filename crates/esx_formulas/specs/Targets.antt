@@ -17,14 +17,14 @@ revoked (row ∷ rows) [] = 0
 revoked (row ∷ rows) (target ∷ targets) = (held row - target) + revoked rows targets
 
 -- The targets of rows where some pages are needed, of which as many are revoked as there are.
-pub record AreTargets (tau : ℕ) (rows : List Row) (need : ℕ) (targets : List ℕ) : Type 0 where
+pub record AreTargets (rows : List Row) (need : ℕ) (targets : List ℕ) : Type 0 where
   pub count : length targets ≡ length rows
   pub least : (i : ℕ) → i < length rows → (row_at rows i).floor ≤ slice_index targets i
   pub most : (i : ℕ) → i < length rows → slice_index targets i ≤ held (row_at rows i)
   pub total : revoked rows targets ≡ min need (sum_by spare rows)
   -- a page that was revoked comes no later than one that was left above a floor
   pub fair : (i j : ℕ) → i < length rows → j < length rows → slice_index targets i < held (row_at rows i) → (row_at rows j).floor < slice_index targets j →
-      ComesNoLater (claim tau (row_at rows i) (slice_index targets i + 1)) (claim tau (row_at rows j) (slice_index targets j))
+      ComesNoLater (claim (row_at rows i) (slice_index targets i + 1)) (claim (row_at rows j) (slice_index targets j))
 
 -- the order of ratios as a test
 abbrev pub comes_no_later : Claim → Claim → Bool
@@ -35,8 +35,8 @@ sooner None b = Some b
 sooner (Some a) b = if comes_no_later a b then Some a else Some b
 
 -- of the rows with pages above their floor, the ratio that comes first
-unfoldable pub first_claim : ℕ → List Row → Option Claim
-first_claim tau rows = fold (λ best row. if nat_lt row.floor row.pages then sooner best (claim tau row row.pages) else best) None rows
+unfoldable pub first_claim : List Row → Option Claim
+first_claim rows = fold (λ best row. if nat_lt row.floor row.pages then sooner best (claim row row.pages) else best) None rows
 
 -- a row with so many pages
 abbrev pub with_pages : Row → ℕ → Row
@@ -48,10 +48,10 @@ paid rows None = rows
 paid rows (Some a) = map (λ (row : Row). if row.vm == a.vm then with_pages row (row.pages - 1) else row) rows
 
 -- the rows after so many pages are revoked, one at a time
-unfoldable pub after_revoking : ℕ → ℕ → List Row → List Row
-after_revoking tau zero rows = rows
-after_revoking tau (suc n) rows = after_revoking tau n (paid rows (first_claim tau rows))
+unfoldable pub after_revoking : ℕ → List Row → List Row
+after_revoking zero rows = rows
+after_revoking (suc n) rows = after_revoking n (paid rows (first_claim rows))
 
 -- The list of targets that there is: `AreTargets` holds of it, and of no other list.
-unfoldable pub targets_of : ℕ → List Row → ℕ → List ℕ
-targets_of tau rows need = map (λ (row : Row). row.pages) (after_revoking tau need (map (λ (row : Row). with_pages row (held row)) rows))
+unfoldable pub targets_of : List Row → ℕ → List ℕ
+targets_of rows need = map (λ (row : Row). row.pages) (after_revoking need (map (λ (row : Row). with_pages row (held row)) rows))

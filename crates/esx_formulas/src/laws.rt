@@ -1,7 +1,7 @@
 //! Laws of the level, of the ratio's order and of targets.
 
 ghost use Rattle.esx_formulas.specs.LevelLaws.{AreLevelsOrdered};
-ghost use Rattle.esx_formulas.specs.ShareLaws.{AreRatiosOrdered, IsTestOfOrder, IsFirstClaimLeast, IsOneListOfTargets, HasTargetsForEachNeed, AreTargetsPageByPage};
+ghost use Rattle.esx_formulas.specs.ShareLaws.{AreRatiosOrdered, IsTestOfOrder, IsFirstClaimLeast, IsOneListOfTargets, HasTargetsForEachNeed, AreTargetsPageByPage, DoesCommonTaxCancel};
 
 /// A deeper level has no higher threshold; the level is as deep as the free frames ask, and rises by one.
 pub fn levels_are_ordered()
@@ -36,4 +36,9 @@ pub fn first_claim_is_least()
 /// The list that is worked out page by page fits rows and a need, and no other list does.
 pub fn targets_page_by_page()
     ensures { AreTargetsPageByPage }
+{}
+
+/// Where all rows have one tax, pages are taken as version 1 takes them.
+pub fn common_tax_cancels()
+    ensures { DoesCommonTaxCancel }
 {}

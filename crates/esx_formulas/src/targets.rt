@@ -12,7 +12,8 @@ use std::alloc::{AllocError, Global};
 /// What a virtual machine has, for the ratio and the targets.
 ///
 /// `shares` is 1 to 2^20. `pages` is how many pages it holds and `floor` how many of them it keeps in any
-/// case, each at most 2^16. `active` is the share of its memory that is in use, in units of 1/65,536.
+/// case, each at most 2^16. `active` is the share of its memory that is in use, in units of 1/65,536, and
+/// `tau` its tax on idle memory, 0 to 99 percent.
 #[derive(Clone, Copy, Debug, PartialEq, Eq)]
 pub struct Row {
     pub vm: VmId,
@@ -20,6 +21,7 @@ pub struct Row {
     pub pages: u32,
     pub floor: u32,
     pub active: u32,
+    pub tau: u32,
 }
 
 impl Row {
@@ -33,6 +35,7 @@ impl Row {
             && self.pages <= 65536
             && self.floor <= 65536
             && self.active <= 65536
+            && self.tau <= 99
     }
 }
 
@@ -51,17 +54,16 @@ pub fn are_rows(rows: &[Row]) -> bool
     true
 }
 
-/// The targets of rows in order of machine where `need` pages are needed, at a tax of `tau` percent. It
-/// takes as many steps as pages are revoked, and in each looks at every row.
-pub fn targets(alloc: Global, tau: u32, rows: &[Row], need: u32) -> Result<Vec<u32>, AllocError>
-    requires tax { tau ≤ 99 }
+/// The targets of rows in order of machine where `need` pages are needed. It takes as many steps as pages
+/// are revoked, and in each looks at every row.
+pub fn targets(alloc: Global, rows: &[Row], need: u32) -> Result<Vec<u32>, AllocError>
     requires rows { AreRows rows.now }
-    ensures fits { IfOk result (λ v. AreTargets tau rows.now need v.items) }
-    ensures value { IfOk result (λ v. v.items ≡ targets_of tau rows.now need) }
+    ensures fits { IfOk result (λ v. AreTargets rows.now need v.items) }
+    ensures value { IfOk result (λ v. v.items ≡ targets_of rows.now need) }
 {
     let mut targets = held(alloc, rows)?;
     for taken in 0..need {
-        match next_payer(tau, rows, targets.as_slice()) {
+        match next_payer(rows, targets.as_slice()) {
             Some(payer) => targets[payer] -= 1,
             None => return Ok(targets),
         }
@@ -79,12 +81,11 @@ pub fn held(alloc: Global, rows: &[Row]) -> Result<Vec<u32>, AllocError>
 }
 
 /// The row that comes first of those with a target above their floor.
-fn next_payer(tau: u32, rows: &[Row], targets: &[u32]) -> Option<usize>
-    requires tax { tau ≤ 99 }
+fn next_payer(rows: &[Row], targets: &[u32]) -> Option<usize>
     requires rows { AreRows rows.now }
     requires count { length targets.now ≡ length rows.now }
     requires most { (i : ℕ) → i < length targets.now → slice_index targets.now i ≤ 65536 }
-    ensures { IsBestBelow tau rows.now (λ i. slice_index targets.now i) (length rows.now) result }
+    ensures { IsBestBelow rows.now (λ i. slice_index targets.now i) (length rows.now) result }
 {
     let mut best: Option<usize> = None;
     for (i, row) in rows.iter().enumerate() {
@@ -92,7 +93,7 @@ fn next_payer(tau: u32, rows: &[Row], targets: &[u32]) -> Option<usize>
             continue;
         }
         match best {
-            Some(b) if comes_no_later_at(tau, &rows[b], targets[b], row, targets[i]) => {}
+            Some(b) if comes_no_later_at(&rows[b], targets[b], row, targets[i]) => {}
             _ => best = Some(i),
         }
     }

@@ -68,7 +68,7 @@ fn a_margin_is_no_less_than_one(rt: HostRuntime) -> Result<(), Fail> {
     Ok(())
 }
 
-fn row(vm: u8, shares: u32, pages: u32, floor: u32, active: u32) -> Result<Row, Fail> {
+fn row(vm: u8, shares: u32, pages: u32, floor: u32, active: u32, tau: u32) -> Result<Row, Fail> {
     let vm = VmId::new(vm).ok_or("no machine has this number")?;
     Ok(Row {
         vm,
@@ -76,32 +76,66 @@ fn row(vm: u8, shares: u32, pages: u32, floor: u32, active: u32) -> Result<Row, 
         pages,
         floor,
         active,
+        tau,
     })
 }
 
 #[test]
 fn an_idle_machine_pays_before_one_with_fewer_shares(rt: HostRuntime) -> Result<(), Fail> {
-    let rows = [row(0, 1000, 10, 1, 0)?, row(1, 500, 10, 1, 65536)?];
+    for (tau, payer) in [(75, 0), (0, 1)] {
+        let rows = [
+            row(0, 1000, 10, 1, 0, tau)?,
+            row(1, 500, 10, 1, 65536, tau)?,
+        ];
+        assert!(rt; are_rows(&rows));
+        assert_eq!(rt; least_ratio(&rows), VmId::new(payer));
+    }
+    Ok(())
+}
+
+#[test]
+fn a_taxed_machine_pays_before_one_without_a_tax(rt: HostRuntime) -> Result<(), Fail> {
+    let rows = [row(0, 1000, 10, 1, 0, 0)?, row(1, 500, 10, 1, 65536, 75)?];
     assert!(rt; are_rows(&rows));
-    assert_eq!(rt; least_ratio(75, &rows), VmId::new(0));
-    assert_eq!(rt; least_ratio(0, &rows), VmId::new(1));
+    assert_eq!(rt; least_ratio(&rows), VmId::new(1));
+    Ok(())
+}
+
+#[test]
+fn the_greatest_products_compare(rt: HostRuntime) -> Result<(), Fail> {
+    let rows = [
+        row(0, 1048576, 65535, 1, 0, 0)?,
+        row(1, 1048576, 65536, 1, 0, 0)?,
+    ];
+    assert!(rt; are_rows(&rows));
+    assert_eq!(rt; least_ratio(&rows), VmId::new(1));
     Ok(())
 }
 
 #[test]
 fn no_machine_pays_at_its_floor(rt: HostRuntime) -> Result<(), Fail> {
-    let rows = [row(3, 1000, 1, 2, 0)?];
+    let rows = [row(3, 1000, 1, 2, 0, 75)?];
     assert!(rt; are_rows(&rows));
-    assert_eq!(rt; least_ratio(75, &rows), None);
+    assert_eq!(rt; least_ratio(&rows), None);
+    Ok(())
+}
+
+#[test]
+fn a_tax_of_a_hundred_is_in_no_row(rt: HostRuntime) -> Result<(), Fail> {
+    assert!(rt; row(0, 1, 1, 1, 1, 99)?.is_good());
+    assert!(rt; !row(0, 1, 1, 1, 1, 100)?.is_good());
     Ok(())
 }
 
 #[test]
 fn a_tie_goes_to_the_lower_machine(rt: HostRuntime) -> Result<(), Fail> {
-    let rows = [row(0, 1000, 10, 2, 65536)?, row(1, 1000, 6, 2, 65536)?];
+    let rows = [
+        row(0, 1000, 10, 2, 65536, 75)?,
+        row(1, 1000, 6, 2, 65536, 75)?,
+    ];
     assert!(rt; are_rows(&rows));
     assert_eq!(rt;
-        targets(rt.alloc(), 75, &rows, 5)?.as_slice(),
+        targets(rt.alloc(), &rows, 5)?.as_slice(),
         [5, 6].as_slice()
     );
     Ok(())

@@ -15,7 +15,7 @@ use crate::seen::{Seen, bytes_of};
 use esx_grown::Grown;
 use esx_index::FreeIndex;
 use esx_known::KnownKeys;
-use esx_types::{Bytes, FrameRow, SlotRow};
+use esx_types::{FrameRow, SlotRow, SmallBytes};
 use std::alloc::{AllocError, Global};
 use std::marker::Model;
 use std::mem;
@@ -200,7 +200,7 @@ impl FrameTable {
 
     /// Trades bytes with as many of the page in a frame, from byte `offset` on. Where no page is, or
     /// where they do not fit, nothing changes.
-    pub fn trade_bytes(&mut self, mpn: u32, offset: u32, bytes: &mut Bytes)
+    pub fn trade_bytes(&mut self, mpn: u32, offset: u32, bytes: &mut SmallBytes)
         ensures rows { self.new ≡ (bytes_traded_at mpn offset self.old bytes.old).0 }
         ensures bytes { bytes.new ≡ (bytes_traded_at mpn offset self.old bytes.old).1 }
     {
@@ -382,7 +382,7 @@ mod tests {
         table.trade_mark(1, &mut mark);
         assert_eq!(rt; mark, Mark::Private);
         assert_eq!(rt; table.counts().shared, 1);
-        let mut bytes = Bytes::from_vec(vec![in rt.alloc(); 9; 2]?);
+        let mut bytes = SmallBytes::copy_of(rt.alloc(), &[9; 2])?;
         table.trade_bytes(1, 14, &mut bytes);
         assert_eq!(rt; bytes.as_slice(), [7; 2].as_slice());
         let mut row = FrameRow::Free;
@@ -391,6 +391,21 @@ mod tests {
         assert_eq!(rt; table.counts().free, 2);
         assert_eq!(rt; table.len(), 2);
         assert!(rt; table.get(2).is_none());
+        Ok(())
+    }
+
+    #[test]
+    fn trades_more_bytes_than_stand_in_place(rt: HostRuntime) -> Result<(), Fail> {
+        let mut table = FrameTable::new(rt.alloc(), 1, 32)?;
+        let bytes = Bytes::from_vec(vec![in rt.alloc(); 7; 32]?);
+        table.trade(0, &mut FrameRow::Private { bytes });
+        let nines = Bytes::from_vec(vec![in rt.alloc(); 9; 24]?);
+        let mut bytes = SmallBytes::from_bytes(rt.alloc(), nines)?;
+        table.trade_bytes(0, 8, &mut bytes);
+        assert_eq!(rt; bytes.copy()?.as_slice(), [7; 24].as_slice());
+        let mut few = SmallBytes::copy_of(rt.alloc(), &[3; 22])?;
+        table.trade_bytes(0, 9, &mut few);
+        assert_eq!(rt; few.copy()?.as_slice(), [9; 22].as_slice());
         Ok(())
     }
 
@@ -463,7 +478,7 @@ mod tests {
         assert_eq!(rt; table.known_key(1), Some(content_key(&[7; 4])));
         table.trade_mark(1, &mut mark);
 
-        let mut bytes = Bytes::from_vec(vec![in rt.alloc(); 9; 1]?);
+        let mut bytes = SmallBytes::copy_of(rt.alloc(), &[9])?;
         table.trade_bytes(1, 3, &mut bytes);
         assert_eq!(rt; table.known_key(1), None);
         table.learn_key(1);

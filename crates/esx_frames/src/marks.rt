@@ -4,7 +4,7 @@ ghost use Rattle.std.specs.Prelude.{◌≡◌};
 ghost use Rattle.esx_lists.specs.Trades.{part_traded};
 ghost use Rattle.esx_frames.specs.Marks.{bytes_traded, marked, mark_traded, moves, slot_traded};
 
-use esx_types::{Bytes, FrameRow, SlotRow};
+use esx_types::{Bytes, FrameRow, SlotRow, SmallBytes};
 use std::mem;
 
 /// Whose a page in a frame is: one virtual machine's, or shared, with the number of its pages.
@@ -28,16 +28,16 @@ impl Mark {
 
 /// Trades items with those from a place on, if they fit there.
 #[tactic(auto, unfolding(esx_lists::specs::Trades::part_traded))]
-fn trade_part(kept: &mut Bytes, offset: usize, new: &mut Bytes)
+fn trade_part(kept: &mut Bytes, offset: usize, new: &mut SmallBytes)
     ensures kept { kept.new ≡ (part_traded kept.old offset new.old).0 }
     ensures new { new.new ≡ (part_traded kept.old offset new.old).1 }
 {
     if offset <= kept.len() && new.len() <= kept.len() - offset {
-        kept.trade(offset, new);
+        new.trade(kept, offset);
     }
 }
 
-pub fn trade_bytes(row: &mut FrameRow, offset: usize, new: &mut Bytes)
+pub fn trade_bytes(row: &mut FrameRow, offset: usize, new: &mut SmallBytes)
     ensures row { row.new ≡ (bytes_traded offset row.old new.old).0 }
     ensures new { new.new ≡ (bytes_traded offset row.old new.old).1 }
 {

@@ -63,9 +63,9 @@ go_same c t n page v sound there =
 help_same : (c : Config) (t : Scene) (n page : ℕ) (v : Vm) → IsSound c t.site → vm_at t.site n ≡ Some v → help_from (tables_of c t.site) t.level (vm_table v) page ≡ help_for c t v page
 help_same c t n page v sound there =
     let tables : Tables = tables_of c t.site in
-    ap (λ (b : Bool). cond b helps.Go (help_by (list_any has_spare tables.vms) (first_claim tables.tau (target_rows 0 tables.vms)))) (go_same c t n page v sound there)
-    ∙ ap (λ (b : Bool). cond (can_write c t v page) helps.Go (help_by b (first_claim tables.tau (target_rows 0 tables.vms)))) (spare_shown t.site.vms)
-    ∙ ap (λ (rows : List Row). cond (can_write c t v page) helps.Go (help_by (list_any is_above_min t.site.vms) (first_claim t.site.tau rows))) (rows_shown (λ (w : VmRow). w.target) target_of (λ v. refl) c t.site)
+    ap (λ (b : Bool). cond b helps.Go (help_by (list_any has_spare tables.vms) (first_claim (target_rows tables.tau 0 tables.vms)))) (go_same c t n page v sound there)
+    ∙ ap (λ (b : Bool). cond (can_write c t v page) helps.Go (help_by b (first_claim (target_rows tables.tau 0 tables.vms)))) (spare_shown t.site.vms)
+    ∙ ap (λ (rows : List Row). cond (can_write c t v page) helps.Go (help_by (list_any is_above_min t.site.vms) (first_claim rows))) (rows_shown (λ (w : VmRow). w.target) target_of (λ v. refl) c t.site)
 
 advice_same : (c : Config) (t : Scene) (n page : ℕ) (o : Option Vm) → IsSound c t.site → vm_at t.site n ≡ o → advice_from (tables_of c t.site) t.level page (option_map vm_table o) ≡ help_at c t o page
 advice_same c t n page None sound there = refl

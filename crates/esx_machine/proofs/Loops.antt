@@ -19,16 +19,16 @@ rest_is xs i x below is = grind (arith, common_steps)
 
 -- the claim that comes first, with one more place of a machine
 one_step : (tau i : ℕ) (best : Option Claim) (x : Option VmRow) (rest : List (Option VmRow))
-    → fold (claim_step tau) (vm_step tau i best x) (target_rows (i + 1) rest) ≡ fold (claim_step tau) best (target_rows i (x ∷ rest))
+    → fold claim_step (vm_step tau i best x) (target_rows tau (i + 1) rest) ≡ fold claim_step best (target_rows tau i (x ∷ rest))
 one_step tau i best None rest = refl
 one_step tau i best (Some v) rest = refl
 
 pub claim_more : (tau i : ℕ) (best : Option Claim) (xs : List (Option VmRow)) (x : Option VmRow) → i < length xs → x ≡ get_or xs i x
-    → fold (claim_step tau) (vm_step tau i best x) (target_rows (i + 1) (drop (i + 1) xs)) ≡ fold (claim_step tau) best (target_rows i (drop i xs))
+    → fold claim_step (vm_step tau i best x) (target_rows tau (i + 1) (drop (i + 1) xs)) ≡ fold claim_step best (target_rows tau i (drop i xs))
 claim_more tau i best xs x below is =
-    one_step tau i best x (drop (i + 1) xs) ∙ ap (λ (ys : List (Option VmRow)). fold (claim_step tau) best (target_rows i ys)) (sym (rest_is xs i x below is))
+    one_step tau i best x (drop (i + 1) xs) ∙ ap (λ (ys : List (Option VmRow)). fold claim_step best (target_rows tau i ys)) (sym (rest_is xs i x below is))
 
-pub claim_first : (tau : ℕ) (xs : List (Option VmRow)) → fold (claim_step tau) None (target_rows 0 xs) ≡ first_claim tau (target_rows 0 xs)
+pub claim_first : (tau : ℕ) (xs : List (Option VmRow)) → fold claim_step None (target_rows tau 0 xs) ≡ first_claim (target_rows tau 0 xs)
 unfolding first_claim
 claim_first tau xs = refl
 

@@ -73,27 +73,27 @@ written_frame t (maps.Lent e) = least_frame t.frames
 abbrev pub can_go : Tables → Level → VmRow → ℕ → Bool
 can_go t level v page = not (is_blocked level (standing_of v)) && is_some (written_frame t (page_at v.pages page))
 
--- what a machine has, of which it keeps its target
-abbrev pub target_row : ℕ → VmRow → Row
-target_row n v = ratio_row (λ (w : VmRow). w.target) n v
+-- what a machine has at a tax, of which it keeps its target
+abbrev pub target_row : ℕ → ℕ → VmRow → Row
+target_row tau n v = ratio_row tau (λ (w : VmRow). w.target) n v
 
-abbrev pub target_rows : ℕ → List (Option VmRow) → List Row
-target_rows n vms = numbered (ratio_row (λ (w : VmRow). w.target)) n vms
+abbrev pub target_rows : ℕ → ℕ → List (Option VmRow) → List Row
+target_rows tau n vms = numbered (ratio_row tau (λ (w : VmRow). w.target)) n vms
 
 -- the claim of the row that came first so far, and with one more row, or one more place of a machine
-abbrev pub claim_of : ℕ → Option Row → Option Claim
-claim_of tau None = None
-claim_of tau (Some row) = Some (claim tau row row.pages)
+abbrev pub claim_of : Option Row → Option Claim
+claim_of None = None
+claim_of (Some row) = Some (claim row row.pages)
 
-abbrev pub claim_step : ℕ → Option Claim → Row → Option Claim
-claim_step tau best row = if nat_lt row.floor row.pages then sooner best (claim tau row row.pages) else best
+abbrev pub claim_step : Option Claim → Row → Option Claim
+claim_step best row = if nat_lt row.floor row.pages then sooner best (claim row row.pages) else best
 
 abbrev pub vm_step : ℕ → ℕ → Option Claim → Option VmRow → Option Claim
 vm_step tau n best None = best
-vm_step tau n best (Some v) = claim_step tau best (target_row n v)
+vm_step tau n best (Some v) = claim_step best (target_row tau n v)
 
 abbrev pub help_from : Tables → Level → VmRow → ℕ → Help
-help_from t level v page = if can_go t level v page then helps.Go else help_by (list_any has_spare t.vms) (first_claim t.tau (target_rows 0 t.vms))
+help_from t level v page = if can_go t level v page then helps.Go else help_by (list_any has_spare t.vms) (first_claim (target_rows t.tau 0 t.vms))
 
 abbrev pub advice_from : Tables → Level → ℕ → Option VmRow → Result Help Refusal
 advice_from t level page None = Err NoVm

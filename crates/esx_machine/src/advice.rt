@@ -44,10 +44,11 @@ fn can_go(tables: &SiteTables, level: Level, vm: &VmTable, page: u32) -> bool
     !is_blocked(level, &vm.standing()) && has_frame(tables, vm.page(page))
 }
 
-/// What a machine has, of which it keeps its target.
-fn target_row(vm: VmId, row: &VmTable) -> Row
-    requires { IsReadable row.now }
-    ensures value { result ≡ target_row vm row.now }
+/// What a machine has at a tax, of which it keeps its target.
+fn target_row(tau: u32, vm: VmId, row: &VmTable) -> Row
+    requires tau { tau ≤ 99 }
+    requires row { IsReadable row.now }
+    ensures value { result ≡ target_row tau vm row.now }
     ensures good { IsRow result }
 {
     let pages = row.standing().resident;
@@ -60,16 +61,16 @@ fn target_row(vm: VmId, row: &VmTable) -> Row
         pages,
         floor: row.facts().target,
         active: active(row),
+        tau,
     }
 }
 
 /// Of the row that came first so far and one more, the one that comes first of those with pages above their
 /// floor.
-fn sooner(tau: u32, best: Option<Row>, row: Row) -> Option<Row>
-    requires tau { tau ≤ 99 }
+fn sooner(best: Option<Row>, row: Row) -> Option<Row>
     requires best { ForSome best IsRow }
     requires row { IsRow row }
-    ensures claim { claim_of tau result ≡ claim_step tau (claim_of tau best) row }
+    ensures claim { claim_of result ≡ claim_step (claim_of best) row }
     ensures good { ForSome result IsRow }
 {
     if row.pages <= row.floor {
@@ -77,7 +78,7 @@ fn sooner(tau: u32, best: Option<Row>, row: Row) -> Option<Row>
     }
     match best {
         Some(first) => {
-            if comes_no_later_at(tau, &first, first.pages, &row, row.pages) {
+            if comes_no_later_at(&first, first.pages, &row, row.pages) {
                 Some(first)
             } else {
                 Some(row)
@@ -93,7 +94,7 @@ fn sooner_of(tau: u32, best: Option<Row>, number: usize, vm: &Option<VmTable>) -
     requires best { ForSome best IsRow }
     requires number { number < VM_NUMBERS }
     requires vm { (v : VmRow) → vm.now ≡ Some v → IsReadable v }
-    ensures claim { claim_of tau result ≡ vm_step tau number (claim_of tau best) vm.now }
+    ensures claim { claim_of result ≡ vm_step tau number (claim_of best) vm.now }
     ensures good { ForSome result IsRow }
 {
     let Some(row) = vm else {
@@ -102,13 +103,13 @@ fn sooner_of(tau: u32, best: Option<Row>, number: usize, vm: &Option<VmTable>) -
     let Some(vm) = VmId::new(number as u8) else {
         unreachable!("each place of a machine has a number");
     };
-    sooner(tau, best, target_row(vm, row))
+    sooner(best, target_row(tau, vm, row))
 }
 
 /// The row of the machine that pages out next, if one is above its target.
 fn first_row(tables: &SiteTables) -> Option<Row>
     requires { AreReadable tables.now }
-    ensures { claim_of tables.now.tau result ≡ first_claim tables.now.tau (target_rows 0 tables.now.vms) }
+    ensures { claim_of result ≡ first_claim (target_rows tables.now.tau 0 tables.now.vms) }
 {
     let tau = tables.tau();
     let mut best = None;

@@ -212,7 +212,7 @@ maximal k (Some v ∷ vms) h = (h.0, maximal k vms h.1)
 
 shared_out_within : (k : ℕ) (c : Config) (s : Site) (r : Answer × Site) → AreEpochsWithin k s → share_out c s ≡ Ok r → AreEpochsWithin k r.1
 shared_out_within k c s r within h =
-    leads k _ (record s { vms = with_targets s.vms (targets_of s.tau (rows_of min_of s) (need c s)) }) r h (retargeted k s.vms (targets_of s.tau (rows_of min_of s) (need c s)) within)
+    leads k _ (record s { vms = with_targets s.vms (targets_of (rows_of min_of s) (need c s)) }) r h (retargeted k s.vms (targets_of (rows_of min_of s) (need c s)) within)
 
 rebalance_within : (k : ℕ) (c : Config) (s : Site) (level : Level) (r : Answer × Site) → AreEpochsWithin k s → rebalance c s level ≡ Ok r → AreEpochsWithin k r.1
 unfolding rebalance

@@ -61,42 +61,43 @@ resident_most c v fine = (let few = count_by-le-length is_here v.places in omega
 
 -- The rows.
 
-row_fine : (c : Config) (floor : Vm → ℕ) (n : ℕ) (v : Vm) → IsVm c v → n < VM_NUMBERS → floor v ≤ 65536 → IsRow (row_of_vm n (floor v) v)
-row_fine c floor n v fine low least = record {
+row_fine : (c : Config) (tau : ℕ) (floor : Vm → ℕ) (n : ℕ) (v : Vm) → tau ≤ 99 → IsVm c v → n < VM_NUMBERS → floor v ≤ 65536 → IsRow (row_of_vm tau n (floor v) v)
+row_fine c tau floor n v tax fine low least = record {
   vm = low;
   least_shares = fine.good.least_shares;
   most_shares = fine.good.most_shares;
   most_pages = (let most = resident_most c v fine in omega (arith, most, fine.good.most_max));
   most_floor = least;
   most_active = active_is_share c v fine;
+  most_tau = tax;
 }
 
-rows_fine : (c : Config) (floor : Vm → ℕ) (n : ℕ) (vms : List (Option Vm)) → ((k : ℕ) (v : Vm) → get_or vms k None ≡ Some v → IsVm c v × (floor v ≤ 65536)) → n + length vms ≤ VM_NUMBERS
-    → (i : ℕ) → i < length (rows_from floor n vms) → IsRow (row_at (rows_from floor n vms) i)
-rows_fine c floor n [] each low i below = absurd (omega arith)
-rows_fine c floor n (None ∷ os) each low i below = rows_fine c floor (n + 1) os (λ k v h. each (suc k) v h) (omega (arith, low)) i below
-rows_fine c floor n (Some v ∷ os) each low zero below = (let known = each zero v refl in row_fine c floor n v known.0 (omega (arith, low)) known.1)
-rows_fine c floor n (Some v ∷ os) each low (suc i) below = rows_fine c floor (n + 1) os (λ k v h. each (suc k) v h) (omega (arith, low)) i (omega (arith, below))
+rows_fine : (c : Config) (tau : ℕ) (floor : Vm → ℕ) (n : ℕ) (vms : List (Option Vm)) → tau ≤ 99 → ((k : ℕ) (v : Vm) → get_or vms k None ≡ Some v → IsVm c v × (floor v ≤ 65536)) → n + length vms ≤ VM_NUMBERS
+    → (i : ℕ) → i < length (rows_from tau floor n vms) → IsRow (row_at (rows_from tau floor n vms) i)
+rows_fine c tau floor n [] tax each low i below = absurd (omega arith)
+rows_fine c tau floor n (None ∷ os) tax each low i below = rows_fine c tau floor (n + 1) os tax (λ k v h. each (suc k) v h) (omega (arith, low)) i below
+rows_fine c tau floor n (Some v ∷ os) tax each low zero below = (let known = each zero v refl in row_fine c tau floor n v tax known.0 (omega (arith, low)) known.1)
+rows_fine c tau floor n (Some v ∷ os) tax each low (suc i) below = rows_fine c tau floor (n + 1) os tax (λ k v h. each (suc k) v h) (omega (arith, low)) i (omega (arith, below))
 
-rows_least : (floor : Vm → ℕ) (n : ℕ) (vms : List (Option Vm)) (i : ℕ) → i < length (rows_from floor n vms) → n ≤ (row_at (rows_from floor n vms) i).vm
-rows_least floor n [] i below = absurd (omega arith)
-rows_least floor n (None ∷ os) i below = (let rest = rows_least floor (n + 1) os i below in omega (arith, rest))
-rows_least floor n (Some v ∷ os) zero below = omega arith
-rows_least floor n (Some v ∷ os) (suc i) below = (let rest = rows_least floor (n + 1) os i (omega (arith, below)) in omega (arith, rest))
+rows_least : (tau : ℕ) (floor : Vm → ℕ) (n : ℕ) (vms : List (Option Vm)) (i : ℕ) → i < length (rows_from tau floor n vms) → n ≤ (row_at (rows_from tau floor n vms) i).vm
+rows_least tau floor n [] i below = absurd (omega arith)
+rows_least tau floor n (None ∷ os) i below = (let rest = rows_least tau floor (n + 1) os i below in omega (arith, rest))
+rows_least tau floor n (Some v ∷ os) zero below = omega arith
+rows_least tau floor n (Some v ∷ os) (suc i) below = (let rest = rows_least tau floor (n + 1) os i (omega (arith, below)) in omega (arith, rest))
 
-rows_ordered : (floor : Vm → ℕ) (n : ℕ) (vms : List (Option Vm)) (i j : ℕ) → i < j → j < length (rows_from floor n vms) → (row_at (rows_from floor n vms) i).vm < (row_at (rows_from floor n vms) j).vm
-rows_ordered floor n [] i j less below = absurd (omega arith)
-rows_ordered floor n (None ∷ os) i j less below = rows_ordered floor (n + 1) os i j less below
-rows_ordered floor n (Some v ∷ os) i zero less below = absurd (omega arith)
-rows_ordered floor n (Some v ∷ os) zero (suc j) less below = (let rest = rows_least floor (n + 1) os j (omega (arith, below)) in omega (arith, rest))
-rows_ordered floor n (Some v ∷ os) (suc i) (suc j) less below = rows_ordered floor (n + 1) os i j (omega (arith, less)) (omega (arith, below))
+rows_ordered : (tau : ℕ) (floor : Vm → ℕ) (n : ℕ) (vms : List (Option Vm)) (i j : ℕ) → i < j → j < length (rows_from tau floor n vms) → (row_at (rows_from tau floor n vms) i).vm < (row_at (rows_from tau floor n vms) j).vm
+rows_ordered tau floor n [] i j less below = absurd (omega arith)
+rows_ordered tau floor n (None ∷ os) i j less below = rows_ordered tau floor (n + 1) os i j less below
+rows_ordered tau floor n (Some v ∷ os) i zero less below = absurd (omega arith)
+rows_ordered tau floor n (Some v ∷ os) zero (suc j) less below = (let rest = rows_least tau floor (n + 1) os j (omega (arith, below)) in omega (arith, rest))
+rows_ordered tau floor n (Some v ∷ os) (suc i) (suc j) less below = rows_ordered tau floor (n + 1) os i j (omega (arith, less)) (omega (arith, below))
 
 -- the rows of a sound site
 pub rows_of_sound : (c : Config) (s : Site) (floor : Vm → ℕ) → IsSound c s → ((v : Vm) → IsVm c v → floor v ≤ 65536) → AreRows (rows_of floor s)
 unfolding rows_of
 rows_of_sound c s floor sound least = record {
-  each = rows_fine c floor 0 s.vms (λ k v h. (sound.each k v h, least v (sound.each k v h))) (omega (arith, sound.vms));
-  ordered = rows_ordered floor 0 s.vms;
+  each = rows_fine c s.tau floor 0 s.vms sound.tau (λ k v h. (sound.each k v h, least v (sound.each k v h))) (omega (arith, sound.vms));
+  ordered = rows_ordered s.tau floor 0 s.vms;
 }
 
 pub site_targets : (c : Config) (s : Site) (need : ℕ) → IsSound c s → HasOneListOfTargets s need
@@ -104,5 +105,5 @@ site_targets c s need sound =
     let rows = rows_of_sound c s min_of sound (λ v fine. omega (arith, fine.good.min_max, fine.good.most_max)) in
     record {
       rows = rows;
-      one = λ targets. (only_worked_out s.tau (rows_of min_of s) sound.tau rows need targets, λ e. rw e (worked_out s.tau (rows_of min_of s) sound.tau rows need));
+      one = λ targets. (only_worked_out (rows_of min_of s) rows need targets, λ e. rw e (worked_out (rows_of min_of s) rows need));
     }

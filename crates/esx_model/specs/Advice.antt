@@ -32,7 +32,7 @@ abbrev pub target_of : Vm → ℕ
 target_of v = v.target
 
 abbrev pub help_for : Config → Scene → Vm → ℕ → Help
-help_for c t v page = if can_write c t v page then helps.Go else help_by (list_any is_above_min t.site.vms) (first_claim t.site.tau (rows_of target_of t.site))
+help_for c t v page = if can_write c t v page then helps.Go else help_by (list_any is_above_min t.site.vms) (first_claim (rows_of target_of t.site))
 
 abbrev pub help_at : Config → Scene → Option Vm → ℕ → Result Help Refusal
 help_at c t None page = Err NoVm

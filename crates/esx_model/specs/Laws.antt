@@ -53,7 +53,7 @@ IsReadHarmless = (c : Config) (s : Site) (level : Level) (n page at len : ℕ) (
 -- the rows that targets are made from are in order, and one list of targets fits them
 pub record HasOneListOfTargets (s : Site) (need : ℕ) : Type 0 where
   pub rows : AreRows (rows_of min_of s)
-  pub one : (targets : List ℕ) → AreTargets s.tau (rows_of min_of s) need targets ↔ targets ≡ targets_of s.tau (rows_of min_of s) need
+  pub one : (targets : List ℕ) → AreTargets (rows_of min_of s) need targets ↔ targets ≡ targets_of (rows_of min_of s) need
 
 abbrev pub HaveSitesTargets : Type 0
 HaveSitesTargets = (c : Config) (s : Site) (need : ℕ) → IsSound c s → HasOneListOfTargets s need

@@ -8,10 +8,20 @@ ghost use Rattle.esx_text.specs.Answers.{Answers, EndsEarly, ReadsOn, write_faul
 ghost use Rattle.esx_program.specs.Site.{at_opening};
 
 use esx_console::Console;
+use esx_events::Refusal;
 use esx_text::{ServeFault, give_up, serve};
+use esx_told::TextLog;
 use esx_types::{Config, Sink, Source};
 use std::alloc::Global;
 use std::mem;
+
+/// Opens a site over a log that is kept as the text of its session.
+fn open_told(alloc: Global, config: Config) -> Result<Console<TextLog>, Refusal>
+    ensures { IfOk result (λ console. console ≡ at_opening config) }
+{
+    let log = TextLog::new(alloc)?;
+    Console::over(alloc, config, log)
+}
 
 /// Opens a site and serves the commands that are read, as caller 0. Gives the number of lines.
 ///
@@ -45,7 +55,7 @@ pub fn serve_site<R: Source, W: Sink>(
         W.flushes writer.new + R.calls reader.old + failed ≡ W.flushes writer.old + R.calls reader.new + 1 }
     ensures sent { (IsErrOf result ServeFault.Write → ⊥) → W.waiting writer.new ≡ [] }
 {
-    match Console::open(alloc, config) {
+    match open_told(alloc, config) {
         Ok(mut console) => {
             let served = serve(alloc, &mut console, 0, reader, writer);
             // The program ends with its site, and the system takes the memory back as a whole.

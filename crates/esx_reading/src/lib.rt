@@ -12,4 +12,4 @@ mod written;
 pub use fault::TextFault;
 pub use fields::{Fields, number_of};
 pub use whole::{read_text, read_whole};
-pub use written::written_bytes;
+pub use written::{small_written_bytes, written_bytes};

@@ -1,12 +1,12 @@
 //! Bytes as pairs of hex digits.
 
-ghost use Rattle.std.specs.Prelude.{◌≡◌, ◌∷◌, ◌<◌, ◌≤◌, ◌%◌, [], ℕ, List, length, slice_index, IfSome, IfNone, IfOk, IfErr, IsErrOf};
+ghost use Rattle.std.specs.Prelude.{◌≡◌, ◌∷◌, ◌<◌, ◌≤◌, ◌*◌, ◌%◌, [], ℕ, List, length, slice_index, IfSome, IfNone, IfOk, IfErr, IsErrOf};
 ghost use Rattle.hex.specs.Hex.{encode_lower, lower_digits, IsBytes};
 ghost use Rattle.esx_reading.specs.Faults.{Refuses};
 ghost use Rattle.esx_reading.specs.Written.{IsWritten};
 
 use crate::fault::TextFault;
-use esx_types::Bytes;
+use esx_types::{Bytes, FEW, SmallBytes};
 use std::alloc::Global;
 
 /// The value of each byte as a digit in hex, in lower case, and 255 where it is none.
@@ -88,5 +88,58 @@ pub fn written_bytes(alloc: Global, field: &str) -> Result<Bytes, TextFault>
     match bytes_of(alloc, field.as_bytes()) {
         Ok(bytes) => Ok(Bytes::from_vec(bytes)),
         Err(fault) => Err(fault),
+    }
+}
+
+/// The bytes of digits that are few, two digits a byte.
+fn few_bytes_of(digits: &[u8]) -> Option<SmallBytes>
+    requires even { length digits.now % 2 ≡ 0 }
+    requires few { length digits.now ≤ 2 * FEW }
+    ensures found { IfSome result (λ bytes. IsBytes bytes × (digits.now ≡ encode_lower bytes)) }
+    ensures only { IfNone result ((bytes : List ℕ) → IsBytes bytes → digits.now ≡ encode_lower bytes → ⊥) }
+{
+    let mut few = [0; FEW];
+    let len = digits.len() / 2;
+    for at in 0..len {
+        let Some(byte) = byte_of(digits[2 * at], digits[2 * at + 1]) else {
+            return None;
+        };
+        few[at] = byte;
+    }
+    Some(SmallBytes::few(few, len))
+}
+
+/// The same bytes as `written_bytes` has, of a field that is longer than `FEW` bytes.
+fn many_written_bytes(alloc: Global, field: &str) -> Result<SmallBytes, TextFault>
+    requires { 2 * FEW < length field.now }
+    ensures found { IfOk result (λ bytes. IsWritten bytes × (field.now ≡ encode_lower bytes)) }
+    ensures only { IfErr result (λ e. Refuses e ((bytes : List ℕ) → IsWritten bytes → field.now ≡ encode_lower bytes → ⊥)) }
+    ensures memory { IsErrOf result TextFault.OutOfMemory → (length field.now ≤ 8192) × (length field.now % 2 ≡ 0) }
+{
+    let bytes = match written_bytes(alloc, field) {
+        Ok(bytes) => bytes,
+        Err(fault) => return Err(fault),
+    };
+    match SmallBytes::from_bytes(alloc, bytes) {
+        Ok(bytes) => Ok(bytes),
+        Err(_) => Err(TextFault::OutOfMemory),
+    }
+}
+
+/// The same bytes as `written_bytes` has. Up to `FEW` of them take no memory.
+pub fn small_written_bytes(alloc: Global, field: &str) -> Result<SmallBytes, TextFault>
+    ensures found { IfOk result (λ bytes. IsWritten bytes × (field.now ≡ encode_lower bytes)) }
+    ensures only { IfErr result (λ e. Refuses e ((bytes : List ℕ) → IsWritten bytes → field.now ≡ encode_lower bytes → ⊥)) }
+    ensures memory { IsErrOf result TextFault.OutOfMemory → (2 * FEW < length field.now) × (length field.now ≤ 8192) × (length field.now % 2 ≡ 0) }
+{
+    if field.len() > 2 * FEW {
+        return many_written_bytes(alloc, field);
+    }
+    if field.is_empty() || field.len() % 2 != 0 {
+        return Err(TextFault::BadLine(1));
+    }
+    match few_bytes_of(field.as_bytes()) {
+        Some(bytes) => Ok(bytes),
+        None => Err(TextFault::BadLine(1)),
     }
 }

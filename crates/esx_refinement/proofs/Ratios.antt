@@ -33,21 +33,21 @@ open_shown (Some p) = ap (λ (e : Estimate). Some e) (told_shown p)
 pub active_shown : (v : Vm) → active_now (vm_table v) ≡ active v
 active_shown v = ap (λ (o : Option Estimate). active_share (slow_average v.closed) (fast_average v.closed) o) (open_shown v.period)
 
-module _ (floor : VmRow → ℕ) (own : Vm → ℕ) (same : (v : Vm) → floor (vm_table v) ≡ own v) where
-  row_shown : (n : ℕ) (v : Vm) → ratio_row floor n (vm_table v) ≡ row_of_vm n (own v) v
+module _ (tau : ℕ) (floor : VmRow → ℕ) (own : Vm → ℕ) (same : (v : Vm) → floor (vm_table v) ≡ own v) where
+  row_shown : (n : ℕ) (v : Vm) → ratio_row tau floor n (vm_table v) ≡ row_of_vm tau n (own v) v
   row_shown n v =
-      ap (λ (k : ℕ). record (ratio_row floor n (vm_table v)) { pages = k }) (ap (λ (m : Standing). m.resident) (standing_shown v))
-      ∙ ap (λ (k : ℕ). record (row_of_vm n (own v) v) { floor = k; active = active_now (vm_table v) }) (same v)
-      ∙ ap (λ (k : ℕ). record (row_of_vm n (own v) v) { active = k }) (active_shown v)
+      ap (λ (k : ℕ). record (ratio_row tau floor n (vm_table v)) { pages = k }) (ap (λ (m : Standing). m.resident) (standing_shown v))
+      ∙ ap (λ (k : ℕ). record (row_of_vm tau n (own v) v) { floor = k; active = active_now (vm_table v) }) (same v)
+      ∙ ap (λ (k : ℕ). record (row_of_vm tau n (own v) v) { active = k }) (active_shown v)
 
-  numbered_shown : (n : ℕ) (vms : List (Option Vm)) → numbered (ratio_row floor) n (map (option_map vm_table) vms) ≡ rows_from own n vms
+  numbered_shown : (n : ℕ) (vms : List (Option Vm)) → numbered (ratio_row tau floor) n (map (option_map vm_table) vms) ≡ rows_from tau own n vms
   numbered_shown n [] = refl
   numbered_shown n (None ∷ vms) = numbered_shown (n + 1) vms
   numbered_shown n (Some v ∷ vms) =
-      ap (λ (row : Row). row ∷ numbered (ratio_row floor) (n + 1) (map (option_map vm_table) vms)) (row_shown n v)
-      ∙ ap (λ (rows : List Row). row_of_vm n (own v) v ∷ rows) (numbered_shown (n + 1) vms)
+      ap (λ (row : Row). row ∷ numbered (ratio_row tau floor) (n + 1) (map (option_map vm_table) vms)) (row_shown n v)
+      ∙ ap (λ (rows : List Row). row_of_vm tau n (own v) v ∷ rows) (numbered_shown (n + 1) vms)
 
-  -- the rows of tables are those of the site
-  pub rows_shown : (c : Config) (s : Site) → ratio_rows floor (tables_of c s) ≡ rows_of own s
-  unfolding rows_of
-  rows_shown c s = numbered_shown 0 s.vms
+-- the rows of tables are those of the site
+pub rows_shown : (floor : VmRow → ℕ) (own : Vm → ℕ) → ((v : Vm) → floor (vm_table v) ≡ own v) → (c : Config) (s : Site) → ratio_rows floor (tables_of c s) ≡ rows_of own s
+unfolding rows_of
+rows_shown floor own same c s = numbered_shown s.tau floor own same 0 s.vms

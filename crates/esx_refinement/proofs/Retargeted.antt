@@ -26,9 +26,9 @@ no_targets (None ∷ vms) = ap (λ (os : List (Option Vm)). None ∷ os) (no_tar
 no_targets (Some v ∷ vms) = ap (λ (os : List (Option Vm)). Some v ∷ os) (no_targets vms)
 
 -- the machines that come after those in front
-module _ (floor : VmRow → ℕ) where
+module _ (tau : ℕ) (floor : VmRow → ℕ) where
   pub targets_made : (t : Tables) (n : ℕ) (front : List (Option VmRow)) (vms : List (Option Vm)) (targets : List ℕ) → length front ≡ n → t.vms ≡ front ++ rows_of_vms vms
-      → (exchanged t (to_targets (numbered (ratio_row floor) n (rows_of_vms vms)) targets)).0 ≡ record t { vms = front ++ rows_of_vms (with_targets vms targets) }
+      → (exchanged t (to_targets (numbered (ratio_row tau floor) n (rows_of_vms vms)) targets)).0 ≡ record t { vms = front ++ rows_of_vms (with_targets vms targets) }
   unfolding exchanged
   targets_made t n front [] targets long there = ap (λ (vms : List (Option VmRow)). record t { vms = vms }) there
   targets_made t n front (None ∷ vms) targets long there =
@@ -39,7 +39,7 @@ module _ (floor : VmRow → ℕ) where
   targets_made t n front (Some v ∷ vms) (target ∷ targets) long there =
       let row : VmRow = record (vm_table v) { target = target } in
       let after : Tables = put_vm t n (Some row) in
-      let rest : List Change = to_targets (numbered (ratio_row floor) (n + 1) (rows_of_vms vms)) targets in
+      let rest : List Change = to_targets (numbered (ratio_row tau floor) (n + 1) (rows_of_vms vms)) targets in
       let is : row_at t n ≡ Some (vm_table v) = ap (λ (rows : List (Option VmRow)). get_or rows n None) there ∙ get_or_at front (Some (vm_table v)) (rows_of_vms vms) None n long in
       let one : (exchanged t (OfVm n (Target target) ∷ [])).0 ≡ after = parts_made t n (vm_table v) (Target target ∷ []) is in
       let stands : after.vms ≡ (front ++ Some row ∷ []) ++ rows_of_vms vms =
@@ -62,8 +62,8 @@ maxes_are [] = refl
 maxes_are (None ∷ vms) = ap (λ (os : List (Option Vm)). None ∷ os) (maxes_are vms)
 maxes_are (Some v ∷ vms) = ap (λ (os : List (Option Vm)). Some (at_max v) ∷ os) (maxes_are vms)
 
-pub maxes_changed : (floor : VmRow → ℕ) (n : ℕ) (vms : List (Option Vm)) → numbered to_max n (rows_of_vms vms) ≡ to_targets (numbered (ratio_row floor) n (rows_of_vms vms)) (maxes vms)
+pub maxes_changed : (tau : ℕ) (floor : VmRow → ℕ) (n : ℕ) (vms : List (Option Vm)) → numbered to_max n (rows_of_vms vms) ≡ to_targets (numbered (ratio_row tau floor) n (rows_of_vms vms)) (maxes vms)
 unfolding maxes
-maxes_changed floor n [] = refl
-maxes_changed floor n (None ∷ vms) = maxes_changed floor (n + 1) vms
-maxes_changed floor n (Some v ∷ vms) = ap (λ (changes : List Change). OfVm n (Target v.spec.max) ∷ changes) (maxes_changed floor (n + 1) vms)
+maxes_changed tau floor n [] = refl
+maxes_changed tau floor n (None ∷ vms) = maxes_changed tau floor (n + 1) vms
+maxes_changed tau floor n (Some v ∷ vms) = ap (λ (changes : List Change). OfVm n (Target v.spec.max) ∷ changes) (maxes_changed tau floor (n + 1) vms)

@@ -30,7 +30,9 @@ use Rattle.esx_events.specs.declared.call.Help.TheVariants as helps
 use Rattle.esx_writing.specs.Writing.{right_in, left_in}
 use Rattle.esx_replies.specs.Texts.{level_text, state_text, running_text, refusal_text, sum_text, stand_text, marked_text, pruned_text, activity_text, looked_text, page_text, help_text}
 use Rattle.esx_replies.specs.Replies.{answer_text, tried_text, said_text, table_head, row_text, marks_head, mark_text, sides_head, before_text, after_text, numbered_text, tried_texts}
-use Rattle.esx_replies.proofs.SignLemmas.{is_some, line_some, is_empty, is_line, IsClosed, line_closed, feed_closed, both_closed, all_closed}
+use Rattle.esx_replies.specs.Signs.{behind}
+use Rattle.esx_replies.specs.Told.{is_brief}
+use Rattle.esx_replies.proofs.SignLemmas.{is_some, line_some, is_empty, is_line, line_behind, IsClosed, line_closed, feed_closed, both_closed, all_closed}
 
 -- no line feed stands in the bytes
 abbrev is_plain : List ℕ → Bool
@@ -301,3 +303,21 @@ numbered_closed s n r = line_closed s (numbered_text n r) (numbered_line n r)
 pub tried_closed : (s : List ℕ) (n : ℕ) (rs : List (Result Answer Refusal)) → IsClosed s (tried_texts n rs)
 tried_closed s n [] y = refl
 tried_closed s n (r ∷ rs) y = both_closed s (numbered_text n r) (tried_texts (n + 1) rs) (numbered_closed s n r) (tried_closed s (n + 1) rs) y
+
+brief_line : (s : Said) (jumps : ℕ) → is_brief s ≡ true → is_line (said_text s jumps) ≡ true
+brief_line (said.Done answer) jumps is = answer_line answer
+brief_line (said.Refused refusal) jumps is = refusal_line refusal
+brief_line (said.Stand stand) jumps is = stand_line stand jumps
+brief_line (said.Marked name node) jumps is = absurd (cc)
+brief_line (said.Pruned count) jumps is = pruned_line count
+brief_line (said.Sides sides) jumps is = absurd (cc)
+brief_line (said.Sum sum) jumps is = sum_line sum
+brief_line (said.Table rows sum) jumps is = absurd (cc)
+brief_line (said.Activity activity) jumps is = activity_line activity
+brief_line (said.Page state) jumps is = page_line state
+brief_line (said.Help help) jumps is = help_line help
+brief_line (said.Marks marks) jumps is = absurd (cc)
+
+-- what takes one line stands behind one sign
+pub brief_behind : (s : Said) (jumps : ℕ) (sign : List ℕ) → is_brief s ≡ true → behind sign (said_text s jumps) ≡ sign ++ said_text s jumps
+brief_behind s jumps sign is = line_behind sign (said_text s jumps) (brief_line s jumps is)

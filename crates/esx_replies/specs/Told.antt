@@ -1,5 +1,5 @@
 -- What a reader of sessions needs of the text of a reply.
-use Rattle.std.specs.Prelude.{ℕ, List, [], ◌∷◌, ◌++◌, ◌≡◌}
+use Rattle.std.specs.Prelude.{ℕ, Bool, true, false, List, [], ◌∷◌, ◌++◌, ◌≡◌}
 use Rattle.std.specs.List.{AllByRecursion}
 use Rattle.std.specs.Str.{IsAscii}
 use Rattle.esx_events.specs.Names.{IsName}
@@ -32,3 +32,18 @@ HasNames (said.Marks marks) = AllByRecursion (λ row. IsName row.name) marks
 -- the law of all replies
 abbrev pub IsReplyTold : Reply → Type 0
 IsReplyTold reply = HasNames reply.said → IsTold (reply_text reply)
+
+-- what takes one line, whatever its names are
+abbrev pub is_brief : Said → Bool
+is_brief (said.Done answer) = true
+is_brief (said.Refused refusal) = true
+is_brief (said.Stand stand) = true
+is_brief (said.Marked name node) = false
+is_brief (said.Pruned count) = true
+is_brief (said.Sides sides) = false
+is_brief (said.Sum sum) = true
+is_brief (said.Table rows sum) = false
+is_brief (said.Activity activity) = true
+is_brief (said.Page state) = true
+is_brief (said.Help help) = true
+is_brief (said.Marks marks) = false

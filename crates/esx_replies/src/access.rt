@@ -4,14 +4,14 @@ ghost use Rattle.std.specs.Prelude.{◌≡◌, ◌+◌, OnOk, IsUtf8};
 ghost use Rattle.esx_writing.specs.Writing.{Puts, sink_faults};
 ghost use Rattle.esx_replies.specs.Texts.{bytes_text};
 
-use esx_types::{Bytes, Sink, SinkFailed};
+use esx_types::{Sink, SinkFailed, SmallBytes};
 use esx_writing::{AnswerBuffer, Hex, line, put_line};
 
 /// The bytes that were read.
 pub fn put_bytes<W: Sink>(
     sink: &mut W,
     held: &mut AnswerBuffer,
-    bytes: &Bytes,
+    bytes: &SmallBytes,
 ) -> Result<(), SinkFailed>
     ensures bytes { Puts (W.contents sink.old) held.old (W.contents sink.new) held.new (bytes_text bytes.now) result }
     ensures utf8 { OnOk result (IsUtf8 (bytes_text bytes.now)) }

@@ -35,7 +35,7 @@ pub fn put_answer<W: Sink>(
             held: taken,
             overhead,
         } => put_started(sink, held, *frame, *taken, *overhead, *running),
-        Answer::Bytes { bytes } => put_bytes(sink, held, bytes.get()),
+        Answer::Bytes { bytes } => put_bytes(sink, held, bytes),
         Answer::Done => put(sink, held, "ok\n".as_bytes()),
         Answer::Goal { goal, lent, epoch } => put_goal(sink, held, *goal, *lent, *epoch),
         Answer::Reset { epoch } => put_reset(sink, held, *epoch),

@@ -5,6 +5,7 @@ mod access;
 mod admission;
 mod answer;
 mod balloon;
+mod brief;
 pub mod laws;
 mod leaving;
 mod marks;
@@ -20,5 +21,6 @@ mod sides;
 mod sign;
 mod table;
 
+pub use brief::is_brief;
 pub use said::{print_reply, put_reply, write_reply};
 pub use sign::Sign;

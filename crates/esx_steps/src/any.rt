@@ -76,7 +76,7 @@ pub fn step(
             *vm,
             *page,
             *at,
-            bytes.get().as_slice(),
+            bytes.as_slice(),
         ),
         Event::Ask { vm } => ask(config, site, *vm),
         Event::Lend { vm, page } => lend(alloc, config, site, *vm, *page),

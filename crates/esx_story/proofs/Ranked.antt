@@ -4,13 +4,14 @@ use Rattle.std.specs.List.{AllByRecursion, filter, find, fold}
 use Rattle.std.specs.Option.{option_map}
 use Rattle.std.proofs.lemmas.List.Sums.{sum_by-cons}
 use Rattle.std.proofs.lemmas.Bool.Decides.{nat_tests}
+use Rattle.std.proofs.Math.Nat.{mul-pos}
 use Rattle.esx_types.specs.declared.config.Config.{Config}
 use Rattle.esx_events.specs.declared.call.Help.TheVariants as helps
 use Rattle.esx_formulas.specs.declared.targets.Row.{Row}
 use Rattle.esx_formulas.specs.Ratio.{Claim, claim, ComesNoLater}
 use Rattle.esx_formulas.specs.Targets.{comes_no_later, sooner, first_claim}
 use Rattle.esx_formulas.proofs.Claims.{comes_from_test, comes_from_no_test, test_from_comes}
-use Rattle.esx_formulas.proofs.RatioLaws.{no_later_self, no_later_chain, no_later_same, claim_above_none}
+use Rattle.esx_formulas.proofs.RatioLaws.{no_later_self, no_later_chain, no_later_same, price_above_none}
 use Rattle.esx_model.specs.declared.scene.Vm.{Vm}
 use Rattle.esx_model.specs.declared.scene.Site.{Site}
 use Rattle.esx_model.specs.Site.{resident}
@@ -37,24 +38,24 @@ first_of best (x ∷ xs) = first_of (sooner best x) xs
 abbrev is_above : Row → Bool
 is_above row = nat_lt row.floor row.pages
 
-abbrev claimed : ℕ → Row → Claim
-claimed tau row = claim tau row row.pages
+abbrev claimed : Row → Claim
+claimed row = claim row row.pages
 
-abbrev fold_of : ℕ → Option Claim → List Row → Option Claim
-fold_of tau best rows = fold (λ o row. cond (is_above row) (sooner o (claimed tau row)) o) best rows
+abbrev fold_of : Option Claim → List Row → Option Claim
+fold_of best rows = fold (λ o row. cond (is_above row) (sooner o (claimed row)) o) best rows
 
-first_one : (tau : ℕ) (row : Row) (rows : List Row) (best : Option Claim) (b : Bool) → ((o : Option Claim) → fold_of tau o rows ≡ first_of o (above_of tau rows))
-    → fold_of tau (cond b (sooner best (claimed tau row)) best) rows ≡ first_of best (map (claimed tau) (cond b (row ∷ filter is_above rows) (filter is_above rows)))
-first_one tau row rows best true rest = rest (sooner best (claimed tau row))
-first_one tau row rows best false rest = rest best
+first_one : (row : Row) (rows : List Row) (best : Option Claim) (b : Bool) → ((o : Option Claim) → fold_of o rows ≡ first_of o (above_of rows))
+    → fold_of (cond b (sooner best (claimed row)) best) rows ≡ first_of best (map claimed (cond b (row ∷ filter is_above rows) (filter is_above rows)))
+first_one row rows best true rest = rest (sooner best (claimed row))
+first_one row rows best false rest = rest best
 
-first_from : (tau : ℕ) (rows : List Row) (best : Option Claim) → fold_of tau best rows ≡ first_of best (above_of tau rows)
-first_from tau [] best = refl
-first_from tau (row ∷ rows) best = first_one tau row rows best (is_above row) (λ o. first_from tau rows o)
+first_from : (rows : List Row) (best : Option Claim) → fold_of best rows ≡ first_of best (above_of rows)
+first_from [] best = refl
+first_from (row ∷ rows) best = first_one row rows best (is_above row) (λ o. first_from rows o)
 
-first_is : (tau : ℕ) (rows : List Row) → first_claim tau rows ≡ first_of None (above_of tau rows)
+first_is : (rows : List Row) → first_claim rows ≡ first_of None (above_of rows)
 unfolding first_claim
-first_is tau rows = first_from tau rows None
+first_is rows = first_from rows None
 
 -- Lists of ratios, each with some pages.
 
@@ -228,58 +229,62 @@ record AreFine (n : ℕ) (xs : List Claim) : Type 0 where
 fine_later : (n : ℕ) (xs : List Claim) → AreFine (n + 1) xs → AreFine n xs
 fine_later n xs fine = record { from = all_map (λ (a : Claim). n + 1 ≤ a.vm) (λ (a : Claim). n ≤ a.vm) (λ a h. omega (arith, h)) xs fine.from; whole = fine.whole; rising = fine.rising }
 
-fine_one : (tau n : ℕ) (row : Row) (rows : List Row) (b : Bool) → tau ≤ 99 → row.vm ≡ n → row.active ≤ 65536 → nat_lt row.floor row.pages ≡ b → AreFine (n + 1) (above_of tau rows)
-    → AreFine n (map (claimed tau) (cond b (row ∷ filter is_above rows) (filter is_above rows)))
-fine_one tau n row rows false low number share e fine = fine_later n (above_of tau rows) fine
-fine_one tau n row rows true low number share e fine =
-    let more = fine_later n (above_of tau rows) fine in
+-- a ratio of some pages
+whole_claim : (row : Row) (pages : ℕ) → row.tau ≤ 99 → row.active ≤ 65536 → 0 < pages → 0 < (claim row pages).under
+whole_claim row pages low share some = mul-pos some (price_above_none row.tau row.active low share)
+
+fine_one : (n : ℕ) (row : Row) (rows : List Row) (b : Bool) → row.tau ≤ 99 → row.vm ≡ n → row.active ≤ 65536 → nat_lt row.floor row.pages ≡ b → AreFine (n + 1) (above_of rows)
+    → AreFine n (map claimed (cond b (row ∷ filter is_above rows) (filter is_above rows)))
+fine_one n row rows false low number share e fine = fine_later n (above_of rows) fine
+fine_one n row rows true low number share e fine =
+    let more = fine_later n (above_of rows) fine in
     let pages = below row.floor row.pages e in
     record {
       from = (omega (arith, number), more.from);
-      whole = (claim_above_none tau row row.pages low share (omega (arith, pages)), fine.whole);
-      rising = (all_map (λ (a : Claim). n + 1 ≤ a.vm) (λ (a : Claim). row.vm < a.vm) (λ a h. omega (arith, h, number)) (above_of tau rows) fine.from, fine.rising);
+      whole = (whole_claim row row.pages low share (omega (arith, pages)), fine.whole);
+      rising = (all_map (λ (a : Claim). n + 1 ≤ a.vm) (λ (a : Claim). row.vm < a.vm) (λ a h. omega (arith, h, number)) (above_of rows) fine.from, fine.rising);
     }
 
-fine_from : (c : Config) (tau n : ℕ) (vms : List (Option Vm)) → tau ≤ 99 → ((k : ℕ) (v : Vm) → get_or vms k None ≡ Some v → IsVm c v) → AreFine n (above_of tau (rows_from target_of n vms))
+fine_from : (c : Config) (tau n : ℕ) (vms : List (Option Vm)) → tau ≤ 99 → ((k : ℕ) (v : Vm) → get_or vms k None ≡ Some v → IsVm c v) → AreFine n (above_of (rows_from tau target_of n vms))
 fine_from c tau n [] low each = record { from = tt; whole = tt; rising = tt }
-fine_from c tau n (None ∷ vms) low each = fine_later n (above_of tau (rows_from target_of (n + 1) vms)) (fine_from c tau (n + 1) vms low (λ k v h. each (suc k) v h))
+fine_from c tau n (None ∷ vms) low each = fine_later n (above_of (rows_from tau target_of (n + 1) vms)) (fine_from c tau (n + 1) vms low (λ k v h. each (suc k) v h))
 fine_from c tau n (Some v ∷ vms) low each =
-    let row = row_of_vm n (target_of v) v in
-    fine_one tau n row (rows_from target_of (n + 1) vms) (is_above row) low refl (active_is_share c v (each 0 v refl)) refl (fine_from c tau (n + 1) vms low (λ k v h. each (suc k) v h))
+    let row = row_of_vm tau n (target_of v) v in
+    fine_one n row (rows_from tau target_of (n + 1) vms) (is_above row) low refl (active_is_share c v (each 0 v refl)) refl (fine_from c tau (n + 1) vms low (λ k v h. each (suc k) v h))
 
 fine_of : (c : Config) (s : Site) → IsSound c s → AreFine 0 (above s)
 unfolding rows_of
 fine_of c s sound = fine_from c s.tau 0 s.vms sound.tau (λ k v h. sound.each k v h)
 
-pub first_is_named : (c : Config) (s : Site) (n : ℕ) (above_min : Bool) → IsSound c s → (rank s n ≡ Some 1) ↔ (help_by above_min (first_claim s.tau (rows_of target_of s)) ≡ helps.SwapOut n)
+pub first_is_named : (c : Config) (s : Site) (n : ℕ) (above_min : Bool) → IsSound c s → (rank s n ≡ Some 1) ↔ (help_by above_min (first_claim (rows_of target_of s)) ≡ helps.SwapOut n)
 first_is_named c s n above_min sound =
     let fine = fine_of c s sound in
-    let first = first_is s.tau (rows_of target_of s) in (
+    let first = first_is (rows_of target_of s) in (
       λ h. ap (help_by above_min) first ∙ first_named (above s) n above_min fine.whole h,
       λ h. named (above s) n above_min (first_of None (above s)) fine.whole fine.rising refl (sym (ap (help_by above_min) first) ∙ h),
     )
 
 -- Who has a rank.
 
-row_ranked : (tau n : ℕ) (row : Row) (rows : List Row) (m : ℕ) (b : Bool) → row.vm ≡ n → nat_lt row.floor row.pages ≡ b → (a : Claim)
-    → find (is_number m) (map (claimed tau) (cond b (row ∷ filter is_above rows) (filter is_above rows))) ≡ Some a → (((n ≡ m) × (row.floor < row.pages)) ⊎ (find (is_number m) (above_of tau rows) ≡ Some a))
-row_ranked tau n row rows m false number e a h = inr h
-row_ranked tau n row rows m true number e a h = by (is_number m (claimed tau row)) refl h
+row_ranked : (n : ℕ) (row : Row) (rows : List Row) (m : ℕ) (b : Bool) → row.vm ≡ n → nat_lt row.floor row.pages ≡ b → (a : Claim)
+    → find (is_number m) (map claimed (cond b (row ∷ filter is_above rows) (filter is_above rows))) ≡ Some a → (((n ≡ m) × (row.floor < row.pages)) ⊎ (find (is_number m) (above_of rows) ≡ Some a))
+row_ranked n row rows m false number e a h = inr h
+row_ranked n row rows m true number e a h = by (is_number m (claimed row)) refl h
   where
-    by : (t : Bool) → is_number m (claimed tau row) ≡ t → cond t (Some (claimed tau row)) (find (is_number m) (above_of tau rows)) ≡ Some a → ((n ≡ m) × (row.floor < row.pages)) ⊎ (find (is_number m) (above_of tau rows) ≡ Some a)
+    by : (t : Bool) → is_number m (claimed row) ≡ t → cond t (Some (claimed row)) (find (is_number m) (above_of rows)) ≡ Some a → ((n ≡ m) × (row.floor < row.pages)) ⊎ (find (is_number m) (above_of rows) ≡ Some a)
     by true k h = inl (sym number ∙ equal row.vm m k, below row.floor row.pages e)
     by false k h = inr h
 
 abbrev IsOver : List (Option Vm) → ℕ → Type 0
 IsOver vms k = (v : Vm) × (get_or vms k None ≡ Some v) × (v.target < resident v)
 
-ranked_over : (tau n : ℕ) (vms : List (Option Vm)) (m : ℕ) (a : Claim) → find (is_number m) (above_of tau (rows_from target_of n vms)) ≡ Some a → (k : ℕ) × (m ≡ n + k) × IsOver vms k
+ranked_over : (tau n : ℕ) (vms : List (Option Vm)) (m : ℕ) (a : Claim) → find (is_number m) (above_of (rows_from tau target_of n vms)) ≡ Some a → (k : ℕ) × (m ≡ n + k) × IsOver vms k
 ranked_over tau n [] m a h = absurd (no_claim_here a h)
   where
     no_claim_here : (b : Claim) → None ≡ Some b → ⊥
     no_claim_here b h = cc
 ranked_over tau n (None ∷ vms) m a h = (let rest = ranked_over tau (n + 1) vms m a h in let number = rest.1 in (suc rest.0, omega (arith, number), rest.2))
-ranked_over tau n (Some v ∷ vms) m a h = elim (row_ranked tau n (row_of_vm n (target_of v) v) (rows_from target_of (n + 1) vms) m (is_above (row_of_vm n (target_of v) v)) refl refl a h) [
+ranked_over tau n (Some v ∷ vms) m a h = elim (row_ranked n (row_of_vm tau n (target_of v) v) (rows_from tau target_of (n + 1) vms) m (is_above (row_of_vm tau n (target_of v) v)) refl refl a h) [
   | inl own ↦ (let number = own.0 in (0, omega (arith, number), (v, refl, own.1)))
   | inr more ↦ (let rest = ranked_over tau (n + 1) vms m a more in let number = rest.1 in (suc rest.0, omega (arith, number), rest.2))
 ]
@@ -297,11 +302,11 @@ claim_later x xs m has = by (is_number m x)
     by true = (x, refl)
     by false = has
 
-claim_skips : (tau : ℕ) (row : Row) (rows : List Row) (m : ℕ) (b : Bool) → HasClaim (above_of tau rows) m → HasClaim (map (claimed tau) (cond b (row ∷ filter is_above rows) (filter is_above rows))) m
-claim_skips tau row rows m false has = has
-claim_skips tau row rows m true has = claim_later (claimed tau row) (above_of tau rows) m has
+claim_skips : (row : Row) (rows : List Row) (m : ℕ) (b : Bool) → HasClaim (above_of rows) m → HasClaim (map claimed (cond b (row ∷ filter is_above rows) (filter is_above rows))) m
+claim_skips row rows m false has = has
+claim_skips row rows m true has = claim_later (claimed row) (above_of rows) m has
 
-over_ranked : (tau n : ℕ) (vms : List (Option Vm)) (k : ℕ) → IsOver vms k → HasClaim (above_of tau (rows_from target_of n vms)) (n + k)
+over_ranked : (tau n : ℕ) (vms : List (Option Vm)) (k : ℕ) → IsOver vms k → HasClaim (above_of (rows_from tau target_of n vms)) (n + k)
 over_ranked tau n [] k over = absurd (no_vm over.0 over.1)
   where
     no_vm : (v : Vm) → None ≡ Some v → ⊥
@@ -311,25 +316,25 @@ over_ranked tau n (None ∷ vms) zero over = absurd (no_vm over.0 over.1)
     no_vm : (v : Vm) → None ≡ Some v → ⊥
     no_vm v h = cc
 over_ranked tau n (None ∷ vms) (suc k) over =
-    let P : ℕ → Type 0 = HasClaim (above_of tau (rows_from target_of (n + 1) vms)) in
+    let P : ℕ → Type 0 = HasClaim (above_of (rows_from tau target_of (n + 1) vms)) in
     subst P (omega arith) (over_ranked tau (n + 1) vms k over)
 over_ranked tau n (Some v ∷ vms) zero over =
-    let row = row_of_vm n (target_of v) v in
-    let rows = rows_from target_of (n + 1) vms in
+    let row = row_of_vm tau n (target_of v) v in
+    let rows = rows_from tau target_of (n + 1) vms in
     let own : v ≡ over.0 = some_vm v over.0 over.1 in
     let P : Vm → Type 0 = λ x. x.target < resident x in
     let test : is_above row ≡ true = above_test v.target (resident v) (subst P (sym own) over.2) in
-    let Q : Bool → Type 0 = λ b. HasClaim (map (claimed tau) (cond b (row ∷ filter is_above rows) (filter is_above rows))) (n + 0) in
-    let number : is_number (n + 0) (claimed tau row) ≡ true = ap (λ j. n == j) (let e : n + 0 ≡ n = omega arith in e) ∙ eqb_same n in
-    subst Q (sym test) (claimed tau row, ap (λ b. cond b (Some (claimed tau row)) (find (is_number (n + 0)) (above_of tau rows))) number)
+    let Q : Bool → Type 0 = λ b. HasClaim (map claimed (cond b (row ∷ filter is_above rows) (filter is_above rows))) (n + 0) in
+    let number : is_number (n + 0) (claimed row) ≡ true = ap (λ j. n == j) (let e : n + 0 ≡ n = omega arith in e) ∙ eqb_same n in
+    subst Q (sym test) (claimed row, ap (λ b. cond b (Some (claimed row)) (find (is_number (n + 0)) (above_of rows))) number)
   where
     some_vm : (v w : Vm) → Some v ≡ Some w → v ≡ w
     some_vm v w h = cc
 over_ranked tau n (Some v ∷ vms) (suc k) over =
-    let row = row_of_vm n (target_of v) v in
-    let P : ℕ → Type 0 = HasClaim (above_of tau (rows_from target_of n (Some v ∷ vms))) in
+    let row = row_of_vm tau n (target_of v) v in
+    let P : ℕ → Type 0 = HasClaim (above_of (rows_from tau target_of n (Some v ∷ vms))) in
     let e : n + 1 + k ≡ n + suc k = omega arith in
-    subst P e (claim_skips tau row (rows_from target_of (n + 1) vms) (n + 1 + k) (is_above row) (over_ranked tau (n + 1) vms k over))
+    subst P e (claim_skips row (rows_from tau target_of (n + 1) vms) (n + 1 + k) (is_above row) (over_ranked tau (n + 1) vms k over))
 
 rank_has : (xs : List Claim) (n k : ℕ) (o : Option Claim) → find (is_number n) xs ≡ o → option_map (rank_of xs) o ≡ Some k → HasClaim xs n
 rank_has xs n k None found h = cc
@@ -351,35 +356,35 @@ are_ranked s n = (
 
 -- Who comes next.
 
-abbrev claim_of : ℕ → Option Row → Option Claim
-claim_of tau o = option_map (claimed tau) o
+abbrev claim_of : Option Row → Option Claim
+claim_of o = option_map claimed o
 
-sooner_claimed : (tau : ℕ) (best : Option Row) (row : Row) → claim_of tau (sooner_row tau best row) ≡ sooner (claim_of tau best) (claimed tau row)
-sooner_claimed tau None row = refl
-sooner_claimed tau (Some best) row = by (comes_no_later (claimed tau best) (claimed tau row))
+sooner_claimed : (best : Option Row) (row : Row) → claim_of (sooner_row best row) ≡ sooner (claim_of best) (claimed row)
+sooner_claimed None row = refl
+sooner_claimed (Some best) row = by (comes_no_later (claimed best) (claimed row))
   where
-    by : (b : Bool) → claim_of tau (cond b (Some best) (Some row)) ≡ cond b (Some (claimed tau best)) (Some (claimed tau row))
+    by : (b : Bool) → claim_of (cond b (Some best) (Some row)) ≡ cond b (Some (claimed best)) (Some (claimed row))
     by true = refl
     by false = refl
 
-abbrev next_fold : ℕ → ℕ → Option Row → List Row → Option Row
-next_fold tau n best rows = fold (λ o row. cond (is_other_above n row) (sooner_row tau o row) o) best rows
+abbrev next_fold : ℕ → Option Row → List Row → Option Row
+next_fold n best rows = fold (λ o row. cond (is_other_above n row) (sooner_row o row) o) best rows
 
-next_by : (tau n : ℕ) (row : Row) (rows : List Row) (best : Option Row) (a b : Bool) → ((o : Option Row) → claim_of tau (next_fold tau n o rows) ≡ fold_of tau (claim_of tau o) (filter (λ (row : Row). not (row.vm == n)) rows))
+next_by : (n : ℕ) (row : Row) (rows : List Row) (best : Option Row) (a b : Bool) → ((o : Option Row) → claim_of (next_fold n o rows) ≡ fold_of (claim_of o) (filter (λ (row : Row). not (row.vm == n)) rows))
     → row.vm == n ≡ a → is_above row ≡ b
-    → claim_of tau (next_fold tau n (cond (not a && b) (sooner_row tau best row) best) rows)
-    ≡ fold_of tau (claim_of tau best) (cond (not a) (row ∷ filter (λ (row : Row). not (row.vm == n)) rows) (filter (λ (row : Row). not (row.vm == n)) rows))
-next_by tau n row rows best true b rest own above = rest best
-next_by tau n row rows best false true rest own above =
-    rest (sooner_row tau best row) ∙ ap (λ o. fold_of tau o (filter (λ (row : Row). not (row.vm == n)) rows))
-    (sooner_claimed tau best row ∙ ap (λ b. cond b (sooner (claim_of tau best) (claimed tau row)) (claim_of tau best)) (sym above))
-next_by tau n row rows best false false rest own above =
-    rest best ∙ ap (λ b. fold_of tau (cond b (sooner (claim_of tau best) (claimed tau row)) (claim_of tau best)) (filter (λ (row : Row). not (row.vm == n)) rows)) (sym above)
+    → claim_of (next_fold n (cond (not a && b) (sooner_row best row) best) rows)
+    ≡ fold_of (claim_of best) (cond (not a) (row ∷ filter (λ (row : Row). not (row.vm == n)) rows) (filter (λ (row : Row). not (row.vm == n)) rows))
+next_by n row rows best true b rest own above = rest best
+next_by n row rows best false true rest own above =
+    rest (sooner_row best row) ∙ ap (λ o. fold_of o (filter (λ (row : Row). not (row.vm == n)) rows))
+    (sooner_claimed best row ∙ ap (λ b. cond b (sooner (claim_of best) (claimed row)) (claim_of best)) (sym above))
+next_by n row rows best false false rest own above =
+    rest best ∙ ap (λ b. fold_of (cond b (sooner (claim_of best) (claimed row)) (claim_of best)) (filter (λ (row : Row). not (row.vm == n)) rows)) (sym above)
 
-next_from : (tau n : ℕ) (rows : List Row) (best : Option Row) → claim_of tau (next_fold tau n best rows) ≡ fold_of tau (claim_of tau best) (filter (λ (row : Row). not (row.vm == n)) rows)
-next_from tau n [] best = refl
-next_from tau n (row ∷ rows) best = next_by tau n row rows best (row.vm == n) (is_above row) (λ o. next_from tau n rows o) refl refl
+next_from : (n : ℕ) (rows : List Row) (best : Option Row) → claim_of (next_fold n best rows) ≡ fold_of (claim_of best) (filter (λ (row : Row). not (row.vm == n)) rows)
+next_from n [] best = refl
+next_from n (row ∷ rows) best = next_by n row rows best (row.vm == n) (is_above row) (λ o. next_from n rows o) refl refl
 
 pub next_is_first : IsNextFirst
 unfolding first_claim
-next_is_first s n = next_from s.tau n (rows_of target_of s) None
+next_is_first s n = next_from n (rows_of target_of s) None

@@ -79,11 +79,11 @@ AreGainsListed = (c : Config) (es : List Event) (t : Scene) → IsConfig c → r
 -- the machine of rank 1 is the one that advice names, wherever it names one
 abbrev pub IsFirstAdvised : Type 0
 IsFirstAdvised = (c : Config) (s : Site) (n : ℕ) (above_min : Bool) → IsSound c s →
-    (rank s n ≡ Some 1) ↔ (help_by above_min (first_claim s.tau (rows_of target_of s)) ≡ helps.SwapOut n)
+    (rank s n ≡ Some 1) ↔ (help_by above_min (first_claim (rows_of target_of s)) ≡ helps.SwapOut n)
 
 -- the machine that comes next is the one that comes first among the others
 abbrev pub IsNextFirst : Type 0
-IsNextFirst = (s : Site) (n : ℕ) → option_map (λ (row : Row). claim s.tau row row.pages) (next_row s n) ≡ first_claim s.tau (filter (λ (row : Row). not (row.vm == n)) (rows_of target_of s))
+IsNextFirst = (s : Site) (n : ℕ) → option_map (λ (row : Row). claim row row.pages) (next_row s n) ≡ first_claim (filter (λ (row : Row). not (row.vm == n)) (rows_of target_of s))
 
 -- a machine has a rank where it has more pages in frames than its target
 abbrev pub IsRanked : Type 0

@@ -5,7 +5,7 @@ use esx_average::Averages;
 use esx_events::Boxed;
 use esx_frames::Mark;
 use esx_model::PeriodRow;
-use esx_types::{Bytes, FrameRow, Listing, MapRow, SlotRow, VmId, VmState};
+use esx_types::{FrameRow, Listing, MapRow, SlotRow, SmallBytes, VmId, VmState};
 
 /// What a virtual machine's row tells in small numbers that events change.
 #[derive(Clone, Copy, Debug, PartialEq, Eq)]
@@ -52,7 +52,7 @@ pub enum Change {
     BytesAt {
         frame: u32,
         offset: u32,
-        bytes: Bytes,
+        bytes: SmallBytes,
     },
     /// What a frame stands under.
     ListingAt {

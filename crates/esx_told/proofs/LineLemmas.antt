@@ -1,57 +1,36 @@
 -- Lines within texts.
-use Rattle.std.proofs.Common.{◌≡◌, ◌<◌, ◌≤◌, ◌+◌, ◌^◌, ◌==◌, ℕ, List, Bool, true, false, [], ◌∷◌, ◌++◌, length, drop, arith, refl, sym, ap, ◌∙◌, decimal, length-append}
-use Rattle.std.specs.List.{AllByRecursion, flat_map}
+use Rattle.std.proofs.Common.{◌≡◌, ◌<◌, ◌≤◌, ◌+◌, ◌^◌, ℕ, List, [], ◌∷◌, ◌++◌, length, drop, arith, ap, ◌∙◌, decimal, length-append}
+use Rattle.std.specs.List.{flat_map}
 use Rattle.std.proofs.Math.Seq.{drop-append-add}
 use Rattle.std.proofs.lemmas.Fmt.{length-decimal-le}
-use Rattle.std.proofs.lemmas.List.Elements.{recursion_from_All}
 use Rattle.esx_events.specs.declared.call.Line.{Line}
-use Rattle.std.proofs.lemmas.Bool.{ne_eqb}
 use Rattle.esx_words.specs.Commands.{spelling}
 use Rattle.esx_replies.specs.Replies.{reply_text}
-use Rattle.esx_session.specs.Sessions.{quoted, quoted_from}
+use Rattle.esx_session.specs.Sessions.{quoted}
 use Rattle.esx_session.specs.Printing.{line_text}
-use Rattle.esx_told.specs.Told.{IsOneLine}
 
 pub short_decimal : (n : ℕ) → n < 2 ^ 64 → length (decimal n) ≤ 20
 short_decimal n small = length-decimal-le 20 n (omega arith) (omega (arith, small)) small
 
-nothing_quoted : (fresh : Bool) (r : List ℕ) → quoted_from fresh r ≡ [] → r ≡ []
-nothing_quoted fresh [] e = refl
-nothing_quoted true (b ∷ bs) e = cc
-nothing_quoted false (b ∷ bs) e = cc
+-- a line whose call is spelled, and whose reply stands behind one sign
+pub spelled_line : (held spelled : List ℕ) (line : Line) → spelled ≡ spelling line.call
+    → held ≡ (decimal line.caller ++ 32 ∷ (spelled ++ 10 ∷ [])) ++ quoted (reply_text line.reply) → held ≡ line_text line
+spelled_line held spelled line is e = e ∙ ap (λ v. (decimal line.caller ++ 32 ∷ (v ++ 10 ∷ [])) ++ quoted (reply_text line.reply)) is
 
--- a text that is one line is as it is, behind the sign of its line
-unquoted_from : (r front : List ℕ) → AllByRecursion (λ b. b ≡ 10 → ⊥) front → quoted_from false r ≡ front ++ 10 ∷ [] → quoted_from false r ≡ r
-unquoted_from [] front h e = refl
-unquoted_from (b ∷ bs) [] h e =
-    let rest : quoted_from (b == 10) bs ≡ [] = cc in
-    ap (λ v. b ∷ v) (rest ∙ sym (nothing_quoted (b == 10) bs rest))
-unquoted_from (b ∷ bs) (c ∷ front) h e =
-    let same : b ≡ c = cc in
-    let rest : quoted_from (b == 10) bs ≡ front ++ 10 ∷ [] = cc in
-    let no : (b == 10) ≡ false = ne_eqb b 10 (λ is. h.0 (sym same ∙ is)) in
-    ap (λ v. b ∷ quoted_from v bs) no ∙ ap (λ v. b ∷ v) (unquoted_from bs front h.1 (ap (λ v. quoted_from v bs) (sym no) ∙ rest))
+pub reply_stands : (held head r : List ℕ) (count : ℕ) → count ≡ length head → held ≡ head ++ quoted r → quoted r ≡ 61 ∷ 32 ∷ r → drop (count + 2) held ≡ r
+reply_stands held head r count many e one =
+    rw (many, e, one) (drop-append-add head (61 ∷ 32 ∷ r) 2)
 
-unquoted : (r : List ℕ) → IsOneLine (drop 2 (quoted r)) → drop 2 (quoted r) ≡ r
-unquoted [] h = refl
-unquoted (b ∷ bs) h = unquoted_from (b ∷ bs) h.0 (recursion_from_All (λ b. b ≡ 10 → ⊥) h.0 h.1) h.2
+pub reply_within : (held head r : List ℕ) (count : ℕ) → count ≡ length head → held ≡ head ++ quoted r → quoted r ≡ 61 ∷ 32 ∷ r → count + 2 ≤ length held
+reply_within held head r count many e one =
+    rw (many, e, one) (omega (arith, length-append head (61 ∷ 32 ∷ r)))
 
--- behind a text and a call the reply begins
-reply_begins : (old head r : List ℕ) → drop (length old + length head + 2) (old ++ (head ++ quoted r)) ≡ drop 2 (quoted r)
-reply_begins old head r =
-    let far : length old + length head + 2 ≡ length old + (length head + 2) = omega arith in
-    ap (λ n. drop n (old ++ (head ++ quoted r))) far ∙ drop-append-add old (head ++ quoted r) (length head + 2) ∙ drop-append-add head (quoted r) 2
+-- what stands in what was held stands behind the text to which that was added
+pub behind_within : (old held new : List ℕ) (start at : ℕ) → start ≡ length old → new ≡ old ++ held → at ≤ length held → start + at ≤ length new
+behind_within old held new start at is e within = rw (is, e) (omega (arith, within, length-append old held))
 
-pub reply_stands : (old head new r : List ℕ) (start count : ℕ) → start ≡ length old → count ≡ length head → new ≡ old ++ (head ++ quoted r)
-    → IsOneLine (drop (start + count + 2) new) → drop (start + count + 2) new ≡ r
-reply_stands old head new r start count is many e h =
-    let there : drop (start + count + 2) new ≡ drop 2 (quoted r) = rw (is, many, e) (reply_begins old head r) in
-    there ∙ unquoted r (rw there at h)
-
--- a line whose call is spelled
-pub spelled_line : (old new spelled : List ℕ) (line : Line) → spelled ≡ spelling line.call
-    → new ≡ old ++ ((decimal line.caller ++ 32 ∷ (spelled ++ 10 ∷ [])) ++ quoted (reply_text line.reply)) → new ≡ old ++ line_text line
-spelled_line old new spelled line is e = e ∙ ap (λ v. old ++ ((decimal line.caller ++ 32 ∷ (v ++ 10 ∷ [])) ++ quoted (reply_text line.reply))) is
+pub behind_stands : (old held new r : List ℕ) (start at : ℕ) → start ≡ length old → new ≡ old ++ held → drop at held ≡ r → drop (start + at) new ≡ r
+behind_stands old held new r start at is e there = rw (is, e) (drop-append-add old held at ∙ there)
 
 -- each line has a byte at least
 line_has_some : (line : Line) → 1 ≤ length (line_text line)

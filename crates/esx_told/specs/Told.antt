@@ -1,6 +1,5 @@
 -- A log that is kept as the text of its session.
 use Rattle.std.specs.Prelude.{ℕ, List, [], ◌∷◌, ◌++◌, ◌≡◌, ◌≤◌, ◌⊎◌, drop, length}
-use Rattle.std.specs.List.{All}
 use Rattle.std.specs.Coded.{Coded-set, coded_ℕ, coded_list, ×_prop, Π_prop, →_prop, Unit-prop, le_prop}
 use Rattle.esx_events.specs.declared.call.Call.{Call}
 use Rattle.esx_events.specs.declared.call.Line.{Line}
@@ -39,7 +38,3 @@ IsLatest-prop listed text (Kept line) = Unit-prop
 -- nothing, or the spelling of the call
 abbrev pub Spells : List ℕ → Call → Type 0
 Spells text call = (text ≡ []) ⊎ (text ≡ spelling call)
-
--- a line feed stands at the end, and no other
-abbrev pub IsOneLine : List ℕ → Type 0
-IsOneLine text = (front : List ℕ) × All (λ b. b ≡ 10 → ⊥) front × (text ≡ front ++ 10 ∷ [])

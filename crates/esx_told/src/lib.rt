@@ -1,9 +1,9 @@
 //! Logs that are told as texts, and one that is kept as the text of its session.
 #![tactic(auto)]
 
+mod adding;
 mod latest;
 mod listed;
-mod part;
 mod spelled;
 mod tells;
 mod text_log;

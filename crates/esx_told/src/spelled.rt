@@ -1,18 +1,21 @@
 //! The text of a line whose call is spelled already.
 
-ghost use Rattle.std.specs.Prelude.{◌≡◌, ◌+◌, ◌≤◌, ◌++◌, ◌∷◌, [], ℕ, List, IfSome, IfNone, MatchOption, decimal, drop, length, true};
-ghost use Rattle.std.specs.List.{All};
-ghost use Rattle.esx_words.specs.Commands.{spelling};
+ghost use Rattle.std.specs.Prelude.{◌≡◌, ◌+◌, ◌≤◌, ◌++◌, ◌∷◌, [], IfSome, IfNone, MatchOption, decimal, drop, length, true};
 ghost use Rattle.esx_replies.specs.Replies.{reply_text};
+ghost use Rattle.esx_session.specs.Sessions.{quoted};
 ghost use Rattle.esx_session.specs.Printing.{line_text};
-ghost use Rattle.esx_told.specs.Told.{IsOneLine, Spells};
+ghost use Rattle.esx_told.specs.Told.{Spells};
 
-use crate::part::add_part;
-use esx_events::{Line, Said};
-use esx_writing::AnswerBuffer;
-use memchr::memchr;
+use esx_events::{Line, Reply};
+use esx_replies::{is_brief, put_reply};
+use esx_session::ReplySign;
+use esx_types::MemorySink;
+use esx_writing::{AnswerBuffer, append_held};
+use std::alloc::Global;
+use std::marker::Brand;
+use std::sync::ledger::{Blank, Ledger};
 
-/// The longest spelling that is held whole, beside the caller and the signs of its line.
+/// The longest spelling that is held, beside the caller, a space and a line feed.
 const MOST: usize = 16384 - 22;
 
 /// How long the sign before a reply is.
@@ -34,40 +37,43 @@ fn push_call(held: &mut AnswerBuffer, caller: u16, spelled: &[u8]) -> Option<usi
     Some(room - held.room())
 }
 
-/// What stands before the line feed of a text that is one line.
-fn line_of<'a>(text: &'a [u8]) -> Option<&'a [u8]>
-    ensures { IfSome result (λ front. All (λ b. b ≡ 10 → ⊥) front.now × (text.now ≡ front.now ++ 10 ∷ [])) }
+/// Holds a reply as a session has it, and tells whether all of it is held, by a count of the writes.
+fn hold_reply<L: Ledger>(
+    alloc: Global,
+    held: &mut AnswerBuffer,
+    reply: &Reply,
+    blank: Blank,
+) -> bool
+    requires name { blank.name ≡ L.name }
+    requires parts { blank.parts ≡ L.parts }
+    requires four { 4 ≤ blank.parts }
+    ensures { result ≡ true → held.new ≡ held.old ++ quoted (reply_text reply.now) }
 {
-    let at = memchr(b'\n', text)?;
-    if at + 1 != text.len() {
+    let mut rest = MemorySink::<L>::new(Vec::new(alloc), blank);
+    put_reply::<ReplySign, MemorySink<L>>(&mut rest, held, reply).is_ok() && rest.bytes.is_empty()
+}
+
+/// Holds a line whose call is spelled and whose reply is known to be one line, and tells where the reply stands.
+/// Of other lines, and where there is no room, what is held means nothing.
+fn hold_line(alloc: Global, held: &mut AnswerBuffer, line: &Line, spelled: &[u8]) -> Option<usize>
+    requires empty { held.old ≡ [] }
+    requires spelled { Spells spelled.now line.now.call }
+    ensures { IfSome result (λ at. (held.new ≡ line_text line.now) × (at ≤ length held.new) × (drop at held.new ≡ reply_text line.now.reply)) }
+{
+    if spelled.is_empty() || !is_brief(&line.reply.said) {
         return None;
     }
-    Some(&text[..at])
-}
-
-/// Whether a text from some place on is one line.
-fn is_line_from(text: &[u8], at: usize) -> bool
-    ensures place { result ≡ true → at ≤ length text.now }
-    ensures line { result ≡ true → IsOneLine (drop at text.now) }
-{
-    if text.len() < at {
-        return false;
-    }
-    line_of(&text[at..]).is_some()
-}
-
-/// Whether the spelling of a call is handed in with a line whose reply may be one line.
-fn is_short(line: &Line, spelled: &[u8]) -> bool
-    requires { Spells spelled.now line.now.call }
-    ensures { result ≡ true → spelled.now ≡ spelling line.now.call }
-{
-    match line.reply.said {
-        Said::Sides { .. } | Said::Table { .. } | Said::Marks { .. } => false,
-        _ => !spelled.is_empty(),
+    let head = push_call(held, line.caller, spelled)?;
+    let _room = held.room();
+    let at = head + SIGN;
+    if hold_reply::<Brand>(alloc, held, &line.reply, Blank::new(4)) {
+        Some(at)
+    } else {
+        None
     }
 }
 
-/// Adds a line to a text where its reply is one line, and tells where the reply stands. Elsewhere the text stays.
+/// Adds a line to a text where it is held whole, and tells where its reply stands. Elsewhere the text stays.
 pub fn add_spelled(
     text: &mut Vec<u8>,
     held: &mut AnswerBuffer,
@@ -80,16 +86,15 @@ pub fn add_spelled(
     ensures none { IfNone result (text.new.items ≡ text.old.items) }
     ensures empty { held.new ≡ [] }
 {
-    if !is_short(line, spelled) {
-        return None;
-    }
     let start = text.len();
-    let head = push_call(held, line.caller, spelled)?;
-    add_part(text, held, &line.reply).ok()?;
-    let at = start + head + SIGN;
-    if is_line_from(text.as_slice(), at) {
-        return Some(at);
+    match hold_line(*text.allocator(), held, line, spelled) {
+        Some(at) => {
+            append_held(text, held).ok()?;
+            Some(start + at)
+        }
+        None => {
+            held.clear();
+            None
+        }
     }
-    text.truncate(start);
-    None
 }

@@ -11,14 +11,14 @@ ghost use Rattle.esx_session.specs.Sessions.{logged, session_text};
 mod told;
 
 use crate::latest::Latest;
-use crate::tells::told::{write_bytes, write_told};
+use crate::tells::told::write_told;
 use crate::text_log::TextLog;
 use esx_console::Log;
 use esx_events::Line;
 use esx_replies::write_reply;
 use esx_session::write_session;
 use esx_types::{Config, Sink, SinkFailed};
-use esx_writing::AnswerBuffer;
+use esx_writing::{AnswerBuffer, put_all};
 
 /// A log that can be told as text.
 pub trait Tells: Log {
@@ -71,7 +71,7 @@ impl Tells for Vec<Line> {
 impl Tells for TextLog {
     fn tell_reply<W: Sink>(&self, sink: &mut W, held: &mut AnswerBuffer) -> Result<(), SinkFailed> {
         match self.latest() {
-            Latest::Said { at } => write_bytes(sink, held, &self.text()[*at..]),
+            Latest::Said { at } => put_all(sink, &self.text()[*at..]),
             Latest::Told { line } | Latest::Kept { line } => write_reply(sink, held, &line.reply),
             Latest::Nothing => unreachable!(),
         }

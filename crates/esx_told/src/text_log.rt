@@ -4,9 +4,9 @@ ghost use Rattle.std.specs.Prelude.{◌≡◌, ◌++◌, [], IfOk, flat_map, len
 ghost use Rattle.esx_session.specs.Printing.{line_text};
 ghost use Rattle.esx_told.specs.Told.{IsLatest, IsLatest-prop, pending};
 
+use crate::adding::add_line;
 use crate::latest::Latest;
 use crate::listed::Listed;
-use crate::part::add_part;
 use crate::spelled::add_spelled;
 use esx_console::Log;
 use esx_events::Line;
@@ -54,7 +54,7 @@ impl TextLog {
     }
 
     /// How many lines there are.
-    pub fn count(&self) -> usize
+    pub(crate) fn count(&self) -> usize
         ensures { result ≡ length (lines_of self.now) }
     {
         self.count
@@ -81,7 +81,7 @@ impl Log for TextLog {
 
     fn take_room(&mut self) -> Result<(), AllocError> {
         if let Latest::Kept { line } = &self.latest {
-            add_part(&mut self.text, &mut self.held, line)?;
+            add_line(&mut self.text, &mut self.held, line)?;
             self.listed = Listed::longer(replace(&mut self.listed, Listed::none()), line);
             self.latest = replace(&mut self.latest, Latest::Nothing).settled();
         }

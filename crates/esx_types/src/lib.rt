@@ -1,4 +1,4 @@
-//! The types that every crate speaks: a site's numbers, virtual machines, levels, the rows of tables, sets
+//! The types that every crate speaks: a site's numbers, virtual machines, levels, the rows of tables, bytes, sets
 //! of callers, the ends of streams, and the ranges that each keeps.
 #![tactic(auto)]
 
@@ -8,6 +8,7 @@ pub mod ends;
 pub mod ids;
 pub mod level;
 pub mod rows;
+pub mod small;
 pub mod table;
 pub mod vm;
 
@@ -19,5 +20,6 @@ pub use ends::{
 pub use ids::Ids;
 pub use level::Level;
 pub use rows::{Bytes, Rows};
+pub use small::{FEW, SmallBytes};
 pub use table::{FrameRow, Hint, KeyRow, Listing, MapRow, SlotRow};
 pub use vm::{VmId, VmSpec, VmState};

@@ -9,17 +9,13 @@ use Rattle.esx_events.specs.declared.call.Call.TheVariants as call
 use Rattle.esx_reading.specs.Fields.{fields, joined}
 use Rattle.esx_reading.proofs.FieldLemmas.{IsField, joined_of_fields, fields_of_joined, others_of, ascii_joined}
 use Rattle.esx_words.specs.declared.verbs.Verb.{Verb}
-use Rattle.esx_words.specs.declared.verbs.Verb.TheVariants as verbs
-use Rattle.esx_words.specs.declared.verbs.NumberVerb.TheVariants as number_verbs
-use Rattle.esx_words.specs.declared.verbs.NameVerb.TheVariants as name_verbs
-use Rattle.esx_words.specs.declared.verbs.AloneVerb.TheVariants as alone_verbs
-use Rattle.esx_words.specs.declared.verbs.PlaceVerb.TheVariants as place_verbs
 use Rattle.esx_words.specs.Verbs.{verb_word}
 use Rattle.esx_words.specs.Commands.{Form, verb_form, verb, operands, Operands, operand_words, AreOperands, words_of, spelling, IsInRange, Spells}
 use Rattle.esx_words.specs.Commands.Form.{Plain, Tried}
+use Rattle.esx_words.proofs.Tables.{call_at}
 use Rattle.esx_words.proofs.VerbLemmas.{one_verb}
 use Rattle.esx_words.proofs.WordLemmas.{verb_is_word, values_are_words, fields_of_words}
-use Rattle.esx_words.proofs.EventLemmas.{first_of, same_values, event_at, event_again}
+use Rattle.esx_words.proofs.EventLemmas.{first_of, same_values, event_again}
 use Rattle.esx_words.proofs.ListedLemmas.{list_fields, same_lists}
 
 operands_are_fields : (form : Form) (x : Operands form) → AreOperands form x → AllByRecursion IsField (operand_words form x)
@@ -55,41 +51,10 @@ same_operands : (form : Form) (x y : Operands form) → AreOperands form x → A
 same_operands (Plain kinds) x y p q e = same_values kinds x y p q e
 same_operands Tried x y p q e = same_lists x y p.0.0 q.0.0 p.1 q.1 (ap joined e)
 
--- the left inverse of the table of calls
-call_at : (v : Verb) → Operands (verb_form v) → Call
-call_at (verbs.Event v) x = call.Do (event_at v x)
-call_at (verbs.Number number_verbs.Undo) (n, tt) = call.Undo n
-call_at (verbs.Number number_verbs.Redo) (n, tt) = call.Redo n
-call_at (verbs.Number number_verbs.Goto) (n, tt) = call.Goto n
-call_at (verbs.Number number_verbs.Prune) (n, tt) = call.Prune n
-call_at (verbs.Name name_verbs.Visit) (name, tt) = call.Visit name
-call_at (verbs.Name name_verbs.Mark) (name, tt) = call.Mark name
-call_at (verbs.Alone alone_verbs.Sum) tt = call.Sum
-call_at (verbs.Alone alone_verbs.Table) tt = call.Table
-call_at (verbs.Alone alone_verbs.Stand) tt = call.Stand
-call_at (verbs.Alone alone_verbs.Marks) tt = call.Marks
-call_at verbs.OfVm (vm, tt) = call.OfVm vm
-call_at (verbs.Place place_verbs.OfPage) (vm, (page, tt)) = call.OfPage vm page
-call_at (verbs.Place place_verbs.Advise) (vm, (page, tt)) = call.Advise vm page
-call_at verbs.WhatIf events = call.WhatIf events
-
 call_again : (c : Call) → call_at (verb c) (operands c) ≡ c
 unfolding call_at
 call_again (call.Do event) = ap call.Do (event_again event)
-call_again (call.Undo count) = refl
-call_again (call.Redo count) = refl
-call_again (call.Goto node) = refl
-call_again (call.Visit name) = refl
-call_again (call.Mark name) = refl
-call_again (call.Prune node) = refl
-call_again (call.WhatIf events) = refl
-call_again call.Sum = refl
-call_again call.Table = refl
-call_again (call.OfVm vm) = refl
-call_again (call.OfPage vm page) = refl
-call_again (call.Advise vm page) = refl
-call_again call.Stand = refl
-call_again call.Marks = refl
+call_again c = refl
 
 same_parts : (v w : Verb) → v ≡ w → (x : Operands (verb_form v)) (y : Operands (verb_form w)) → AreOperands (verb_form v) x → AreOperands (verb_form w) y
     → operand_words (verb_form v) x ≡ operand_words (verb_form w) y → call_at v x ≡ call_at w y

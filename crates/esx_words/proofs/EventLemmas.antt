@@ -13,14 +13,12 @@ use Rattle.esx_reading.specs.Fields.{fields, joined}
 use Rattle.esx_reading.proofs.FieldLemmas.{fields_of_joined, joined_of_fields, others_of}
 use Rattle.esx_words.specs.declared.verbs.Verb.TheVariants as verbs
 use Rattle.esx_words.specs.declared.verbs.EventVerb.{EventVerb}
-use Rattle.esx_words.specs.declared.verbs.EventVerb.TheVariants as events
-use Rattle.esx_words.specs.declared.verbs.MachineEvent.TheVariants as machine_events
-use Rattle.esx_words.specs.declared.verbs.PlaceEvent.TheVariants as place_events
 use Rattle.esx_words.specs.Kinds.{Kind, Kinds, Value, Values, value_word, value_words, IsValue, AreValues}
 use Rattle.esx_words.specs.Kinds.Kind.{Machine, Number, Word, Hex, Name}
 use Rattle.esx_words.specs.Kinds.Kinds.{End, Then, Words}
 use Rattle.esx_words.specs.Verbs.{event_word}
 use Rattle.esx_words.specs.Commands.{event_kinds, event_verb, event_values, event_words, event_text, IsEventInRange, SpellsEvent}
+use Rattle.esx_words.proofs.Tables.{event_at}
 use Rattle.esx_words.proofs.VerbLemmas.{one_verb}
 use Rattle.esx_words.proofs.WordLemmas.{verb_is_word, values_are_words, fields_of_words}
 
@@ -59,46 +57,10 @@ same_values (Then kind kinds) (x, xs) (y, ys) p q e =
     λ i. (one i, more i)
 same_values Words x y p q e = same_numbers x y p.1 q.1 e
 
--- the left inverse of the table of events
-pub event_at : (v : EventVerb) → Values (event_kinds v) → Event
-event_at events.Admit (vm, (min, (max, (overhead, (shares, (balloon, tt)))))) =
-    event.Admit vm (record { min = min; max = max; overhead = overhead; shares = shares; balloon_max = balloon })
-event_at (events.Machine machine_events.Start) (vm, tt) = event.Start vm
-event_at (events.Machine machine_events.Ask) (vm, tt) = event.Ask vm
-event_at (events.Machine machine_events.Stop) (vm, tt) = event.Stop vm
-event_at (events.Machine machine_events.Gone) (vm, tt) = event.Gone vm
-event_at (events.Place place_events.Lend) (vm, (page, tt)) = event.Lend vm page
-event_at (events.Place place_events.TakeBack) (vm, (page, tt)) = event.TakeBack vm page
-event_at (events.Place place_events.Scan) (vm, (page, tt)) = event.Scan vm page
-event_at (events.Place place_events.DropPage) (vm, (page, tt)) = event.DropPage vm page
-event_at (events.Place place_events.SetShares) (vm, (shares, tt)) = event.SetShares vm shares
-event_at events.Read (vm, (page, (at, (len, tt)))) = event.Read vm page at len
-event_at events.Write (vm, (page, (at, (bytes, tt)))) = event.Write vm page at bytes
-event_at events.Sample (vm, (length, words)) = event.Sample vm length words
-event_at events.Rebalance tt = event.Rebalance
-event_at events.SwapOut (vm, (word, tt)) = event.SwapOut vm word
-event_at events.Replace (vm, (page, (word, tt))) = event.Replace vm page word
-event_at events.SetTax (tau, tt) = event.SetTax tau
-
 pub event_again : (e : Event) → event_at (event_verb e) (event_values e) ≡ e
 unfolding event_at
 event_again (event.Admit vm spec) = refl
-event_again (event.Start vm) = refl
-event_again (event.Read vm page at len) = refl
-event_again (event.Write vm page at bytes) = refl
-event_again (event.Ask vm) = refl
-event_again (event.Lend vm page) = refl
-event_again (event.TakeBack vm page) = refl
-event_again (event.Sample vm length words) = refl
-event_again event.Rebalance = refl
-event_again (event.Scan vm page) = refl
-event_again (event.SwapOut vm word) = refl
-event_again (event.Replace vm page word) = refl
-event_again (event.SetShares vm shares) = refl
-event_again (event.SetTax tau) = refl
-event_again (event.Stop vm) = refl
-event_again (event.DropPage vm page) = refl
-event_again (event.Gone vm) = refl
+event_again e = refl
 
 same_parts : (v w : EventVerb) → v ≡ w → (x : Values (event_kinds v)) (y : Values (event_kinds w)) → AreValues (event_kinds v) x → AreValues (event_kinds w) y
     → value_words (event_kinds v) x ≡ value_words (event_kinds w) y → event_at v x ≡ event_at w y

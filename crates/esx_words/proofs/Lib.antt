@@ -1,3 +1,4 @@
+pub mod Tables
 pub mod VerbLemmas
 pub mod WordLemmas
 pub mod EventLemmas

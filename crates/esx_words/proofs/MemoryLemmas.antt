@@ -21,12 +21,6 @@ pub numbers_read : (ws : List ℕ) (words : List (List ℕ)) → AreWords ws →
 numbers_read [] words are e = inl e
 numbers_read (w ∷ ws) words are e = inr (w, map decimal ws, are.0, e, tt)
 
--- the digits of bytes that were read
-pub digits_read : (digits bytes : List ℕ) → IsWritten bytes → digits ≡ encode_lower bytes
-    → (0 < length digits) × (length digits ≤ 8192) × (length digits % 2 ≡ 0)
-digits_read digits bytes w e =
-    let n = length_of_hex digits bytes e in (omega (arith, n, w.some), omega (arith, n, w.few), omega (arith, n))
-
 no_semicolon : (x : Event) → IsEventInRange x → HasNoSemicolon (event_text x)
 no_semicolon x r =
     All-weaker (λ b. eqb b 59 ≡ false) (λ b. b ≡ 59 → ⊥) (λ b t e. not_from_Decides _ (Decides-eqb b 59) t e) (event_text x) (plain_event x r)

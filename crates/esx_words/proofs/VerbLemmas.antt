@@ -1,5 +1,5 @@
 -- The first words of commands: each is one of small letters, and the first word of one command at most.
-use Rattle.std.proofs.Common.{◌≡◌, ℕ, List, true, false, [], ◌∷◌, if◌then◌else◌, ◌==◌, ◌+◌, ◌*◌, refl, ap, sym, ◌∙◌}
+use Rattle.std.proofs.Common.{◌≡◌, arith, ℕ, List, true, false, [], ◌∷◌, if◌then◌else◌, ◌==◌, ◌+◌, ◌*◌, refl, ap, sym, ◌∙◌}
 use Rattle.std.specs.Prelude.{Bool, ◌&&◌, fold}
 use Rattle.std.specs.List.{list_all}
 use Rattle.std.proofs.Math.Path.{subst}
@@ -8,49 +8,7 @@ use Rattle.esx_events.specs.Names.{is_lower, starts_lower}
 use Rattle.esx_words.specs.Verbs.{verb_word}
 use Rattle.esx_words.specs.declared.verbs.Verb.{Verb}
 use Rattle.esx_words.specs.declared.verbs.Verb.TheVariants as verbs
-use Rattle.esx_words.specs.declared.verbs.EventVerb.TheVariants as events
-use Rattle.esx_words.specs.declared.verbs.MachineEvent.TheVariants as machine_events
-use Rattle.esx_words.specs.declared.verbs.PlaceEvent.TheVariants as place_events
-use Rattle.esx_words.specs.declared.verbs.NumberVerb.TheVariants as number_verbs
-use Rattle.esx_words.specs.declared.verbs.NameVerb.TheVariants as name_verbs
-use Rattle.esx_words.specs.declared.verbs.AloneVerb.TheVariants as alone_verbs
-use Rattle.esx_words.specs.declared.verbs.PlaceVerb.TheVariants as place_verbs
-
--- every verb; the last stands for the words that are no verb's
-unfoldable pub all_verbs : List Verb
-all_verbs =
-    verbs.Event events.Admit
-    ∷ verbs.Event (events.Machine machine_events.Start)
-    ∷ verbs.Event (events.Machine machine_events.Ask)
-    ∷ verbs.Event (events.Machine machine_events.Stop)
-    ∷ verbs.Event (events.Machine machine_events.Gone)
-    ∷ verbs.Event (events.Place place_events.Lend)
-    ∷ verbs.Event (events.Place place_events.TakeBack)
-    ∷ verbs.Event (events.Place place_events.Scan)
-    ∷ verbs.Event (events.Place place_events.DropPage)
-    ∷ verbs.Event (events.Place place_events.SetShares)
-    ∷ verbs.Event events.Read
-    ∷ verbs.Event events.Write
-    ∷ verbs.Event events.Sample
-    ∷ verbs.Event events.Rebalance
-    ∷ verbs.Event events.SwapOut
-    ∷ verbs.Event events.Replace
-    ∷ verbs.Event events.SetTax
-    ∷ verbs.Number number_verbs.Undo
-    ∷ verbs.Number number_verbs.Redo
-    ∷ verbs.Number number_verbs.Goto
-    ∷ verbs.Number number_verbs.Prune
-    ∷ verbs.Name name_verbs.Visit
-    ∷ verbs.Name name_verbs.Mark
-    ∷ verbs.Alone alone_verbs.Sum
-    ∷ verbs.Alone alone_verbs.Table
-    ∷ verbs.Alone alone_verbs.Stand
-    ∷ verbs.Alone alone_verbs.Marks
-    ∷ verbs.OfVm
-    ∷ verbs.Place place_verbs.OfPage
-    ∷ verbs.Place place_verbs.Advise
-    ∷ verbs.WhatIf
-    ∷ []
+unfoldable pub use Rattle.esx_words.proofs.Tables.{all_verbs}
 
 -- a number that tells short texts apart
 abbrev pub number_of : List ℕ → ℕ
@@ -66,37 +24,7 @@ verb_at w = named w all_verbs
 
 pub back : (v : Verb) → verb_at (verb_word v) ≡ v
 unfolding verb_at named all_verbs
-back (verbs.Event events.Admit) = refl
-back (verbs.Event (events.Machine machine_events.Start)) = refl
-back (verbs.Event (events.Machine machine_events.Ask)) = refl
-back (verbs.Event (events.Machine machine_events.Stop)) = refl
-back (verbs.Event (events.Machine machine_events.Gone)) = refl
-back (verbs.Event (events.Place place_events.Lend)) = refl
-back (verbs.Event (events.Place place_events.TakeBack)) = refl
-back (verbs.Event (events.Place place_events.Scan)) = refl
-back (verbs.Event (events.Place place_events.DropPage)) = refl
-back (verbs.Event (events.Place place_events.SetShares)) = refl
-back (verbs.Event events.Read) = refl
-back (verbs.Event events.Write) = refl
-back (verbs.Event events.Sample) = refl
-back (verbs.Event events.Rebalance) = refl
-back (verbs.Event events.SwapOut) = refl
-back (verbs.Event events.Replace) = refl
-back (verbs.Event events.SetTax) = refl
-back (verbs.Number number_verbs.Undo) = refl
-back (verbs.Number number_verbs.Redo) = refl
-back (verbs.Number number_verbs.Goto) = refl
-back (verbs.Number number_verbs.Prune) = refl
-back (verbs.Name name_verbs.Visit) = refl
-back (verbs.Name name_verbs.Mark) = refl
-back (verbs.Alone alone_verbs.Sum) = refl
-back (verbs.Alone alone_verbs.Table) = refl
-back (verbs.Alone alone_verbs.Stand) = refl
-back (verbs.Alone alone_verbs.Marks) = refl
-back verbs.OfVm = refl
-back (verbs.Place place_verbs.OfPage) = refl
-back (verbs.Place place_verbs.Advise) = refl
-back verbs.WhatIf = refl
+back v = grind (arith)
 
 -- a word is the first one of one command at most
 pub one_verb : (v w : Verb) → verb_word v ≡ verb_word w → v ≡ w

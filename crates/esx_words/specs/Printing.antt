@@ -2,6 +2,9 @@
 use Rattle.std.specs.Prelude.{ℕ, List, [], ◌∷◌, ◌++◌, codes, decimal}
 use Rattle.esx_events.specs.declared.event.Event.{Event}
 use Rattle.esx_reading.specs.Fields.{joined}
+use Rattle.esx_words.specs.declared.verbs.Verb.TheVariants as verbs
+use Rattle.esx_words.specs.declared.verbs.EventVerb.TheVariants as events
+use Rattle.esx_words.specs.Verbs.{event_word, verb_word}
 use Rattle.esx_words.specs.Commands.{event_words}
 
 -- a further word of a sample
@@ -13,4 +16,8 @@ abbrev pub next_text : Event → List ℕ
 next_text event = codes "; " ++ joined (event_words event)
 
 abbrev pub sample_head : ℕ → ℕ → List ℕ
-sample_head vm length = joined (codes "sample" ∷ decimal vm ∷ decimal length ∷ [])
+sample_head vm length = joined (event_word events.Sample ∷ decimal vm ∷ decimal length ∷ [])
+
+-- what stands before events that are tried
+abbrev pub tried_head : List ℕ
+tried_head = verb_word verbs.WhatIf ++ codes " "

@@ -11,8 +11,8 @@ ghost use Rattle.esx_words.specs.Commands.{event_kinds};
 ghost use Rattle.esx_words.specs.declared.verbs.EventVerb.TheVariants as events;
 
 use esx_events::{Boxed, Name};
-use esx_reading::{Fields, TextFault, written_bytes};
-use esx_types::{Bytes, Rows, VmId, VmSpec};
+use esx_reading::{Fields, TextFault, small_written_bytes};
+use esx_types::{Rows, SmallBytes, VmId, VmSpec};
 use std::alloc::{AllocError, Global};
 
 /// A virtual machine alone.
@@ -134,15 +134,15 @@ fn digits<'a>(fields: &mut Fields<'a>) -> Option<(VmId, u32, u32, &'a str)>
     Some((vm, first, second, text))
 }
 
-/// The bytes of digits, in a box, if they are those of some.
+/// The bytes of digits, if they are those of some.
 #[inline(always)]
-fn boxed_bytes(alloc: Global, digits: &str) -> Result<Option<Boxed<Bytes>>, AllocError>
+fn bytes_of(alloc: Global, digits: &str) -> Result<Option<SmallBytes>, AllocError>
     ensures found { IfOk result (λ found. IfSome found (λ bytes. IsWritten bytes × (digits.now ≡ encode_lower bytes))) }
     ensures only { IfOk result (λ found. IfNone found ((bytes : List ℕ) → IsWritten bytes → digits.now ≡ encode_lower bytes → ⊥)) }
     ensures memory { OnErr result ((0 < length digits.now) × (length digits.now ≤ 8192) × (length digits.now % 2 ≡ 0)) }
 {
-    match written_bytes(alloc, digits) {
-        Ok(bytes) => Ok(Some(Boxed::new(alloc, bytes)?)),
+    match small_written_bytes(alloc, digits) {
+        Ok(bytes) => Ok(Some(bytes)),
         Err(TextFault::OutOfMemory) => Err(AllocError),
         Err(_) => Ok(None),
     }
@@ -152,7 +152,7 @@ fn boxed_bytes(alloc: Global, digits: &str) -> Result<Option<Boxed<Bytes>>, Allo
 pub fn written(
     alloc: Global,
     fields: &mut Fields,
-) -> Result<Option<(VmId, u32, u32, Boxed<Bytes>)>, AllocError>
+) -> Result<Option<(VmId, u32, u32, SmallBytes)>, AllocError>
     ensures found { IfOk result (λ found. IfSome found (λ p. (p.0 < VM_NUMBERS) × IsWritten p.3
         × (fields.old ≡ decimal p.0 ∷ decimal p.1 ∷ decimal p.2 ∷ encode_lower p.3 ∷ []))) }
     ensures only { IfOk result (λ found. IfNone found ((vm n m : ℕ) (bytes : List ℕ) → vm < VM_NUMBERS → n < 2 ^ 32 → m < 2 ^ 32 → IsWritten bytes
@@ -162,7 +162,7 @@ pub fn written(
     let Some((vm, first, second, text)) = digits(fields) else {
         return Ok(None);
     };
-    match boxed_bytes(alloc, text)? {
+    match bytes_of(alloc, text)? {
         Some(bytes) => Ok(Some((vm, first, second, bytes))),
         None => Ok(None),
     }

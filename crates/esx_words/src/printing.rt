@@ -5,10 +5,11 @@ ghost use Rattle.hex.specs.Hex.{encode_lower};
 ghost use Rattle.esx_reading.specs.Fields.{joined};
 ghost use Rattle.esx_words.specs.Commands.{event_words, spelling};
 ghost use Rattle.esx_writing.specs.Writing.{Writes, Puts, sink_faults};
-ghost use Rattle.esx_words.specs.Printing.{word_text, next_text, sample_head};
+ghost use Rattle.esx_words.specs.Printing.{word_text, next_text, sample_head, tried_head};
 ghost use Rattle.esx_events.specs.Lists.{IsTriable};
 ghost use Rattle.esx_events.specs.declared.call.Call.TheVariants as calls;
 
+use crate::verbs;
 use esx_events::{Call, Event, Name};
 use esx_types::{MemorySink, Sink, SinkFailed, VmId, VmSpec};
 use esx_writing::{AnswerBuffer, Hex, line, put_line, write_held};
@@ -282,7 +283,7 @@ fn put_sample<W: Sink>(
     ensures failures { W.failures sink.new ≡ W.failures sink.old + sink_faults result }
     ensures flushes { W.flushes sink.new ≡ W.flushes sink.old }
 {
-    put_place(sink, held, "sample", vm, length)?;
+    put_place(sink, held, verbs::SAMPLE, vm, length)?;
     put_sample_words(sink, held, words)
 }
 
@@ -298,18 +299,26 @@ pub fn put_event<W: Sink>(
     ensures flushes { W.flushes sink.new ≡ W.flushes sink.old }
 {
     match event {
-        Event::Admit { vm, spec } => put_spec(sink, held, "admit", *vm, *spec),
-        Event::Start { vm } => put_machine(sink, held, "start", *vm),
-        Event::Read { vm, page, at, len } => put_range(sink, held, "read", *vm, *page, *at, *len),
+        Event::Admit { vm, spec } => put_spec(sink, held, verbs::ADMIT, *vm, *spec),
+        Event::Start { vm } => put_machine(sink, held, verbs::START, *vm),
+        Event::Read { vm, page, at, len } => put_range(
+            sink,
+            held,
+            verbs::READ,
+            *vm,
+            *page,
+            *at,
+            *len,
+        ),
         Event::Write {
             vm,
             page,
             at,
             bytes,
-        } => put_written(sink, held, "write", *vm, *page, *at, bytes.get().as_slice()),
-        Event::Ask { vm } => put_machine(sink, held, "ask", *vm),
-        Event::Lend { vm, page } => put_place(sink, held, "lend", *vm, *page),
-        Event::TakeBack { vm, page } => put_place(sink, held, "takeback", *vm, *page),
+        } => put_written(sink, held, verbs::WRITE, *vm, *page, *at, bytes.as_slice()),
+        Event::Ask { vm } => put_machine(sink, held, verbs::ASK, *vm),
+        Event::Lend { vm, page } => put_place(sink, held, verbs::LEND, *vm, *page),
+        Event::TakeBack { vm, page } => put_place(sink, held, verbs::TAKEBACK, *vm, *page),
         Event::Sample { vm, length, words } => put_sample(
             sink,
             held,
@@ -317,17 +326,22 @@ pub fn put_event<W: Sink>(
             *length,
             words.get().as_slice(),
         ),
-        Event::Rebalance => put_alone(sink, held, "rebalance"),
-        Event::Scan { vm, page } => put_place(sink, held, "scan", *vm, *page),
-        Event::SwapOut { vm, word } => put_drawn(sink, held, "swapout", *vm, *word),
+        Event::Rebalance => put_alone(sink, held, verbs::REBALANCE),
+        Event::Scan { vm, page } => put_place(sink, held, verbs::SCAN, *vm, *page),
+        Event::SwapOut { vm, word } => put_drawn(sink, held, verbs::SWAPOUT, *vm, *word),
         Event::Replace { vm, page, word } => put_drawn_place(
-            sink, held, "replace", *vm, *page, *word,
+            sink,
+            held,
+            verbs::REPLACE,
+            *vm,
+            *page,
+            *word,
         ),
-        Event::SetShares { vm, shares } => put_place(sink, held, "shares", *vm, *shares),
-        Event::SetTax { tau } => put_number(sink, held, "tax", *tau),
-        Event::Stop { vm } => put_machine(sink, held, "stop", *vm),
-        Event::DropPage { vm, page } => put_place(sink, held, "drop", *vm, *page),
-        Event::Gone { vm } => put_machine(sink, held, "gone", *vm),
+        Event::SetShares { vm, shares } => put_place(sink, held, verbs::SHARES, *vm, *shares),
+        Event::SetTax { tau } => put_number(sink, held, verbs::TAX, *tau),
+        Event::Stop { vm } => put_machine(sink, held, verbs::STOP, *vm),
+        Event::DropPage { vm, page } => put_place(sink, held, verbs::DROP, *vm, *page),
+        Event::Gone { vm } => put_machine(sink, held, verbs::GONE, *vm),
     }
 }
 
@@ -387,12 +401,12 @@ fn put_listed<W: Sink>(
 
 /// The first word of tried events.
 fn put_tried_word<W: Sink>(sink: &mut W, held: &mut AnswerBuffer) -> Result<(), SinkFailed>
-    ensures bytes { Puts (W.contents sink.old) held.old (W.contents sink.new) held.new (codes "whatif ") result }
-    ensures utf8 { OnOk result (IsUtf8 (codes "whatif ")) }
+    ensures bytes { Puts (W.contents sink.old) held.old (W.contents sink.new) held.new tried_head result }
+    ensures utf8 { OnOk result (IsUtf8 tried_head) }
     ensures failures { W.failures sink.new ≡ W.failures sink.old + sink_faults result }
     ensures flushes { W.flushes sink.new ≡ W.flushes sink.old }
 {
-    put_line(sink, held, &"whatif ")
+    put_line(sink, held, &line![verbs::WHATIF, " "])
 }
 
 /// A call that tries events.
@@ -402,8 +416,8 @@ fn put_tried<W: Sink>(
     first: &Event,
     others: &[Event],
 ) -> Result<(), SinkFailed>
-    ensures bytes { Puts (W.contents sink.old) held.old (W.contents sink.new) held.new (codes "whatif " ++ (joined (event_words first.now) ++ flat_map next_text others.now)) result }
-    ensures utf8 { OnOk result (IsUtf8 (codes "whatif " ++ (joined (event_words first.now) ++ flat_map next_text others.now))) }
+    ensures bytes { Puts (W.contents sink.old) held.old (W.contents sink.new) held.new (tried_head ++ (joined (event_words first.now) ++ flat_map next_text others.now)) result }
+    ensures utf8 { OnOk result (IsUtf8 (tried_head ++ (joined (event_words first.now) ++ flat_map next_text others.now))) }
     ensures failures { W.failures sink.new ≡ W.failures sink.old + sink_faults result }
     ensures flushes { W.flushes sink.new ≡ W.flushes sink.old }
 {
@@ -442,20 +456,20 @@ pub fn put_command<W: Sink>(
 {
     match call {
         Call::Do { event } => put_event(sink, held, event),
-        Call::Undo { count } => put_number(sink, held, "undo", *count),
-        Call::Redo { count } => put_number(sink, held, "redo", *count),
-        Call::Goto { node } => put_number(sink, held, "goto", *node),
-        Call::Visit { name } => put_name(sink, held, "visit", name),
-        Call::Mark { name } => put_name(sink, held, "mark", name),
-        Call::Prune { node } => put_number(sink, held, "prune", *node),
+        Call::Undo { count } => put_number(sink, held, verbs::UNDO, *count),
+        Call::Redo { count } => put_number(sink, held, verbs::REDO, *count),
+        Call::Goto { node } => put_number(sink, held, verbs::GOTO, *node),
+        Call::Visit { name } => put_name(sink, held, verbs::VISIT, name),
+        Call::Mark { name } => put_name(sink, held, verbs::MARK, name),
+        Call::Prune { node } => put_number(sink, held, verbs::PRUNE, *node),
         Call::WhatIf { events } => put_events(sink, held, events.as_slice()),
-        Call::Sum => put_alone(sink, held, "sum"),
-        Call::Table => put_alone(sink, held, "table"),
-        Call::OfVm { vm } => put_machine(sink, held, "vm", *vm),
-        Call::OfPage { vm, page } => put_place(sink, held, "page", *vm, *page),
-        Call::Advise { vm, page } => put_place(sink, held, "advise", *vm, *page),
-        Call::Stand => put_alone(sink, held, "where"),
-        Call::Marks => put_alone(sink, held, "marks"),
+        Call::Sum => put_alone(sink, held, verbs::SUM),
+        Call::Table => put_alone(sink, held, verbs::TABLE),
+        Call::OfVm { vm } => put_machine(sink, held, verbs::VM, *vm),
+        Call::OfPage { vm, page } => put_place(sink, held, verbs::PAGE, *vm, *page),
+        Call::Advise { vm, page } => put_place(sink, held, verbs::ADVISE, *vm, *page),
+        Call::Stand => put_alone(sink, held, verbs::WHERE),
+        Call::Marks => put_alone(sink, held, verbs::MARKS),
     }
 }
 

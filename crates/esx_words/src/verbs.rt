@@ -8,6 +8,69 @@ ghost use Rattle.esx_words.specs.declared.verbs.Verb.TheVariants as verbs;
 ghost use Rattle.esx_words.specs.declared.verbs.EventVerb.TheVariants as events;
 ghost use Rattle.esx_words.specs.declared.verbs.PlaceVerb.TheVariants as places;
 
+// The letters of each first word: they stand here alone.
+pub const ADMIT: &str = "admit";
+
+pub const START: &str = "start";
+
+pub const ASK: &str = "ask";
+
+pub const STOP: &str = "stop";
+
+pub const GONE: &str = "gone";
+
+pub const LEND: &str = "lend";
+
+pub const TAKEBACK: &str = "takeback";
+
+pub const SCAN: &str = "scan";
+
+pub const DROP: &str = "drop";
+
+pub const SHARES: &str = "shares";
+
+pub const READ: &str = "read";
+
+pub const WRITE: &str = "write";
+
+pub const SAMPLE: &str = "sample";
+
+pub const REBALANCE: &str = "rebalance";
+
+pub const SWAPOUT: &str = "swapout";
+
+pub const REPLACE: &str = "replace";
+
+pub const TAX: &str = "tax";
+
+pub const UNDO: &str = "undo";
+
+pub const REDO: &str = "redo";
+
+pub const GOTO: &str = "goto";
+
+pub const PRUNE: &str = "prune";
+
+pub const VISIT: &str = "visit";
+
+pub const MARK: &str = "mark";
+
+pub const SUM: &str = "sum";
+
+pub const TABLE: &str = "table";
+
+pub const WHERE: &str = "where";
+
+pub const MARKS: &str = "marks";
+
+pub const VM: &str = "vm";
+
+pub const PAGE: &str = "page";
+
+pub const ADVISE: &str = "advise";
+
+pub const WHATIF: &str = "whatif";
+
 /// Events that a virtual machine alone stands behind.
 #[derive(Clone, Copy, Debug, PartialEq, Eq)]
 pub enum MachineEvent {
@@ -95,32 +158,32 @@ pub fn verb_of(word: &str) -> Option<Verb>
         4 => verb_of_four(word),
         5 => verb_of_five(word),
         2 => match word {
-            "vm" => Some(Verb::OfVm),
+            VM => Some(Verb::OfVm),
             _ => None,
         },
         3 => match word {
-            "sum" => Some(Verb::Alone {
+            SUM => Some(Verb::Alone {
                 verb: AloneVerb::Sum,
             }),
-            "ask" => Some(Verb::Event {
+            ASK => Some(Verb::Event {
                 verb: EventVerb::Machine {
                     verb: MachineEvent::Ask,
                 },
             }),
-            "tax" => Some(Verb::Event {
+            TAX => Some(Verb::Event {
                 verb: EventVerb::SetTax,
             }),
             _ => None,
         },
         6 => match word {
-            "advise" => Some(Verb::Place {
+            ADVISE => Some(Verb::Place {
                 verb: PlaceVerb::Advise,
             }),
-            "sample" => Some(Verb::Event {
+            SAMPLE => Some(Verb::Event {
                 verb: EventVerb::Sample,
             }),
-            "whatif" => Some(Verb::WhatIf),
-            "shares" => Some(Verb::Event {
+            WHATIF => Some(Verb::WhatIf),
+            SHARES => Some(Verb::Event {
                 verb: EventVerb::Place {
                     verb: PlaceEvent::SetShares,
                 },
@@ -128,16 +191,16 @@ pub fn verb_of(word: &str) -> Option<Verb>
             _ => None,
         },
         7 => match word {
-            "swapout" => Some(Verb::Event {
+            SWAPOUT => Some(Verb::Event {
                 verb: EventVerb::SwapOut,
             }),
-            "replace" => Some(Verb::Event {
+            REPLACE => Some(Verb::Event {
                 verb: EventVerb::Replace,
             }),
             _ => None,
         },
         8 => match word {
-            "takeback" => Some(Verb::Event {
+            TAKEBACK => Some(Verb::Event {
                 verb: EventVerb::Place {
                     verb: PlaceEvent::TakeBack,
                 },
@@ -145,7 +208,7 @@ pub fn verb_of(word: &str) -> Option<Verb>
             _ => None,
         },
         9 => match word {
-            "rebalance" => Some(Verb::Event {
+            REBALANCE => Some(Verb::Event {
                 verb: EventVerb::Rebalance,
             }),
             _ => None,
@@ -162,10 +225,10 @@ fn verb_of_four(word: &str) -> Option<Verb>
     ensures only { IfNone result ((verb : Verb) → word.now ≡ verb_word verb → ⊥) }
 {
     match word {
-        "page" => Some(Verb::Place {
+        PAGE => Some(Verb::Place {
             verb: PlaceVerb::OfPage,
         }),
-        "read" => Some(Verb::Event {
+        READ => Some(Verb::Event {
             verb: EventVerb::Read,
         }),
         _ => other_verb_of_four(word),
@@ -182,39 +245,39 @@ fn other_verb_of_four(word: &str) -> Option<Verb>
     ensures only { IfNone result ((verb : Verb) → word.now ≡ verb_word verb → ⊥) }
 {
     match word {
-        "scan" => Some(Verb::Event {
+        SCAN => Some(Verb::Event {
             verb: EventVerb::Place {
                 verb: PlaceEvent::Scan,
             },
         }),
-        "lend" => Some(Verb::Event {
+        LEND => Some(Verb::Event {
             verb: EventVerb::Place {
                 verb: PlaceEvent::Lend,
             },
         }),
-        "undo" => Some(Verb::Number {
+        UNDO => Some(Verb::Number {
             verb: NumberVerb::Undo,
         }),
-        "redo" => Some(Verb::Number {
+        REDO => Some(Verb::Number {
             verb: NumberVerb::Redo,
         }),
-        "goto" => Some(Verb::Number {
+        GOTO => Some(Verb::Number {
             verb: NumberVerb::Goto,
         }),
-        "mark" => Some(Verb::Name {
+        MARK => Some(Verb::Name {
             verb: NameVerb::Mark,
         }),
-        "stop" => Some(Verb::Event {
+        STOP => Some(Verb::Event {
             verb: EventVerb::Machine {
                 verb: MachineEvent::Stop,
             },
         }),
-        "drop" => Some(Verb::Event {
+        DROP => Some(Verb::Event {
             verb: EventVerb::Place {
                 verb: PlaceEvent::DropPage,
             },
         }),
-        "gone" => Some(Verb::Event {
+        GONE => Some(Verb::Event {
             verb: EventVerb::Machine {
                 verb: MachineEvent::Gone,
             },
@@ -231,30 +294,30 @@ fn verb_of_five(word: &str) -> Option<Verb>
     ensures only { IfNone result ((verb : Verb) → word.now ≡ verb_word verb → ⊥) }
 {
     match word {
-        "write" => Some(Verb::Event {
+        WRITE => Some(Verb::Event {
             verb: EventVerb::Write,
         }),
-        "where" => Some(Verb::Alone {
+        WHERE => Some(Verb::Alone {
             verb: AloneVerb::Stand,
         }),
-        "start" => Some(Verb::Event {
+        START => Some(Verb::Event {
             verb: EventVerb::Machine {
                 verb: MachineEvent::Start,
             },
         }),
-        "admit" => Some(Verb::Event {
+        ADMIT => Some(Verb::Event {
             verb: EventVerb::Admit,
         }),
-        "visit" => Some(Verb::Name {
+        VISIT => Some(Verb::Name {
             verb: NameVerb::Visit,
         }),
-        "marks" => Some(Verb::Alone {
+        MARKS => Some(Verb::Alone {
             verb: AloneVerb::Marks,
         }),
-        "prune" => Some(Verb::Number {
+        PRUNE => Some(Verb::Number {
             verb: NumberVerb::Prune,
         }),
-        "table" => Some(Verb::Alone {
+        TABLE => Some(Verb::Alone {
             verb: AloneVerb::Table,
         }),
         _ => None,

@@ -7,9 +7,9 @@ ghost use Rattle.esx_workers.specs.Visiting.{event_of, page_of, is_access_line, 
 use crate::draws::draw_word;
 use crate::end::How;
 use crate::passed::is_wait;
-use esx_events::{Boxed, Call, Event, Help, Reply, Said};
+use esx_events::{Call, Event, Help, Reply, Said};
 use esx_scenario::TraceLine;
-use esx_types::VmId;
+use esx_types::{SmallBytes, VmId};
 use rand_pcg::Pcg64;
 use std::alloc::{AllocError, Global};
 
@@ -53,7 +53,7 @@ pub fn event_of(alloc: Global, vm: VmId, line: &TraceLine) -> Result<Event, Allo
             vm,
             page: *page,
             at: *at,
-            bytes: Boxed::new(alloc, bytes.copy()?)?,
+            bytes: SmallBytes::copy_of(alloc, bytes.as_slice())?,
         }),
         TraceLine::Ask => Ok(Event::Ask { vm }),
         TraceLine::Lend { page } => Ok(Event::Lend { vm, page: *page }),

@@ -1,6 +1,6 @@
 //! What is written, held back in a buffer of fixed size. No memory is taken on the way.
 
-ghost use Rattle.std.specs.Prelude.{◌≡◌, ◌+◌, ◌≤◌, ◌*◌, ◌++◌, [], length, decimal, IfOk, IsUtf8};
+ghost use Rattle.std.specs.Prelude.{◌≡◌, ◌+◌, ◌≤◌, ◌*◌, ◌++◌, [], length, decimal, IfOk, OnOk, OnErr, IsUtf8};
 ghost use Rattle.hex.specs.Hex.{encode_lower};
 ghost use Rattle.esx_writing.specs.Writing.{Writes, Puts, sink_faults};
 
@@ -89,15 +89,16 @@ impl AnswerBuffer {
         &self.bytes[..self.count]
     }
 
-    fn clear(&mut self)
+    /// Holds nothing.
+    pub fn clear(&mut self)
         ensures { self.new ≡ [] }
     {
         self.count = 0;
     }
 }
 
-/// Writes all the bytes.
-fn put_all<W: Sink>(sink: &mut W, bytes: &[u8]) -> Result<(), SinkFailed>
+/// Writes all the bytes, past the buffer.
+pub fn put_all<W: Sink>(sink: &mut W, bytes: &[u8]) -> Result<(), SinkFailed>
     ensures bytes { Writes (W.contents sink.old) (W.contents sink.new) bytes.now result }
     ensures failures { W.failures sink.new ≡ W.failures sink.old + sink_faults result }
     ensures flushes { W.flushes sink.new ≡ W.flushes sink.old }
@@ -124,6 +125,17 @@ pub fn write_held<W: Sink>(sink: &mut W, held: &mut AnswerBuffer) -> Result<(), 
     let written = put_all(sink, held.as_slice());
     held.clear();
     written
+}
+
+/// Adds what is held to a text in memory, all of it or, where memory runs out, nothing. Nothing is held after it.
+pub fn append_held(text: &mut Vec<u8>, held: &mut AnswerBuffer) -> Result<(), AllocError>
+    ensures ok { OnOk result (text.new.items ≡ text.old.items ++ held.old) }
+    ensures err { OnErr result (text.new.items ≡ text.old.items) }
+    ensures empty { held.new ≡ [] }
+{
+    let added = text.extend_from_slice(held.as_slice());
+    held.clear();
+    added
 }
 
 /// Writes what is held, and then holds the bytes or writes them.

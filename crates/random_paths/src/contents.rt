@@ -1,8 +1,7 @@
 //! What is written: few contents, so that pages are equal often, or equal but for one byte.
 
 use crate::draws::Draws;
-use esx_events::Boxed;
-use esx_types::Bytes;
+use esx_types::{Bytes, SmallBytes};
 use std::alloc::{AllocError, Global};
 
 fn filled(alloc: Global, len: u32, byte: u8) -> Result<Vec<u8>, AllocError> {
@@ -36,7 +35,7 @@ fn odd_place(page: u32, draws: &mut Draws) -> u32 {
 }
 
 /// A whole page, or its first bytes.
-pub fn content(alloc: Global, page: u32, draws: &mut Draws) -> Result<Boxed<Bytes>, AllocError> {
+pub fn content(alloc: Global, page: u32, draws: &mut Draws) -> Result<SmallBytes, AllocError> {
     let bytes = match draws.below(16) {
         0 => filled(alloc, 1, 0)?,
         1 | 2 => filled(alloc, 1, 0x2a)?,
@@ -51,5 +50,5 @@ pub fn content(alloc: Global, page: u32, draws: &mut Draws) -> Result<Boxed<Byte
         14 => random(alloc, 2, draws)?,
         _ => filled(alloc, page, 0x2a)?,
     };
-    Boxed::new(alloc, Bytes::from_vec(bytes))
+    SmallBytes::from_bytes(alloc, Bytes::from_vec(bytes))
 }

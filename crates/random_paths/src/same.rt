@@ -21,9 +21,7 @@ fn same_answer(one: &Answer, other: &Answer) -> bool {
                 overhead: o,
             },
         ) => *running == *r && *frame == *f && *held == *h && *overhead == *o,
-        (Answer::Bytes { bytes: a }, Answer::Bytes { bytes: b }) => {
-            a.get().as_slice() == b.get().as_slice()
-        }
+        (Answer::Bytes { bytes: a }, Answer::Bytes { bytes: b }) => a.as_slice() == b.as_slice(),
         (Answer::Done, Answer::Done) | (Answer::Gone, Answer::Gone) => true,
         (Answer::Looked { scanned: a }, Answer::Looked { scanned: b }) => *a == *b,
         _ => match (numbers(one), numbers(other)) {

@@ -5,6 +5,7 @@ ghost use Rattle.std.specs.Prelude.{◌≡◌, ◌≤◌};
 use esx_console::Console;
 use esx_events::Refusal;
 use esx_text::{ServeFault, serve};
+use esx_told::TextLog;
 use esx_types::{Config, MemorySource, WriteSink};
 use std::alloc::Global;
 use std::marker::Brand;
@@ -17,7 +18,7 @@ const AT_ONCE: usize = 64;
 /// The same by a count of the calls at each end.
 fn served_counted<I: Ledger, O: Ledger>(
     alloc: Global,
-    console: &mut Console,
+    console: &mut Console<TextLog>,
     input: &[u8],
     room: &mut [u8],
     calls_in: Blank,
@@ -38,14 +39,14 @@ fn served_counted<I: Ledger, O: Ledger>(
     (result, size.saturating_sub(left.len()))
 }
 
-/// Serves a site, writes its answers to the front of the room, and tells how many bytes they are.
+/// Serves a site over a log that is kept as text, writes its answers to the front of the room, and tells how many bytes they are.
 pub fn served(
     alloc: Global,
     site: Config,
     input: &[u8],
     room: &mut [u8],
 ) -> Result<(Result<u64, ServeFault>, usize), Refusal> {
-    let mut console = Console::open(alloc, site)?;
+    let mut console = Console::over(alloc, site, TextLog::new(alloc)?)?;
     let (calls_in, calls_out) = (Blank::new(4), Blank::new(4));
     let served = served_counted::<Brand, Brand>(
         alloc,

@@ -106,7 +106,7 @@ targets_keep c (Some v ∷ vms) (t ∷ targets) (suc m) = targets_keep c vms tar
 shared_out_keeps : (c : Config) (s : Site) (r : Answer × Site) → share_out c s ≡ Ok r → Keeps c s r.1
 shared_out_keeps c s r h =
     let P : Site → Type 0 = Keeps c s in
-    subst P (same_site _ (record s { vms = with_targets s.vms (targets_of s.tau (rows_of min_of s) (need c s)) }) r h) (targets_keep c s.vms (targets_of s.tau (rows_of min_of s) (need c s)))
+    subst P (same_site _ (record s { vms = with_targets s.vms (targets_of (rows_of min_of s) (need c s)) }) r h) (targets_keep c s.vms (targets_of (rows_of min_of s) (need c s)))
 
 pub rebalance_keeps : (c : Config) (s : Site) (level : Level) (r : Answer × Site) → rebalance c s level ≡ Ok r → Keeps c s r.1
 unfolding rebalance

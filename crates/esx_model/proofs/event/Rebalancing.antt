@@ -206,30 +206,30 @@ maxes_bounded c (Some v ∷ os) each = ((each zero v refl).good.min_max, omega a
 
 -- Below it targets are made from rows.
 
-bounded_by_rows : (c : Config) (n : ℕ) (os : List (Option Vm)) (ts : List ℕ) → ((n : ℕ) (v : Vm) → get_or os n None ≡ Some v → IsVm c v) → length ts ≡ length (rows_from min_of n os)
-    → ((i : ℕ) → i < length (rows_from min_of n os) → (row_at (rows_from min_of n os) i).floor ≤ slice_index ts i)
-    → ((i : ℕ) → i < length (rows_from min_of n os) → slice_index ts i ≤ held (row_at (rows_from min_of n os) i)) → AreBounded os ts
-bounded_by_rows c n [] ts each count least most = tt
-bounded_by_rows c n (None ∷ os) ts each count least most = bounded_by_rows c (n + 1) os ts (λ k v e. each (suc k) v e) count least most
-bounded_by_rows c n (Some v ∷ os) [] each count least most = absurd (omega (arith, count))
-bounded_by_rows c n (Some v ∷ os) (t ∷ ts) each count least most =
+bounded_by_rows : (c : Config) (tau n : ℕ) (os : List (Option Vm)) (ts : List ℕ) → ((n : ℕ) (v : Vm) → get_or os n None ≡ Some v → IsVm c v) → length ts ≡ length (rows_from tau min_of n os)
+    → ((i : ℕ) → i < length (rows_from tau min_of n os) → (row_at (rows_from tau min_of n os) i).floor ≤ slice_index ts i)
+    → ((i : ℕ) → i < length (rows_from tau min_of n os) → slice_index ts i ≤ held (row_at (rows_from tau min_of n os) i)) → AreBounded os ts
+bounded_by_rows c tau n [] ts each count least most = tt
+bounded_by_rows c tau n (None ∷ os) ts each count least most = bounded_by_rows c tau (n + 1) os ts (λ k v e. each (suc k) v e) count least most
+bounded_by_rows c tau n (Some v ∷ os) [] each count least most = absurd (omega (arith, count))
+bounded_by_rows c tau n (Some v ∷ os) (t ∷ ts) each count least most =
     let fine = each zero v refl in
     let low = least zero (omega arith) in
     let high = most zero (omega arith) in
     let few = resident_most c v fine in
-    (low, omega (arith, high, few, fine.good.min_max), bounded_by_rows c (n + 1) os ts (λ k v e. each (suc k) v e) (omega (arith, count)) (λ i h. least (suc i) (omega (arith, h))) (λ i h. most (suc i) (omega (arith, h))))
+    (low, omega (arith, high, few, fine.good.min_max), bounded_by_rows c tau (n + 1) os ts (λ k v e. each (suc k) v e) (omega (arith, count)) (λ i h. least (suc i) (omega (arith, h))) (λ i h. most (suc i) (omega (arith, h))))
 
-shared_bounds : (c : Config) (s : Site) (need : ℕ) → IsSound c s → AreBounded s.vms (targets_of s.tau (rows_of min_of s) need)
+shared_bounds : (c : Config) (s : Site) (need : ℕ) → IsSound c s → AreBounded s.vms (targets_of (rows_of min_of s) need)
 unfolding rows_of
 shared_bounds c s need sound =
     let rows = rows_of_sound c s min_of sound (λ v fine. omega (arith, fine.good.min_max, fine.good.most_max)) in
-    let targets = worked_out s.tau (rows_from min_of 0 s.vms) sound.tau rows need in
-    bounded_by_rows c 0 s.vms (targets_of s.tau (rows_from min_of 0 s.vms) need) sound.each targets.count targets.least targets.most
+    let targets = worked_out (rows_from s.tau min_of 0 s.vms) rows need in
+    bounded_by_rows c s.tau 0 s.vms (targets_of (rows_from s.tau min_of 0 s.vms) need) sound.each targets.count targets.least targets.most
 
 share_out_sound : (c : Config) (s : Site) (r : Answer × Site) → IsSound c s → share_out c s ≡ Ok r → IsSound c r.1
 share_out_sound c s r sound h =
-    gives c (answers.Rebalanced (need c s) (min (need c s) (sum_by spare (rows_of min_of s)))) (retargeted s (targets_of s.tau (rows_of min_of s) (need c s))) r h
-    (retargeted_sound c s (targets_of s.tau (rows_of min_of s) (need c s)) sound (shared_bounds c s (need c s) sound))
+    gives c (answers.Rebalanced (need c s) (min (need c s) (sum_by spare (rows_of min_of s)))) (retargeted s (targets_of (rows_of min_of s) (need c s))) r h
+    (retargeted_sound c s (targets_of (rows_of min_of s) (need c s)) sound (shared_bounds c s (need c s) sound))
 
 pub rebalance_sound : (c : Config) (s : Site) (level : Level) (r : Answer × Site) → IsSound c s → rebalance c s level ≡ Ok r → IsSound c r.1
 unfolding rebalance

@@ -18,18 +18,18 @@ use Rattle.esx_model.specs.event.Outcome.{Outcome, Gate, at_vm, unless}
 abbrev pub active : Vm → ℕ
 active v = active_share (slow_average v.closed) (fast_average v.closed) (option_map so_far v.period)
 
--- what a machine has, of which it keeps so many pages in any case
-abbrev pub row_of_vm : ℕ → ℕ → Vm → Row
-row_of_vm n floor v = record { vm = n; shares = v.spec.shares; pages = resident v; floor = floor; active = active v }
+-- what a machine has at the site's tax, of which it keeps so many pages in any case
+abbrev pub row_of_vm : ℕ → ℕ → ℕ → Vm → Row
+row_of_vm tau n floor v = record { vm = n; shares = v.spec.shares; pages = resident v; floor = floor; active = active v; tau = tau }
 
 -- a row for each machine from number n on, each with its floor
-abbrev pub rows_from : (Vm → ℕ) → ℕ → List (Option Vm) → List Row
-rows_from floor n [] = []
-rows_from floor n (None ∷ vms) = rows_from floor (n + 1) vms
-rows_from floor n (Some v ∷ vms) = row_of_vm n (floor v) v ∷ rows_from floor (n + 1) vms
+abbrev pub rows_from : ℕ → (Vm → ℕ) → ℕ → List (Option Vm) → List Row
+rows_from tau floor n [] = []
+rows_from tau floor n (None ∷ vms) = rows_from tau floor (n + 1) vms
+rows_from tau floor n (Some v ∷ vms) = row_of_vm tau n (floor v) v ∷ rows_from tau floor (n + 1) vms
 
 unfoldable pub rows_of : (Vm → ℕ) → Site → List Row
-rows_of floor s = rows_from floor 0 s.vms
+rows_of floor s = rows_from s.tau floor 0 s.vms
 
 abbrev pub min_of : Vm → ℕ
 min_of v = v.spec.min
@@ -52,7 +52,7 @@ need c s = high_threshold c + margin c - free_count c.frames s
 abbrev pub share_out : Config → Site → Outcome
 share_out c s = Ok (
   answers.Rebalanced (need c s) (min (need c s) (sum_by spare (rows_of min_of s))),
-  record s { vms = with_targets s.vms (targets_of s.tau (rows_of min_of s) (need c s)) },
+  record s { vms = with_targets s.vms (targets_of (rows_of min_of s) (need c s)) },
 )
 
 unfoldable pub rebalance : Config → Site → Level → Outcome

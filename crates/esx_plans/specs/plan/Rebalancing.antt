@@ -39,7 +39,7 @@ wanted c t = high_threshold c + margin c - count_by is_free t.frames
 abbrev pub share_out_plan : Config → Tables → Planned
 share_out_plan c t = Ok (
   answers.Rebalanced (wanted c t) (min (wanted c t) (sum_by spare (ratio_rows least_of t))),
-  to_targets (ratio_rows least_of t) (targets_of t.tau (ratio_rows least_of t) (wanted c t)),
+  to_targets (ratio_rows least_of t) (targets_of (ratio_rows least_of t) (wanted c t)),
 )
 
 unfoldable pub rebalance_plan : Config → Tables → Level → Planned

@@ -81,7 +81,7 @@ pub fn plan_event(
             at,
             bytes,
         } => {
-            let new = bytes.get().as_slice();
+            let new = bytes.as_slice();
             plan_write(tables, alloc, config, level, *vm, *page, *at, new)
         }
         Event::Ask { vm } => plan_ask(tables, alloc, *vm),

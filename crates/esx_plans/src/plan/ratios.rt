@@ -12,9 +12,9 @@ use esx_tables::VmTable;
 use esx_types::VmId;
 use std::alloc::{AllocError, Global};
 
-fn ratio_row(vm: VmId, row: &VmTable) -> Row
+fn ratio_row(tau: u32, vm: VmId, row: &VmTable) -> Row
     requires { IsTold row.now.period }
-    ensures { result ≡ ratio_row least_of vm row.now }
+    ensures { result ≡ ratio_row tau least_of vm row.now }
 {
     let spec = row.spec();
     Row {
@@ -23,6 +23,7 @@ fn ratio_row(vm: VmId, row: &VmTable) -> Row
         pages: row.standing().resident,
         floor: spec.min,
         active: active(row),
+        tau,
     }
 }
 
@@ -40,11 +41,11 @@ fn machine_count(vms: &[Option<VmTable>]) -> usize
     vms.iter().filter(|place| place.is_some()).count()
 }
 
-/// A row for each machine that there is, in order of number, of which it keeps its least memory.
-pub fn ratio_rows(alloc: Global, vms: &[Option<VmTable>]) -> Result<Vec<Row>, AllocError>
+/// A row for each machine that there is at a tax, in order of number, of which it keeps its least memory.
+pub fn ratio_rows(alloc: Global, tau: u32, vms: &[Option<VmTable>]) -> Result<Vec<Row>, AllocError>
     requires places { length vms.now ≡ VM_NUMBERS }
     requires periods { (n : ℕ) (v : VmRow) → slice_index_or vms.now n None ≡ Some v → IsTold v.period }
-    ensures { IfOk result (λ rows. rows.items ≡ numbered (ratio_row least_of) 0 vms.now) }
+    ensures { IfOk result (λ rows. rows.items ≡ numbered (ratio_row tau least_of) 0 vms.now) }
 {
     let mut rows = room(alloc, vms)?;
     for (number, place) in vms.iter().enumerate() {
@@ -52,7 +53,7 @@ pub fn ratio_rows(alloc: Global, vms: &[Option<VmTable>]) -> Result<Vec<Row>, Al
             let Some(vm) = VmId::new(number as u8) else {
                 unreachable!();
             };
-            rows.push(ratio_row(vm, row))?;
+            rows.push(ratio_row(tau, vm, row))?;
         }
     }
     Ok(rows)

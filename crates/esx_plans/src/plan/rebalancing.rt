@@ -86,8 +86,8 @@ fn share_out(tables: &SiteTables, alloc: Global, config: &Config) -> Result<Plan
     ensures { Plans result (share_out_plan config.now tables.now) }
 {
     let need = wanted(config, tables.counts().free);
-    let rows = ratio_rows(alloc, tables.vms())?;
-    let targets = targets(alloc, tables.tau(), rows.as_slice(), need)?;
+    let rows = ratio_rows(alloc, tables.tau(), tables.vms())?;
+    let targets = targets(alloc, rows.as_slice(), need)?;
     let changes = to_targets(alloc, rows.as_slice(), targets.as_slice())?;
     Ok(Plan {
         answer: Answer::Rebalanced {

@@ -58,16 +58,16 @@ shared_out c (row ∷ rows) (target ∷ targets) =
     let b = t.bytes in let p = t.pages in let r = t.rows in let m = t.marks in let u = t.turned in let a = t.targets_most in let w = t.machines in
     record { bytes = omega (arith, b); pages = omega (arith, p); rows = omega (arith, r); marks = omega (arith, m); turned = omega (arith, u); targets_most = omega (arith, a); machines = omega (arith, w) }
 
-row_count : (n : ℕ) (vms : List (Option VmRow)) → length (numbered (ratio_row least_of) n vms) ≤ length vms
-row_count n [] = omega arith
-row_count n (None ∷ vms) = (let rest = row_count (n + 1) vms in omega (arith, rest))
-row_count n (Some v ∷ vms) = (let rest = row_count (n + 1) vms in omega (arith, rest))
+row_count : (tau n : ℕ) (vms : List (Option VmRow)) → length (numbered (ratio_row tau least_of) n vms) ≤ length vms
+row_count tau n [] = omega arith
+row_count tau n (None ∷ vms) = (let rest = row_count tau (n + 1) vms in omega (arith, rest))
+row_count tau n (Some v ∷ vms) = (let rest = row_count tau (n + 1) vms in omega (arith, rest))
 
 share_out_modest : (c : Config) (t : Tables) → AreStocked c t → PlansModest c 0 (share_out_plan c t)
 share_out_modest c t s =
     let rows = ratio_rows least_of t in
-    let targets = targets_of t.tau rows (wanted c t) in
-    let many = row_count 0 t.vms in
+    let targets = targets_of rows (wanted c t) in
+    let many = row_count t.tau 0 t.vms in
     let places = s.places in
     targets_modest c (length rows) (to_targets rows targets) (shared_out c rows targets) (omega (arith, many, places))
 

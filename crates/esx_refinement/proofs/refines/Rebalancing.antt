@@ -70,7 +70,6 @@ periods_told c s sound n row is = of (vm_at s n) refl (sym (row_there c s n) ∙
 pub has_ratios : (c : Config) (s : Site) → IsSound c s → HaveRatios (tables_of c s)
 has_ratios c s sound = record {
   places = has_places c s sound;
-  tau = sound.tau;
   rows = (let P : List Row → Type 0 = AreRows in subst P (sym (same_rows c s)) (rows_of_sound c s min_of sound (λ v fine. omega (arith, fine.good.min_max, fine.good.most_max))));
   periods = periods_told c s sound;
 }
@@ -80,12 +79,12 @@ has_ratios c s sound = record {
 shares_out : (c : Config) (s : Site) → Refines c s (share_out_plan c (tables_of c s)) (share_out c s)
 shares_out c s =
     let rows : List Row = ratio_rows least_of (tables_of c s) in
-    let targets : List ℕ = targets_of s.tau rows (wanted c (tables_of c s)) in
+    let targets : List ℕ = targets_of rows (wanted c (tables_of c s)) in
     let P : List Row → Type 0 = λ own. Refines c s (share_out_plan c (tables_of c s))
-    (Ok (Rebalanced (wanted c (tables_of c s)) (min (wanted c (tables_of c s)) (sum_by spare own)), record s { vms = with_targets s.vms (targets_of s.tau own (wanted c (tables_of c s))) })) in
-    let Q : ℕ → Type 0 = λ k. Refines c s (share_out_plan c (tables_of c s)) (Ok (Rebalanced k (min k (sum_by spare (rows_of min_of s))), record s { vms = with_targets s.vms (targets_of s.tau (rows_of min_of s) k) })) in
+    (Ok (Rebalanced (wanted c (tables_of c s)) (min (wanted c (tables_of c s)) (sum_by spare own)), record s { vms = with_targets s.vms (targets_of own (wanted c (tables_of c s))) })) in
+    let Q : ℕ → Type 0 = λ k. Refines c s (share_out_plan c (tables_of c s)) (Ok (Rebalanced k (min k (sum_by spare (rows_of min_of s))), record s { vms = with_targets s.vms (targets_of (rows_of min_of s) k) })) in
     subst Q (same_need c s) (subst P (same_rows c s)
-    (refl, targets_made least_of (tables_of c s) 0 [] s.vms targets refl refl ∙ sym (retargeted_shown c s targets)))
+    (refl, targets_made s.tau least_of (tables_of c s) 0 [] s.vms targets refl refl ∙ sym (retargeted_shown c s targets)))
 
 all_to_max : (c : Config) (s : Site) → Refines c s (rebalance_plan c (tables_of c s) High) (rebalance c s High)
 unfolding rebalance rebalance_plan
@@ -93,8 +92,8 @@ all_to_max c s =
     let P : List (Option Vm) → Type 0 = λ vms. Refines c s (rebalance_plan c (tables_of c s) High) (Ok (Rebalanced 0 0, record s { vms = vms })) in
     subst P (maxes_are s.vms) (
       refl,
-      ap (λ (changes : List Change). (exchanged (tables_of c s) changes).0) (maxes_changed least_of 0 s.vms)
-          ∙ targets_made least_of (tables_of c s) 0 [] s.vms (maxes s.vms) refl refl ∙ sym (retargeted_shown c s (maxes s.vms)),
+      ap (λ (changes : List Change). (exchanged (tables_of c s) changes).0) (maxes_changed s.tau least_of 0 s.vms)
+          ∙ targets_made s.tau least_of (tables_of c s) 0 [] s.vms (maxes s.vms) refl refl ∙ sym (retargeted_shown c s (maxes s.vms)),
     )
 
 pub rebalance_refines : (c : Config) (s : Site) (level : Level) → Refines c s (rebalance_plan c (tables_of c s) level) (rebalance c s level)

@@ -17,9 +17,9 @@ use crate::event::balloon::popped;
 use crate::event::sampling::counted;
 use crate::site::{has_two_pages, least_free, put, vm_of};
 use crate::vm::{place_at, resident};
-use esx_events::{Answer, Boxed, Refusal};
+use esx_events::{Answer, Refusal};
 use esx_model::{Place, Site, Vm};
-use esx_types::{Bytes, Config, Level, VmId, VmState};
+use esx_types::{Bytes, Config, Level, SmallBytes, VmId, VmState};
 use std::alloc::{AllocError, Global};
 
 /// Why an access is refused, before a frame is looked for.
@@ -126,9 +126,8 @@ fn overwritten(alloc: Global, old: &[u8], at: usize, new: &[u8]) -> Result<Bytes
 fn part(alloc: Global, bytes: &[u8], at: usize, len: usize) -> Result<Answer, AllocError>
     ensures { IfOk result (λ a. a ≡ answers.Bytes (take len (drop at bytes.now))) }
 {
-    let copy = Bytes::copy_of(alloc, front(back(bytes, at), len))?;
     Ok(Answer::Bytes {
-        bytes: Boxed::new(alloc, copy)?,
+        bytes: SmallBytes::copy_of(alloc, front(back(bytes, at), len))?,
     })
 }
 

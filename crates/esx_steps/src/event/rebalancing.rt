@@ -83,10 +83,10 @@ fn active(vm: &Vm) -> u32
     active_share(slow_average(closed), fast_average(closed), now)
 }
 
-/// What a machine has, of which it keeps its least in any case.
-fn row_of_vm(number: VmId, vm: &Vm) -> Row
+/// What a machine has at the site's tax, of which it keeps its least in any case.
+fn row_of_vm(tau: u32, number: VmId, vm: &Vm) -> Row
     requires { HasNumbers vm.now }
-    ensures { result ≡ row_of_vm number vm.now.spec.min vm.now }
+    ensures { result ≡ row_of_vm tau number vm.now.spec.min vm.now }
 {
     Row {
         vm: number,
@@ -94,6 +94,7 @@ fn row_of_vm(number: VmId, vm: &Vm) -> Row
         pages: resident(vm) as u32,
         floor: vm.spec.min,
         active: active(vm),
+        tau,
     }
 }
 
@@ -108,7 +109,7 @@ fn rows(alloc: Global, config: &Config, site: &Site) -> Result<Vec<Row>, AllocEr
         let vm = vm_of(config, site, usize::from(number));
         if let Some(id) = VmId::new(number) {
             if let Some(vm) = vm {
-                rows.push(row_of_vm(id, vm))?;
+                rows.push(row_of_vm(site.tau, id, vm))?;
             }
         }
     }
@@ -184,7 +185,7 @@ fn share_out(alloc: Global, config: &Config, site: Site) -> Result<(Answer, Site
     let need = need(config, &site);
     let rows = rows(alloc, config, &site)?;
     let revoked = spare(rows.as_slice()).min(u64::from(need)) as u32;
-    let targets = targets(alloc, site.tau, rows.as_slice(), need)?;
+    let targets = targets(alloc, rows.as_slice(), need)?;
     let Site { vms, hints, tau } = site;
     let vms = with_targets(alloc, vms.into_vec(), targets.as_slice())?;
     let site = Site {

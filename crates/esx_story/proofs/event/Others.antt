@@ -107,9 +107,9 @@ targets_keep (Some v ∷ vms) (t ∷ targets) (suc m) = targets_keep vms targets
 
 shared_out_moves : (c : Config) (s : Site) (r : Answer × Site) → share_out c s ≡ Ok r → Moves s r.1 None None
 shared_out_moves c s r h =
-    let t : Site = record s { vms = with_targets s.vms (targets_of s.tau (rows_of min_of s) (need c s)) } in
+    let t : Site = record s { vms = with_targets s.vms (targets_of (rows_of min_of s) (need c s)) } in
     let P : Site → Type 0 = λ t. Moves s t None None in
-    subst P (same_site _ t r h) (moves_none s t (targets_keep s.vms (targets_of s.tau (rows_of min_of s) (need c s))))
+    subst P (same_site _ t r h) (moves_none s t (targets_keep s.vms (targets_of (rows_of min_of s) (need c s))))
 
 pub rebalance_moves : (c : Config) (s : Site) (level : Level) (r : Answer × Site) → rebalance c s level ≡ Ok r → Moves s r.1 None None
 unfolding rebalance

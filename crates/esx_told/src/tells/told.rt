@@ -13,22 +13,6 @@ use esx_session::{put_end, put_line, put_opening};
 use esx_types::{Config, Sink, SinkFailed};
 use esx_writing::{AnswerBuffer, put, write_held};
 
-/// Writes bytes, over an empty buffer.
-pub fn write_bytes<W: Sink>(
-    sink: &mut W,
-    held: &mut AnswerBuffer,
-    bytes: &[u8],
-) -> Result<(), SinkFailed>
-    requires { held.old ≡ [] }
-    ensures bytes { Writes (W.contents sink.old) (W.contents sink.new) bytes.now result }
-    ensures empty { held.new ≡ [] }
-    ensures failures { W.failures sink.new ≡ W.failures sink.old + sink_faults result }
-    ensures flushes { W.flushes sink.new ≡ W.flushes sink.old }
-{
-    put(sink, held, bytes)?;
-    write_held(sink, held)
-}
-
 /// The line that waits for its text, if there is one.
 fn put_pending<W: Sink>(
     sink: &mut W,

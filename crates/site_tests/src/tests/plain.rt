@@ -4,7 +4,7 @@ use super::site::SITE;
 use esx_events::{Boxed, Event, Refusal};
 use esx_model::{Book, VmRow};
 use esx_plain::{PlainFault, replay};
-use esx_types::{Bytes, Config, FrameRow, Level, MapRow, Rows, SlotRow, VmId, VmSpec};
+use esx_types::{Config, FrameRow, Level, MapRow, Rows, SlotRow, SmallBytes, VmId, VmSpec};
 use std::alloc::{AllocError, Global};
 use std::process::Abort;
 use std::rt::HostRuntime;
@@ -18,12 +18,11 @@ const SPEC: VmSpec = VmSpec {
 };
 
 fn text_in(alloc: Global, vm: VmId) -> Result<Event, AllocError> {
-    let bytes = Bytes::copy_of(alloc, b"the same content")?;
     Ok(Event::Write {
         vm,
         page: 0,
         at: 0,
-        bytes: Boxed::new(alloc, bytes)?,
+        bytes: SmallBytes::copy_of(alloc, b"the same content")?,
     })
 }
 

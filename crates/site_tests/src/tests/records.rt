@@ -6,9 +6,9 @@ ghost use Rattle.esx_machine.specs.Machine.{Kept, Shows, Trades};
 
 use super::rise::expect_rise;
 use super::site::{SITE, SPEC, done};
-use esx_events::{Boxed, Event};
+use esx_events::Event;
 use esx_machine::{Machine, Record};
-use esx_types::{Bytes, VmId};
+use esx_types::{SmallBytes, VmId};
 use std::alloc::{AllocError, Global};
 use std::process::Abort;
 use std::test::Fail;
@@ -54,12 +54,11 @@ fn expect_bytes(
 
 /// Two bytes for the first page.
 fn bytes_written(alloc: Global, vm: VmId) -> Result<Event, AllocError> {
-    let bytes = Bytes::copy_of(alloc, &[0xaa, 0xbb])?;
     Ok(Event::Write {
         vm,
         page: 0,
         at: 3,
-        bytes: Boxed::new(alloc, bytes)?,
+        bytes: SmallBytes::copy_of(alloc, &[0xaa, 0xbb])?,
     })
 }
 

@@ -29,10 +29,10 @@ returns-clause-most c = omega (arith, rows_few c.args.rows.now c.requires.rows, 
 pub loop-i-preserved : goal.loop-i-preserved
 loop-i-preserved c =
     let few : length c.args.rows.now ≤ VM_NUMBERS = rows_few c.args.rows.now c.requires.rows in
-    let here : c.kept-stays.result ≡ kept c.args.tau (row_at c.args.rows.now c.loop-i.i) c.args.limit (slice_index c.args.targets.now c.loop-i.i) = grind (arith, common_steps) in
+    let here : c.kept-stays.result ≡ kept (row_at c.args.rows.now c.loop-i.i) c.args.limit (slice_index c.args.targets.now c.loop-i.i) = grind (arith, common_steps) in
     record {
       value = grind (arith, common_steps);
       most = omega (arith, c.loop-i.invariant.most, c.requires.most c.loop-i.i (omega (arith, c.requires.count)));
-      each = λ k p. keeps_more c.loop-i.keeps c.loop-i.i c.kept-stays.result k (λ j. kept c.args.tau (row_at c.args.rows.now j) c.args.limit (slice_index c.args.targets.now j))
+      each = λ k p. keeps_more c.loop-i.keeps c.loop-i.i c.kept-stays.result k (λ j. kept (row_at c.args.rows.now j) c.args.limit (slice_index c.args.targets.now j))
           (omega (arith, few)) c.loop-i.invariant.each here p;
     }

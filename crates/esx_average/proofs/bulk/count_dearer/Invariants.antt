@@ -5,7 +5,7 @@ use Rattle.esx_average.proofs.bulk.count_dearer.Given as goal
 
 abbrev pub invariant-loop-i : goal.invariant-loop-i
 invariant-loop-i l = record {
-  value : l.count + dearer l.tau (drop l.i l.rows) l.limit (drop l.i l.targets) ≡ dearer l.tau l.rows l.limit l.targets;
+  value : l.count + dearer (drop l.i l.rows) l.limit (drop l.i l.targets) ≡ dearer l.rows l.limit l.targets;
   most : l.count ≤ l.i * 65536;
-  each : (k : ℕ) → k < l.i → slice_index l.keeps k ≡ kept l.tau (row_at l.rows k) l.limit (slice_index l.targets k);
+  each : (k : ℕ) → k < l.i → slice_index l.keeps k ≡ kept (row_at l.rows k) l.limit (slice_index l.targets k);
 }

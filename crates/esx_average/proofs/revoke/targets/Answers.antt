@@ -15,20 +15,20 @@ spare-requires c = omega (arith, spare_few c.args.rows.now c.requires.rows)
 
 pub revoke_in_bulk-left-requires-clause-most : goal.revoke_in_bulk-left-requires-clause-most
 revoke_in_bulk-left-requires-clause-most c =
-    let begins : IsPartial c.args.tau c.args.rows.now c.args.need c.in_ok-targets.targets.items c.min-left.result =
-    rw c.in_ok-targets.ensures (partial_begins c.args.tau c.args.rows.now c.args.need c.min-left.result (omega (arith, c.min-left.ensures, c.spare.ensures))) in
-    λ i p. partial_most c.args.tau c.args.rows.now c.args.need c.in_ok-targets.targets.items c.min-left.result i c.requires.rows begins p
+    let begins : IsPartial c.args.rows.now c.args.need c.in_ok-targets.targets.items c.min-left.result =
+    rw c.in_ok-targets.ensures (partial_begins c.args.rows.now c.args.need c.min-left.result (omega (arith, c.min-left.ensures, c.spare.ensures))) in
+    λ i p. partial_most c.args.rows.now c.args.need c.in_ok-targets.targets.items c.min-left.result i c.requires.rows begins p
 
 pub revoke_in_bulk-left-requires-clause-left : goal.revoke_in_bulk-left-requires-clause-left
 revoke_in_bulk-left-requires-clause-left c = omega (arith, spare_few c.args.rows.now c.requires.rows, c.min-left.ensures, c.spare.ensures)
 
 pub loop-left-init : goal.loop-left-init
 loop-left-init c =
-    let begins : IsPartial c.args.tau c.args.rows.now c.args.need c.in_ok-targets.targets.items c.min-left.result =
-    rw c.in_ok-targets.ensures (partial_begins c.args.tau c.args.rows.now c.args.need c.min-left.result (omega (arith, c.min-left.ensures, c.spare.ensures))) in
+    let begins : IsPartial c.args.rows.now c.args.need c.in_ok-targets.targets.items c.min-left.result =
+    rw c.in_ok-targets.ensures (partial_begins c.args.rows.now c.args.need c.min-left.result (omega (arith, c.min-left.ensures, c.spare.ensures))) in
     record {
-      partial = partial_bulk c.args.tau c.args.rows.now c.args.need c.in_ok-targets.targets.items c.revoke_in_bulk-left.new.targets.items
-          c.min-left.result c.revoke_in_bulk-left.result c.requires.tax c.requires.rows begins
+      partial = partial_bulk c.args.rows.now c.args.need c.in_ok-targets.targets.items c.revoke_in_bulk-left.new.targets.items
+          c.min-left.result c.revoke_in_bulk-left.result c.requires.rows begins
           c.revoke_in_bulk-left.ensures.few c.revoke_in_bulk-left.ensures.none c.revoke_in_bulk-left.ensures.some;
       some = omega arith;
       most = omega arith;
@@ -45,30 +45,30 @@ overflow_mul-rows c =
 
 pub next_payer-requires-clause-count : goal.next_payer-requires-clause-count
 next_payer-requires-clause-count c =
-    rw c.as_slice.ensures.value (partial_count c.args.tau c.args.rows.now c.args.need c.loop-left.targets.items c.loop-left.left c.loop-left.invariant.partial)
+    rw c.as_slice.ensures.value (partial_count c.args.rows.now c.args.need c.loop-left.targets.items c.loop-left.left c.loop-left.invariant.partial)
 
 pub next_payer-requires-clause-most : goal.next_payer-requires-clause-most
 next_payer-requires-clause-most c =
     rw c.as_slice.ensures.value
-    (λ i p. partial_most c.args.tau c.args.rows.now c.args.need c.loop-left.targets.items c.loop-left.left i c.requires.rows c.loop-left.invariant.partial p)
+    (λ i p. partial_most c.args.rows.now c.args.need c.loop-left.targets.items c.loop-left.left i c.requires.rows c.loop-left.invariant.partial p)
 
 pub unreachable-requires : goal.unreachable-requires
 unreachable-requires c =
     let none : AreNoneBelow c.args.rows.now (λ k. slice_index c.loop-left.targets.items k - (c.loop-left.chunk - 1)) (length c.args.rows.now) =
     rw c.as_slice.ensures.value at c.in_default.ensures in
-    partial_some c.args.tau c.args.rows.now c.requires.tax c.requires.rows c.args.need c.loop-left.targets.items c.loop-left.left (c.loop-left.chunk - 1)
+    partial_some c.args.rows.now c.requires.rows c.args.need c.loop-left.targets.items c.loop-left.left (c.loop-left.chunk - 1)
     c.loop-left.invariant.partial none c.if-left-rows.false
 
 pub loop-left-preserved : goal.loop-left-preserved
 loop-left-preserved c =
-    let first : IsFirstBelow c.args.tau c.args.rows.now (λ k. slice_index c.loop-left.targets.items k - (c.loop-left.chunk - 1)) (length c.args.rows.now) c.in-Some.payer =
+    let first : IsFirstBelow c.args.rows.now (λ k. slice_index c.loop-left.targets.items k - (c.loop-left.chunk - 1)) (length c.args.rows.now) c.in-Some.payer =
     rw c.as_slice.ensures.value at c.in-Some.ensures in
     let count : length c.loop-left.targets.items ≡ length c.args.rows.now =
-    partial_count c.args.tau c.args.rows.now c.args.need c.loop-left.targets.items c.loop-left.left c.loop-left.invariant.partial in
+    partial_count c.args.rows.now c.args.need c.loop-left.targets.items c.loop-left.left c.loop-left.invariant.partial in
     let now : c.index_mut.result.now ≡ slice_index c.loop-left.targets.items c.in-Some.payer =
     get_or_read c.loop-left.targets.items c.in-Some.payer c.index_mut.result.now (omega (arith, first.within)) c.index_mut.ensures.value 0 in
-    let step : IsStep c.args.tau c.args.rows.now c.requires.tax c.requires.rows c.args.need c.loop-left.targets.items c.loop-left.left (c.loop-left.chunk - 1) c.in-Some.payer =
-    partial_step c.args.tau c.args.rows.now c.requires.tax c.requires.rows c.args.need c.loop-left.targets.items c.loop-left.left (c.loop-left.chunk - 1) c.in-Some.payer
+    let step : IsStep c.args.rows.now c.requires.rows c.args.need c.loop-left.targets.items c.loop-left.left (c.loop-left.chunk - 1) c.in-Some.payer =
+    partial_step c.args.rows.now c.requires.rows c.args.need c.loop-left.targets.items c.loop-left.left (c.loop-left.chunk - 1) c.in-Some.payer
     c.loop-left.invariant.partial first c.if-left-rows.false in
     let whole : c.loop-left.chunk - 1 + 1 ≡ c.loop-left.chunk = omega (arith, c.loop-left.invariant.some) in
     record {
@@ -80,6 +80,6 @@ loop-left-preserved c =
 pub returns : goal.returns
 returns c =
     let none : c.loop-left.left ≡ 0 = omega arith in
-    let hold : AreTargets c.args.tau c.args.rows.now c.args.need c.loop-left.targets.items =
-    partial_ends c.args.tau c.args.rows.now c.requires.tax c.requires.rows c.args.need c.loop-left.targets.items (rw none at c.loop-left.invariant.partial) in
-    record { fits = hold; value = only_worked_out c.args.tau c.args.rows.now c.requires.tax c.requires.rows c.args.need c.loop-left.targets.items hold }
+    let hold : AreTargets c.args.rows.now c.args.need c.loop-left.targets.items =
+    partial_ends c.args.rows.now c.requires.rows c.args.need c.loop-left.targets.items (rw none at c.loop-left.invariant.partial) in
+    record { fits = hold; value = only_worked_out c.args.rows.now c.requires.rows c.args.need c.loop-left.targets.items hold }

@@ -4,7 +4,7 @@ use Rattle.esx_average.proofs.revoke.targets.Given as goal
 
 abbrev pub invariant-loop-left : goal.invariant-loop-left
 invariant-loop-left l = record {
-  partial : IsPartial l.tau l.rows l.need l.targets.items l.left;
+  partial : IsPartial l.rows l.need l.targets.items l.left;
   some : 1 ≤ l.chunk;
   most : l.chunk ≤ 65536;
 }

@@ -2,4 +2,4 @@ use Rattle.esx_formulas.proofs.TargetLaws.{targets_same}
 use Rattle.esx_formulas.proofs.laws.one_list_of_targets.Goals as goal
 
 pub returns : goal.returns
-returns c = λ tau rows need a b low are. targets_same tau rows low are need a b
+returns c = λ rows need a b are. targets_same rows are need a b

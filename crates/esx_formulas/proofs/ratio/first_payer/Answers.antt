@@ -15,22 +15,22 @@ loop-i-preserved c =
     let mine = pages_read c.args.rows.now c.loop-i.i c.index-rows-i.result c.loop-i-test.true c.index-rows-i.is in
     elim c.match-best.branch [
       | in-Some w ↦
-          let first : IsFirstBelow c.args.tau c.args.rows.now pages c.loop-i.i w.in-Some.b = rw w.in-Some.is at c.loop-i.invariant in
+          let first : IsFirstBelow c.args.rows.now pages c.loop-i.i w.in-Some.b = rw w.in-Some.is at c.loop-i.invariant in
           let fits : w.in-Some.b < length c.args.rows.now = omega (arith, first.within, c.loop-i-test.true) in
-          best_keeps c.args.tau c.args.rows.now pages c.loop-i.i c.index-rows-i.result c.index-rows-i.result.pages c.loop-i.best c.match-best.best
+          best_keeps c.args.rows.now pages c.loop-i.i c.index-rows-i.result c.index-rows-i.result.pages c.loop-i.best c.match-best.best
           c.loop-i-test.true c.index-rows-i.is mine c.loop-i.invariant
           w.in-Some.b w.index-rows-b.result w.index-rows-b.result.pages w.in-Some.is w.index-rows-b.is
           (pages_read c.args.rows.now w.in-Some.b w.index-rows-b.result fits w.index-rows-b.is)
           w.best-is (w.comes_no_later.ensures.0 w.if-comes_no_later.true)
       | in_default-2 w ↦
-          let first : IsFirstBelow c.args.tau c.args.rows.now pages c.loop-i.i w.in-Some.b = rw w.in-Some.is at c.loop-i.invariant in
+          let first : IsFirstBelow c.args.rows.now pages c.loop-i.i w.in-Some.b = rw w.in-Some.is at c.loop-i.invariant in
           let fits : w.in-Some.b < length c.args.rows.now = omega (arith, first.within, c.loop-i-test.true) in
-          best_yields c.args.tau c.args.rows.now pages c.loop-i.i c.index-rows-i.result c.index-rows-i.result.pages c.loop-i.best c.match-best.best
+          best_yields c.args.rows.now pages c.loop-i.i c.index-rows-i.result c.index-rows-i.result.pages c.loop-i.best c.match-best.best
           c.loop-i-test.true c.index-rows-i.is mine c.loop-i.invariant
           w.in-Some.b w.index-rows-b.result w.index-rows-b.result.pages w.in-Some.is w.index-rows-b.is
           (pages_read c.args.rows.now w.in-Some.b w.index-rows-b.result fits w.index-rows-b.is)
-          c.requires.tax c.requires.rows w.best-is c.if-row.false (λ p. cc (w.comes_no_later.ensures.1 p))
+          c.requires.rows w.best-is c.if-row.false (λ p. cc (w.comes_no_later.ensures.1 p))
       | in_default w ↦
-          best_begins c.args.tau c.args.rows.now pages c.loop-i.i c.index-rows-i.result c.index-rows-i.result.pages c.loop-i.best c.match-best.best
+          best_begins c.args.rows.now pages c.loop-i.i c.index-rows-i.result c.index-rows-i.result.pages c.loop-i.best c.match-best.best
           c.loop-i-test.true c.index-rows-i.is mine c.loop-i.invariant w.in_default.is w.best-is c.if-row.false
     ]

@@ -10,11 +10,11 @@ use Rattle.esx_formulas.proofs.ratio.least_ratio.Goals as goal
 pub returns-in-Some-clause-value : goal.returns-in-Some-clause-value
 returns-in-Some-clause-value c =
     let rows = c.args.rows.now in
-    let first : IsBestBelow c.args.tau rows (own_pages c.args.tau rows) (length rows) (Some c.in-Some.payer) = c.in-Some.ensures in
+    let first : IsBestBelow rows (own_pages rows) (length rows) (Some c.in-Some.payer) = c.in-Some.ensures in
     ap (λ (r : Row). let o : Option ℕ = Some r.vm in o) (get_or_default rows c.in-Some.payer c.index-rows-payer.result no_row first.within)
-    ∙ same_machine c.args.tau rows (length rows) (Some c.in-Some.payer) (first_claim c.args.tau rows) first (first_found c.args.tau rows c.requires.tax c.requires.rows)
+    ∙ same_machine rows (length rows) (Some c.in-Some.payer) (first_claim rows) first (first_found rows c.requires.rows)
 
 pub returns-in-None-clause-value : goal.returns-in-None-clause-value
 returns-in-None-clause-value c =
     let rows = c.args.rows.now in
-    same_machine c.args.tau rows (length rows) None (first_claim c.args.tau rows) c.in-None.ensures (first_found c.args.tau rows c.requires.tax c.requires.rows)
+    same_machine rows (length rows) None (first_claim rows) c.in-None.ensures (first_found rows c.requires.rows)

@@ -8,4 +8,4 @@ use Rattle.esx_machine.proofs.advice.first_row.Given as goal
 
 abbrev pub invariant-loop-number : goal.invariant-loop-number
 invariant-loop-number l =
-    (fold (claim_step l.tau) (claim_of l.tau l.best) (target_rows l.number (drop l.number l.tables.vms)) ≡ first_claim l.tau (target_rows 0 l.tables.vms)) × ForSome l.best IsRow
+    (fold claim_step (claim_of l.best) (target_rows l.tau l.number (drop l.number l.tables.vms)) ≡ first_claim (target_rows l.tau 0 l.tables.vms)) × ForSome l.best IsRow

@@ -24,10 +24,10 @@ pub returns-in-Read-clause-utf8 : goal.returns-in-Read-clause-utf8
 returns-in-Read-clause-utf8 g c = utf8_same _ _ _ (sym (ap (λ (e : Event). joined (event_words e)) c.in-Read.is)) c.put_range.ensures.utf8
 
 pub returns-in-Write-clause-bytes : goal.returns-in-Write-clause-bytes
-returns-in-Write-clause-bytes g c = puts_same _ _ _ _ _ _ _ (sym (ap (λ (e : Event). joined (event_words e)) c.in-Write.is)) (rw (c.as_slice.ensures, c.get.ensures) at c.put_written.ensures.bytes)
+returns-in-Write-clause-bytes g c = puts_same _ _ _ _ _ _ _ (sym (ap (λ (e : Event). joined (event_words e)) c.in-Write.is)) (rw c.as_slice.ensures at c.put_written.ensures.bytes)
 
 pub returns-in-Write-clause-utf8 : goal.returns-in-Write-clause-utf8
-returns-in-Write-clause-utf8 g c = utf8_same _ _ _ (sym (ap (λ (e : Event). joined (event_words e)) c.in-Write.is)) (rw (c.as_slice.ensures, c.get.ensures) at c.put_written.ensures.utf8)
+returns-in-Write-clause-utf8 g c = utf8_same _ _ _ (sym (ap (λ (e : Event). joined (event_words e)) c.in-Write.is)) (rw c.as_slice.ensures at c.put_written.ensures.utf8)
 
 pub returns-in-Ask-clause-bytes : goal.returns-in-Ask-clause-bytes
 returns-in-Ask-clause-bytes g c = puts_same _ _ _ _ _ _ _ (sym (ap (λ (e : Event). joined (event_words e)) c.in-Ask.is)) c.put_machine-in-Ask.ensures.bytes
@@ -48,10 +48,10 @@ pub returns-in-TakeBack-clause-utf8 : goal.returns-in-TakeBack-clause-utf8
 returns-in-TakeBack-clause-utf8 g c = utf8_same _ _ _ (sym (ap (λ (e : Event). joined (event_words e)) c.in-TakeBack.is)) c.put_place-in-TakeBack.ensures.utf8
 
 pub returns-in-Sample-clause-bytes : goal.returns-in-Sample-clause-bytes
-returns-in-Sample-clause-bytes g c = puts_same _ _ _ _ _ _ _ ((sample_is c.in-Sample.vm c.in-Sample.length c.in-Sample.words) ∙ sym (ap (λ (e : Event). joined (event_words e)) c.in-Sample.is)) (rw (c.as_slice-in-Sample.ensures, c.get-in-Sample.ensures) at c.put_sample.ensures.bytes)
+returns-in-Sample-clause-bytes g c = puts_same _ _ _ _ _ _ _ ((sample_is c.in-Sample.vm c.in-Sample.length c.in-Sample.words) ∙ sym (ap (λ (e : Event). joined (event_words e)) c.in-Sample.is)) (rw (c.as_slice-in-Sample.ensures, c.get.ensures) at c.put_sample.ensures.bytes)
 
 pub returns-in-Sample-clause-utf8 : goal.returns-in-Sample-clause-utf8
-returns-in-Sample-clause-utf8 g c = utf8_same _ _ _ ((sample_is c.in-Sample.vm c.in-Sample.length c.in-Sample.words) ∙ sym (ap (λ (e : Event). joined (event_words e)) c.in-Sample.is)) (rw (c.as_slice-in-Sample.ensures, c.get-in-Sample.ensures) at c.put_sample.ensures.utf8)
+returns-in-Sample-clause-utf8 g c = utf8_same _ _ _ ((sample_is c.in-Sample.vm c.in-Sample.length c.in-Sample.words) ∙ sym (ap (λ (e : Event). joined (event_words e)) c.in-Sample.is)) (rw (c.as_slice-in-Sample.ensures, c.get.ensures) at c.put_sample.ensures.utf8)
 
 pub returns-in-Scan-clause-bytes : goal.returns-in-Scan-clause-bytes
 returns-in-Scan-clause-bytes g c = puts_same _ _ _ _ _ _ _ (sym (ap (λ (e : Event). joined (event_words e)) c.in-Scan.is)) c.put_place-in-Scan.ensures.bytes

@@ -16,15 +16,15 @@ pub loop-number-preserved : goal.loop-number-preserved
 loop-number-preserved c =
     let vms : List (Option VmRow) = c.args.vms.now in
     let n : ℕ = c.loop-number.number in
-    let all : List Row = numbered (ratio_row least_of) 0 vms in
+    let all : List Row = numbered (ratio_row c.args.tau least_of) 0 vms in
     let below : n < length vms = c.loop-number-test.true in
     let at : get_or vms n None ≡ c.index-vms-number.result = sym (get_or_read vms n _ below c.index-vms-number.is None) in
     elim c.match-place.branch [
-      | in-Some+in-Some-new+in_ok-push w ↦ made_of (ratio_row least_of) vms n w.in-Some.row w.in-Some-new.vm w.ratio_row.result c.loop-number.rows.items c.match-place.rows.items all below (at ∙ w.in-Some.is)
+      | in-Some+in-Some-new+in_ok-push w ↦ made_of (ratio_row c.args.tau least_of) vms n w.in-Some.row w.in-Some-new.vm w.ratio_row.result c.loop-number.rows.items c.match-place.rows.items all below (at ∙ w.in-Some.is)
           (ap (λ x. x.items) w.rows-is ∙ w.in_ok-push.ensures.items) w.ratio_row.ensures w.in-Some-new.ensures.value c.loop-number.invariant
       | in_default w ↦ (let same : c.match-place.rows.items ≡ c.loop-number.rows.items = ap (λ x. x.items) w.rows-is in
-          ap (λ (xs : List Row). xs ++ numbered (ratio_row least_of) (n + 1) (drop (n + 1) vms)) same ∙ passed_by (ratio_row least_of) vms n c.loop-number.rows.items all below (at ∙ w.in_default.is) c.loop-number.invariant)
+          ap (λ (xs : List Row). xs ++ numbered (ratio_row c.args.tau least_of) (n + 1) (drop (n + 1) vms)) same ∙ passed_by (ratio_row c.args.tau least_of) vms n c.loop-number.rows.items all below (at ∙ w.in_default.is) c.loop-number.invariant)
     ]
 
 pub returns : goal.returns
-returns c = made_all (ratio_row least_of) c.args.vms.now c.loop-number.number c.loop-number.rows.items _ c.loop-number-test.false c.loop-number.invariant
+returns c = made_all (ratio_row c.args.tau least_of) c.args.vms.now c.loop-number.number c.loop-number.rows.items _ c.loop-number-test.false c.loop-number.invariant

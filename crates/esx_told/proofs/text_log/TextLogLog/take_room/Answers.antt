@@ -12,24 +12,24 @@ invariant_of-self-in-Kept c =
     let more : c.longer.result.value ≡ old.listed.value ++ line ∷ [] = c.longer.ensures ∙ ap (λ s. s.value ++ line ∷ []) c.replace.ensures.value in
     let latest : c.settled.result ≡ Told line = c.settled.ensures ∙ ap settled c.replace-in-Kept.ensures.value ∙ ap settled c.in-Kept.is in
     record {
-      told = text_more old.listed.value c.longer.result.value old.text.items c.add_part.new.text.items line more old.told
-          (c.in_ok-add_part.ensures.ok ∙ ap (λ h. old.text.items ++ (h ++ line_text line)) old.nothing_held);
-      nothing_held = c.add_part.ensures.empty;
-      last = told_last old.listed.value c.longer.result.value c.add_part.new.text.items line c.settled.result more latest;
+      told = text_more old.listed.value c.longer.result.value old.text.items c.add_line.new.text.items line more old.told
+          (c.in_ok-add_line.ensures.ok ∙ ap (λ h. old.text.items ++ (h ++ line_text line)) old.nothing_held);
+      nothing_held = c.add_line.ensures.empty;
+      last = told_last old.listed.value c.longer.result.value c.add_line.new.text.items line c.settled.result more latest;
       counted = old.counted ∙ ap (λ l. length (old.listed.value ++ pending l)) c.in-Kept.is ∙ ap length (sym more)
           ∙ ap length (sym (append-nil c.longer.result.value)) ∙ ap (λ l. length (c.longer.result.value ++ pending l)) (sym latest);
     }
 
-pub returns-in_ok-add_part-clause-few : goal.returns-in_ok-add_part-clause-few
-returns-in_ok-add_part-clause-few c =
+pub returns-in_ok-add_line-clause-few : goal.returns-in_ok-add_line-clause-few
+returns-in_ok-add_line-clause-few c =
     let old = c.args.self.now in
     let line = c.in-Kept.line in
     let more : c.longer.result.value ≡ old.listed.value ++ line ∷ [] = c.longer.ensures ∙ ap (λ s. s.value ++ line ∷ []) c.replace.ensures.value in
     let latest : c.settled.result ≡ Told line = c.settled.ensures ∙ ap settled c.replace-in-Kept.ensures.value ∙ ap settled c.in-Kept.is in
-    let told = text_more old.listed.value c.longer.result.value old.text.items c.add_part.new.text.items line more old.told
-    (c.in_ok-add_part.ensures.ok ∙ ap (λ h. old.text.items ++ (h ++ line_text line)) old.nothing_held) in
-    let few = few_told c.longer.result.value c.settled.result c.add_part.new.text.items (ap pending latest) told in
-    omega (arith, few, c.add_part.new.text.ok, c.add_part.new.text.small)
+    let told = text_more old.listed.value c.longer.result.value old.text.items c.add_line.new.text.items line more old.told
+    (c.in_ok-add_line.ensures.ok ∙ ap (λ h. old.text.items ++ (h ++ line_text line)) old.nothing_held) in
+    let few = few_told c.longer.result.value c.settled.result c.add_line.new.text.items (ap pending latest) told in
+    omega (arith, few, c.add_line.new.text.ok, c.add_line.new.text.small)
 
 pub returns-in_default : goal.returns-in_default
 returns-in_default c =
