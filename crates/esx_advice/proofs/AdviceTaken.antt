@@ -7,6 +7,7 @@ use Rattle.std.proofs.lemmas.Bool.Decides.{nat_tests}
 use Rattle.std.proofs.lemmas.List.Sums.{sum_by-cons}
 use Rattle.esx_lists.specs.Counts.{one}
 use Rattle.esx_types.specs.declared.config.Config.{Config}
+use Rattle.esx_types.specs.declared.config.TheConstants.{VM_NUMBERS}
 use Rattle.esx_types.specs.declared.level.Level.{Level}
 use Rattle.esx_types.specs.declared.level.Level.TheVariants.{High, Soft, Hard, Low}
 use Rattle.esx_events.specs.declared.call.Help.{Help}
@@ -153,7 +154,7 @@ pub low_when_none : (c : Config) (path : List Event) (t : Scene) (n : ℕ) (v : 
 low_when_none c path t n v h there none = of (path_settles c 0 path (opening c) t h)
   where
     of : (opening c ≡ t) ⊎ IsSettled c t → t.level ≡ Low
-    of (inl same) = absurd (none_there 32 n v (ap (λ (x : Scene). vm_at x.site n) same ∙ there))
+    of (inl same) = absurd (none_there VM_NUMBERS n v (ap (λ (x : Scene). vm_at x.site n) same ∙ there))
     of (inr s) = s.1 ∙ ap (next_level c s.0) none ∙ low_with_none_free c s.0
 
 -- Frames for a write.

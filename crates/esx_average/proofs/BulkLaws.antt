@@ -3,11 +3,13 @@ use Rattle.std.proofs.Common.{◌≡◌, ℕ, suc, ◌+◌, ◌-◌, ◌*◌, �
 use Rattle.std.proofs.Math.Nat.{mul-le-mul, mul-le-mul_left, div-mul-le_self, div-lt_iff_lt-mul, mul-le-mul_right}
 use Rattle.std.proofs.lemmas.Bool.{cases_lt, cases_eq}
 use Rattle.esx_formulas.specs.declared.targets.Row.{Row}
+use Rattle.esx_formulas.specs.declared.ratio.TheConstants.{WHOLE_PRICE}
 use Rattle.esx_formulas.specs.Ratio.{claim, ComesNoLater, IsRow, AreRows, row_at}
 use Rattle.esx_formulas.specs.Targets.{held, AreTargets}
 use Rattle.esx_formulas.proofs.Gaps.{gap, AreBelow, below_from_places, below_length, below_at, gap_chain, gap-at-le}
 use Rattle.esx_formulas.proofs.RatioLaws.{price_above_none}
 use Rattle.esx_formulas.proofs.TargetLaws.{all_held, revoked_is_gap, held_at, below_held}
+use Rattle.esx_average.specs.declared.bulk.TheConstants.{PARTS}
 use Rattle.esx_average.specs.Bulk.{kept, dearer, AreKept, WereRevoked}
 use Rattle.esx_average.proofs.ChunkLaws.{IsPartial, partial_count}
 
@@ -15,7 +17,7 @@ abbrev weight : Row → ℕ
 weight row = row.shares * (100 - row.tau)
 
 abbrev price : Row → ℕ
-price row = 6553600 - row.tau * row.active
+price row = WHOLE_PRICE - row.tau * row.active
 
 weight_above_none : (row : Row) → IsRow row → 1 ≤ weight row
 weight_above_none row good =
@@ -23,7 +25,7 @@ weight_above_none row good =
     mul-le-mul good.least_shares left
 
 -- of two products over one unit the order is that without it
-same_unit : (a b c d : ℕ) → a * b ≤ c * d → a * (b * 128) ≤ c * (d * 128)
+same_unit : (a b c d : ℕ) → a * b ≤ c * d → a * (b * PARTS) ≤ c * (d * PARTS)
 same_unit a b c d p = omega arith
 
 -- a page that costs more than a limit comes before one that does not
@@ -44,13 +46,13 @@ dear_page : (product price n : ℕ) → 0 < price → product / price < n → pr
 dear_page product price n pos p = (div-lt_iff_lt-mul pos).0 p
 
 clash : (a b : Row) (m n limit : ℕ) → IsRow a → IsRow b → weight b * (m * price a) ≤ weight a * (n * price b) →
-    n ≤ weight b * limit / (price b * 128) → weight a * limit / (price a * 128) < m → ⊥
+    n ≤ weight b * limit / (price b * PARTS) → weight a * limit / (price a * PARTS) < m → ⊥
 clash a b m n limit good_a good_b fair cheap dear =
     let pos : 0 < price a = price_above_none a.tau a.active good_a.most_tau good_a.most_active in
-    clash_of (weight a) (m * (price a * 128)) (weight b) (n * (price b * 128)) limit (weight_above_none b good_b)
+    clash_of (weight a) (m * (price a * PARTS)) (weight b) (n * (price b * PARTS)) limit (weight_above_none b good_b)
     (omega (arith, same_unit (weight b) (m * price a) (weight a) (n * price b) fair))
-    (cheap_page (weight b * limit) (price b * 128) n cheap)
-    (dear_page (weight a * limit) (price a * 128) m (omega arith) dear)
+    (cheap_page (weight b * limit) (price b * PARTS) n cheap)
+    (dear_page (weight a * limit) (price a * PARTS) m (omega arith) dear)
 
 -- what is revoked is how far the rows fall
 dearer_is_gap : (rows : List Row) (limit : ℕ) (t after : List ℕ) → length t ≡ length rows → AreKept rows limit t after →
@@ -82,9 +84,9 @@ module _ (rows : List Row) (are : AreRows rows) (need : ℕ) (t after : List ℕ
     others i j p q far near =
         let target_i : get_or targets i 0 ≤ get_or t i 0 = below_at targets t i (h.safe targets are_targets) in
         let held_j : get_or t j 0 ≤ held (row_at rows j) = omega (arith, below_at t (all_held rows) j h.below, held_at rows j q) in
-        let dear : weight (row_at rows i) * limit / (price (row_at rows i) * 128) < get_or targets i 0 = omega (arith, k.each i p) in
+        let dear : weight (row_at rows i) * limit / (price (row_at rows i) * PARTS) < get_or targets i 0 = omega (arith, k.each i p) in
         let above : (row_at rows i).floor < get_or targets i 0 = omega (arith, k.each i p) in
-        let cheap : get_or targets j 0 + 1 ≤ weight (row_at rows j) * limit / (price (row_at rows j) * 128) = omega (arith, k.each j q, are_targets.least j q) in
+        let cheap : get_or targets j 0 + 1 ≤ weight (row_at rows j) * limit / (price (row_at rows j) * PARTS) = omega (arith, k.each j q, are_targets.least j q) in
         let paid : get_or targets j 0 < held (row_at rows j) = omega (arith, k.each j q) in
         let fair : ComesNoLater (claim (row_at rows j) (get_or targets j 0 + 1)) (claim (row_at rows i) (get_or targets i 0)) =
         are_targets.fair j i q p paid above in

@@ -3,6 +3,7 @@ use Rattle.std.proofs.Common.{◌≡◌, ◌≢◌, ℕ, ◌+◌, ◌-◌, ◌*�
 use Rattle.std.proofs.lemmas.Bool.{cases_lt, cases_eq}
 use Rattle.std.proofs.lemmas.List.{length-map, length-set}
 use Rattle.std.specs.Prelude.{sum_by}
+use Rattle.esx_types.specs.declared.config.TheConstants.{MAX_PAGES}
 use Rattle.esx_formulas.specs.declared.targets.Row.{Row}
 use Rattle.esx_formulas.specs.Ratio.{claim, ComesNoLater, AreRows, row_at}
 use Rattle.esx_formulas.specs.Targets.{held, spare, revoked, AreTargets}
@@ -31,7 +32,7 @@ partial_begins rows need left e = record {
 }
 
 -- no target is more than a machine may have
-pub partial_most : (rows : List Row) (need : ℕ) (t : List ℕ) (left i : ℕ) → AreRows rows → IsPartial rows need t left → i < length t → get_or t i 0 ≤ 65536
+pub partial_most : (rows : List Row) (need : ℕ) (t : List ℕ) (left i : ℕ) → AreRows rows → IsPartial rows need t left → i < length t → get_or t i 0 ≤ MAX_PAGES
 partial_most rows need t left i are h p =
     let q : i < length rows = omega (arith, partial_count rows need t left h) in
     omega (arith, below_at t (all_held rows) i h.below, held_at rows i q, (are.each i q).most_pages, (are.each i q).most_floor)

@@ -1,6 +1,7 @@
 -- The averages of a path, period by period.
 use Rattle.std.proofs.Common.{◌≡◌, ℕ, List, [], ◌∷◌, ◌++◌, refl, ap, sym}
 use Rattle.esx_formulas.specs.declared.activity.Estimate.{Estimate}
+use Rattle.esx_formulas.specs.declared.activity.TheConstants.{WHOLE}
 use Rattle.esx_formulas.specs.Average.{touched_share, slower, faster, slow_average, fast_average}
 use Rattle.esx_formulas.proofs.AverageLaws.{slow_average_push, fast_average_push}
 use Rattle.esx_average.specs.Means.{Means, means_of}
@@ -10,7 +11,7 @@ same_means : (a b c d : ℕ) → a ≡ c → b ≡ d →
     let n : Means = record { slow = c; fast = d } in m ≡ n
 same_means a b c d p q = cc
 
-pub means_of_none : let m : Means = record { slow = 65536; fast = 65536 } in m ≡ means_of []
+pub means_of_none : let m : Means = record { slow = WHOLE; fast = WHOLE } in m ≡ means_of []
 unfolding slow_average fast_average
 means_of_none = refl
 

@@ -4,7 +4,7 @@ use Rattle.std.proofs.lemmas.Bool.{cases_lt}
 use Rattle.std.proofs.lemmas.List.Sums.{sum_by-le}
 use Rattle.std.proofs.lemmas.List.Elements.{All-from_get_or}
 use Rattle.std.specs.Prelude.{sum_by, All}
-use Rattle.esx_types.specs.declared.config.TheConstants.{VM_NUMBERS}
+use Rattle.esx_types.specs.declared.config.TheConstants.{MAX_PAGES, VM_NUMBERS}
 use Rattle.esx_formulas.specs.declared.targets.Row.{Row}
 use Rattle.esx_formulas.specs.Ratio.{AreRows, row_at, no_row}
 use Rattle.esx_formulas.specs.Targets.{spare}
@@ -24,7 +24,7 @@ rows_few rows are =
     ]
 
 -- and not too many pages to count
-pub spare_few : (rows : List Row) → AreRows rows → sum_by spare rows ≤ VM_NUMBERS * 65536
+pub spare_few : (rows : List Row) → AreRows rows → sum_by spare rows ≤ VM_NUMBERS * MAX_PAGES
 spare_few rows are =
-    let each : All (λ row. spare row ≤ 65536) rows = All-from_get_or (λ row. spare row ≤ 65536) rows no_row (λ i p. omega (arith, (are.each i p).most_pages)) in
-    omega (arith, sum_by-le spare 65536 rows each, rows_few rows are)
+    let each : All (λ row. spare row ≤ MAX_PAGES) rows = All-from_get_or (λ row. spare row ≤ MAX_PAGES) rows no_row (λ i p. omega (arith, (are.each i p).most_pages)) in
+    omega (arith, sum_by-le spare MAX_PAGES rows each, rows_few rows are)

@@ -1,17 +1,21 @@
--- Revoking the pages of rows that cost more than a limit, in parts of 1/128 of a price over a weight.
+-- Revoking the pages of rows that cost more than a limit, in parts of 1/`PARTS` of a price over a weight.
 use Rattle.std.specs.Prelude.{◌≡◌, ℕ, ◌+◌, ◌-◌, ◌*◌, ◌/◌, ◌<◌, ◌≤◌, min, max, List, [], ◌∷◌, length, slice_index}
+use Rattle.esx_types.specs.declared.config.TheConstants.{MAX_PAGES}
 use Rattle.esx_formulas.specs.declared.targets.Row.{Row}
+use Rattle.esx_formulas.specs.declared.ratio.TheConstants.{WHOLE_PRICE}
 use Rattle.esx_average.specs.declared.limit.Part.{Part}
+use Rattle.esx_average.specs.declared.limit.TheConstants.{MOST_RATE, WHOLE_RATE}
+use Rattle.esx_average.specs.declared.bulk.TheConstants.{PARTS}
 use Rattle.esx_formulas.specs.Ratio.{row_at}
 
--- how many of a row's pages cost no more than a limit of one, in units of 1/2^43
+-- how many of a row's pages cost no more than a limit of one, in units of 1/`UNIT`
 abbrev pub rate : Row → ℕ
-rate row = row.shares * (100 - row.tau) * 68719476736 / (6553600 - row.tau * row.active)
+rate row = row.shares * (100 - row.tau) * WHOLE_RATE / (WHOLE_PRICE - row.tau * row.active)
 
 -- the numbers of a row in a search are in their ranges
 pub record IsPart (part : Part) : Type 0 where
-  pub rate : part.rate ≤ 140737488355328
-  pub pages : part.pages ≤ 65536
+  pub rate : part.rate ≤ MOST_RATE
+  pub pages : part.pages ≤ MAX_PAGES
 
 -- the row has pages above its floor
 abbrev pub IsAbove : Part → Type 0
@@ -19,7 +23,7 @@ IsAbove part = part.floor < part.pages
 
 -- what a row keeps of so many pages
 abbrev pub kept : Row → ℕ → ℕ → ℕ
-kept row limit pages = min pages (max (row.shares * (100 - row.tau) * limit / ((6553600 - row.tau * row.active) * 128)) row.floor)
+kept row limit pages = min pages (max (row.shares * (100 - row.tau) * limit / ((WHOLE_PRICE - row.tau * row.active) * PARTS)) row.floor)
 
 -- how many pages cost more
 abbrev pub dearer : List Row → ℕ → List ℕ → ℕ

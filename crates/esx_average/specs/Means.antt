@@ -3,7 +3,7 @@ use Rattle.std.specs.Prelude.{ℕ, List, Option, Some, None}
 use Rattle.esx_formulas.specs.declared.activity.Estimate.{Estimate}
 use Rattle.esx_formulas.specs.Average.{touched_share, slower, faster, slow_average, fast_average}
 
--- the slow and the fast average, in units of 1/65,536
+-- the slow and the fast average, in units of 1/`WHOLE`
 pub record Means : Type 0 where
   pub slow : ℕ
   pub fast : ℕ

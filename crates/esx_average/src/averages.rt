@@ -7,14 +7,11 @@ ghost use Rattle.esx_formulas.specs.Average.{active_share, touched_share};
 ghost use Rattle.esx_formulas.specs.Estimates.{IsEstimate};
 ghost use Rattle.esx_average.specs.Means.{estimate, so_far, means_of, next_means};
 
-use esx_formulas::activity::{Estimate, touched_share};
+use esx_formulas::activity::{Estimate, WHOLE, touched_share};
 use std::marker::Model;
 
-/// The whole of a machine's memory, as averages count it.
-const WHOLE: u32 = 65536;
-
 /// The slow and the fast average of the share of a machine's memory that is in use, in units of
-/// 1/65,536.
+/// 1/`WHOLE`.
 #[derive(Clone, Copy, Debug)]
 pub struct Averages {
     slow: u32,
@@ -23,13 +20,14 @@ pub struct Averages {
 
 impl Model for Averages {
     ghost use Rattle.std.specs.Prelude.{◌≤◌};
+    ghost use Rattle.esx_formulas.specs.declared.activity.TheConstants.{WHOLE};
     ghost use Rattle.esx_average.specs.Means.{Means};
 
     ghost Value = { Means };
 
     ghost view = { λ a. record { slow = a.slow; fast = a.fast } };
 
-    ghost invariant = { λ a. (a.slow ≤ 65536) × (a.fast ≤ 65536) };
+    ghost invariant = { λ a. (a.slow ≤ WHOLE) × (a.fast ≤ WHOLE) };
 
     ghost inverse = { λ m. record { slow = m.slow; fast = m.fast } };
 }
@@ -37,7 +35,7 @@ impl Model for Averages {
 impl Averages {
     /// The averages of a machine of which no period has closed: all of its memory counts as in use.
     pub fn opened() -> Averages
-        ensures whole { result ≡ record { slow = 65536; fast = 65536 } }
+        ensures whole { result ≡ record { slow = WHOLE; fast = WHOLE } }
         ensures none { result ≡ means_of [] }
     {
         Averages {
@@ -48,20 +46,20 @@ impl Averages {
 
     pub fn slow(self) -> u32
         ensures value { result ≡ self.slow }
-        ensures most { result ≤ 65536 }
+        ensures most { result ≤ WHOLE }
     {
         self.slow
     }
 
     pub fn fast(self) -> u32
         ensures value { result ≡ self.fast }
-        ensures most { result ≤ 65536 }
+        ensures most { result ≤ WHOLE }
     {
         self.fast
     }
 
     /// The averages after one more period, in which `touched` of `pages` sampled pages were touched,
-    /// each page as often as it was drawn. `pages` is 1 to 100.
+    /// each page as often as it was drawn. `pages` is 1 to `MAX_SAMPLE`.
     pub fn close_period(self, touched: u32, pages: u32) -> Averages
         requires { IsEstimate (estimate touched pages) }
         ensures step { result ≡ next_means self (estimate touched pages) }
@@ -80,7 +78,7 @@ impl Averages {
     pub fn active(self, now: Option<(u32, u32)>) -> u32
         requires { ForSome now (λ e. IsEstimate (estimate e.0 e.1)) }
         ensures value { result ≡ active_share self.slow self.fast (so_far now) }
-        ensures most { result ≤ 65536 }
+        ensures most { result ≤ WHOLE }
     {
         let open = match now {
             Some((touched, pages)) => (self.fast + touched_share(Estimate { touched, pages })) / 2,

@@ -8,10 +8,11 @@ ghost use Rattle.std.specs.Prelude.{◌≡◌, ℕ, ◌*◌, ◌≤◌, ◌<◌,
 ghost use Rattle.esx_formulas.specs.Ratio.{IsRow, AreRows, row_at};
 ghost use Rattle.esx_average.specs.Bulk.{kept, dearer, WereRevoked};
 
-use crate::limit::find_limit;
+use crate::limit::{HIGHEST, find_limit};
+use crate::revoke::ALL_PAGES;
 use esx_formulas::Row;
 use esx_formulas::ratio::{price, weight};
-use esx_types::VM_NUMBERS;
+use esx_types::{MAX_PAGES, VM_NUMBERS};
 
 /// Where chunks take at most so many steps, nothing is revoked in bulk: a step looks at every row once, and the
 /// search for a limit, with two divisions for each row, can take as long as some forty steps.
@@ -28,8 +29,8 @@ pub(crate) const PARTS: u64 = 128;
 pub fn revoke_in_bulk(rows: &[Row], targets: &mut Vec<u32>, left: u32) -> u32
     requires rows { AreRows rows.now }
     requires count { length targets.old.items ≡ length rows.now }
-    requires most { (i : ℕ) → i < length targets.old.items → slice_index targets.old.items i ≤ 65536 }
-    requires left { left ≤ 2097152 }
+    requires most { (i : ℕ) → i < length targets.old.items → slice_index targets.old.items i ≤ MAX_PAGES }
+    requires left { left ≤ ALL_PAGES }
     ensures few { result ≤ left }
     ensures none { result ≡ 0 → targets.new.items ≡ targets.old.items }
     ensures some { 0 < result → WereRevoked rows.now targets.old.items targets.new.items result }
@@ -50,10 +51,10 @@ pub fn revoke_in_bulk(rows: &[Row], targets: &mut Vec<u32>, left: u32) -> u32
 /// About how many steps it takes to revoke so many pages in chunks, mostly a few fewer: at each size of a chunk
 /// below the largest there is about one for each row, whichever row pays.
 fn chunk_steps(rows: usize, left: u32) -> u32
-    requires { rows ≤ 32 }
+    requires { rows ≤ VM_NUMBERS }
 {
     let rows = rows as u32;
-    let sizes = 32 - (left / rows.max(1)).leading_zeros();
+    let sizes = u32::BITS - (left / rows.max(1)).leading_zeros();
     left.min(rows * sizes)
 }
 
@@ -62,8 +63,8 @@ fn chunk_steps(rows: usize, left: u32) -> u32
 /// Where the pages cost more than the limit, what they may cost is below 2^64.
 fn kept(row: &Row, pages: u32, limit: u64) -> u32
     requires row { IsRow row.now }
-    requires pages { pages ≤ 65536 }
-    requires limit { limit ≤ 70368744177664 }
+    requires pages { pages ≤ MAX_PAGES }
+    requires limit { limit ≤ HIGHEST }
     ensures value { result ≡ kept row.now limit pages }
     ensures most { result ≤ pages }
 {
@@ -80,10 +81,10 @@ fn kept(row: &Row, pages: u32, limit: u64) -> u32
 fn count_dearer(rows: &[Row], targets: &[u32], limit: u64, keeps: &mut [u32; VM_NUMBERS]) -> u32
     requires rows { AreRows rows.now }
     requires count { length targets.now ≡ length rows.now }
-    requires most { (i : ℕ) → i < length targets.now → slice_index targets.now i ≤ 65536 }
-    requires limit { limit ≤ 70368744177664 }
+    requires most { (i : ℕ) → i < length targets.now → slice_index targets.now i ≤ MAX_PAGES }
+    requires limit { limit ≤ HIGHEST }
     ensures value { result ≡ dearer rows.now limit targets.now }
-    ensures most { result ≤ 2097152 }
+    ensures most { result ≤ ALL_PAGES }
     ensures each { (i : ℕ) → i < length rows.now → slice_index keeps.new i ≡ kept (row_at rows.now i) limit (slice_index targets.now i) }
 {
     let mut count = 0;

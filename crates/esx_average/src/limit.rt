@@ -16,18 +16,23 @@ ghost use Rattle.esx_formulas.specs.Ratio.{IsRow, AreRows, row_at};
 ghost use Rattle.esx_average.specs.Bulk.{rate, IsPart, IsAbove};
 
 use crate::bulk::PARTS;
+use crate::revoke::ALL_PAGES;
 use esx_formulas::Row;
-use esx_formulas::ratio::{price, weight};
-use esx_types::VM_NUMBERS;
+use esx_formulas::activity::WHOLE;
+use esx_formulas::ratio::{WHOLE_PRICE, price, weight};
+use esx_types::{MAX_PAGES, MAX_SHARES, VM_NUMBERS};
 
-/// The unit in which rates are told.
-const UNIT: u64 = 1 << 43;
+/// The unit in which rates are told: the largest in which all pages of all machines but one are told in 64 bits.
+const UNIT: u64 = u64::MAX / ALL_PAGES as u64 + 1;
 
 /// The unit of a rate of one, in which a limit is told in parts.
 const WHOLE_RATE: u64 = UNIT / PARTS;
 
-/// A limit that no page costs more than.
-const HIGHEST: u64 = 1 << 46;
+/// A rate that no row exceeds: that of the greatest weight and the least price.
+const MOST_RATE: u64 = 100 * MAX_SHARES as u64 * WHOLE_RATE / WHOLE as u64;
+
+/// A limit that no page costs more than: the last of the most pages, at the greatest price and a weight of one.
+pub(crate) const HIGHEST: u64 = MAX_PAGES as u64 * WHOLE_PRICE * PARTS;
 
 /// How many limits are tried at most: two for each row that they settle.
 const MOST_TRIES: usize = 2 * VM_NUMBERS;
@@ -54,11 +59,11 @@ struct Sums {
     rate: u64,
 }
 
-/// How many of a row's pages cost no more than a limit of one, in units of 1/2^43, rounded down.
+/// How many of a row's pages cost no more than a limit of one, in units of 1/`UNIT`, rounded down.
 fn rate(row: &Row) -> u64
     requires row { IsRow row.now }
     ensures value { result ≡ rate row.now }
-    ensures most { result ≤ 140737488355328 }
+    ensures most { result ≤ MOST_RATE }
 {
     u64::from(weight(row)) * WHOLE_RATE / price(row)
 }
@@ -68,7 +73,7 @@ fn rate(row: &Row) -> u64
 fn open_parts(rows: &[Row], targets: &[u32], parts: &mut [Part; VM_NUMBERS]) -> usize
     requires rows { AreRows rows.now }
     requires count { length targets.now ≡ length rows.now }
-    requires most { (i : ℕ) → i < length targets.now → slice_index targets.now i ≤ 65536 }
+    requires most { (i : ℕ) → i < length targets.now → slice_index targets.now i ≤ MAX_PAGES }
     requires parts { All IsPart parts.old }
     ensures few { result ≤ length rows.now }
     ensures parts { All IsPart parts.new }
@@ -92,9 +97,9 @@ fn open_parts(rows: &[Row], targets: &[u32], parts: &mut [Part; VM_NUMBERS]) -> 
 /// The pages of rows and their rates, each added up.
 fn sums_of(parts: &[Part]) -> Sums
     requires parts { All IsPart parts.now }
-    requires few { length parts.now ≤ 32 }
-    ensures pages { result.pages ≤ 2097152 }
-    ensures rate { result.rate ≤ 4503599627370496 }
+    requires few { length parts.now ≤ VM_NUMBERS }
+    ensures pages { result.pages ≤ ALL_PAGES }
+    ensures rate { result.rate ≤ VM_NUMBERS * MOST_RATE }
 {
     let mut sums = Sums { pages: 0, rate: 0 };
     for i in 0..parts.len() {
@@ -107,11 +112,11 @@ fn sums_of(parts: &[Part]) -> Sums
 
 /// The limit at which rows would keep all but so many pages, each its share, rounded up.
 fn limit_of(sums: &Sums, pages: u32) -> u64
-    requires pages { sums.now.pages ≤ 2097152 }
+    requires pages { sums.now.pages ≤ ALL_PAGES }
     requires rate { 0 < sums.now.rate }
     requires some { 1 ≤ pages }
-    ensures value { result ≡ min ((sums.now.pages - pages) * 8796093022208 / sums.now.rate + 1) 70368744177664 }
-    ensures most { result ≤ 70368744177664 }
+    ensures value { result ≡ min ((sums.now.pages - pages) * UNIT / sums.now.rate + 1) HIGHEST }
+    ensures most { result ≤ HIGHEST }
 {
     let kept = u64::from(sums.pages.saturating_sub(pages));
     (kept * UNIT / sums.rate + 1).min(HIGHEST)
@@ -120,8 +125,8 @@ fn limit_of(sums: &Sums, pages: u32) -> u64
 /// About how many pages a row keeps, where those that cost more than a limit are revoked: rounded down.
 fn kept_about(part: &Part, limit: u64) -> u32
     requires part { IsPart part.now }
-    requires limit { limit ≤ 70368744177664 }
-    ensures value { result ≡ min part.now.pages (max (limit * part.now.rate / 8796093022208) part.now.floor) }
+    requires limit { limit ≤ HIGHEST }
+    ensures value { result ≡ min part.now.pages (max (limit * part.now.rate / UNIT) part.now.floor) }
     ensures most { result ≤ part.now.pages }
 {
     let cheap = (u128::from(limit) * u128::from(part.rate) / u128::from(UNIT)) as u64;
@@ -131,9 +136,9 @@ fn kept_about(part: &Part, limit: u64) -> u32
 /// About how many pages above the floors cost more than a limit, rounded up.
 fn count_about(parts: &[Part], limit: u64) -> u32
     requires parts { All IsPart parts.now }
-    requires few { length parts.now ≤ 32 }
-    requires limit { limit ≤ 70368744177664 }
-    ensures { result ≤ 2097152 }
+    requires few { length parts.now ≤ VM_NUMBERS }
+    requires limit { limit ≤ HIGHEST }
+    ensures { result ≤ ALL_PAGES }
 {
     let mut count = 0;
     for i in 0..parts.len() {
@@ -147,8 +152,8 @@ fn count_about(parts: &[Part], limit: u64) -> u32
 fn count_above_floors(rows: &[Row], targets: &[u32]) -> u32
     requires rows { AreRows rows.now }
     requires count { length targets.now ≡ length rows.now }
-    requires most { (i : ℕ) → i < length targets.now → slice_index targets.now i ≤ 65536 }
-    ensures { result ≤ 2097152 }
+    requires most { (i : ℕ) → i < length targets.now → slice_index targets.now i ≤ MAX_PAGES }
+    ensures { result ≤ ALL_PAGES }
 {
     let mut count = 0;
     for (i, row) in rows.iter().enumerate() {
@@ -161,8 +166,8 @@ fn count_above_floors(rows: &[Row], targets: &[u32]) -> u32
 /// pages. The others come to the front: it tells how many they are, and how many pages the settled ones revoke.
 fn settle(parts: &mut [Part; VM_NUMBERS], count: usize, limit: u64, at_floors: bool) -> (usize, u32)
     requires parts { All IsPart parts.old }
-    requires count { count ≤ 32 }
-    requires limit { limit ≤ 70368744177664 }
+    requires count { count ≤ VM_NUMBERS }
+    requires limit { limit ≤ HIGHEST }
     ensures parts { All IsPart parts.new }
     ensures few { result.0 ≤ count }
 {
@@ -187,9 +192,9 @@ fn settle(parts: &mut [Part; VM_NUMBERS], count: usize, limit: u64, at_floors: b
 pub(crate) fn find_limit(rows: &[Row], targets: &[u32], left: u32) -> u64
     requires rows { AreRows rows.now }
     requires count { length targets.now ≡ length rows.now }
-    requires most { (i : ℕ) → i < length targets.now → slice_index targets.now i ≤ 65536 }
-    requires left { left ≤ 2097152 }
-    ensures { result ≤ 70368744177664 }
+    requires most { (i : ℕ) → i < length targets.now → slice_index targets.now i ≤ MAX_PAGES }
+    requires left { left ≤ ALL_PAGES }
+    ensures { result ≤ HIGHEST }
 {
     if count_above_floors(rows, targets) <= left {
         return 0;

@@ -9,10 +9,11 @@ use crate::bulk::revoke_in_bulk;
 use esx_formulas::Row;
 use esx_formulas::ratio::comes_no_later_at;
 use esx_formulas::targets::held;
+use esx_types::{MAX_PAGES, VM_NUMBERS};
 use std::alloc::{AllocError, Global};
 
-/// The most pages that are revoked at once.
-const MOST_PAGES: u32 = 65536;
+/// The most pages that all rows have together.
+pub(crate) const ALL_PAGES: u32 = VM_NUMBERS as u32 * MAX_PAGES;
 
 /// The target of each row where `need` pages are needed.
 ///
@@ -20,8 +21,8 @@ const MOST_PAGES: u32 = 65536;
 /// at what it then has. The rows stand in order of machine, and a target lies between a row's floor and
 /// its pages, or is its floor where it has less.
 ///
-/// Where many pages are needed, most are revoked in bulk first. The others are revoked in chunks of 2^16
-/// down to 1. Where more are left than one page less than a chunk of each row, a whole chunk comes from the
+/// Where many pages are needed, most are revoked in bulk first. The others are revoked in chunks of
+/// `MAX_PAGES` down to 1. Where more are left than one page less than a chunk of each row, a whole chunk comes from the
 /// row whose last page of a chunk comes first. So each size of a chunk takes at most one step for each row,
 /// and a step looks at every row: the time grows with the square of the rows and with the logarithm of what
 /// is revoked from each, and most often, after the bulk, with the rows alone.
@@ -33,7 +34,7 @@ pub fn targets(alloc: Global, rows: &[Row], need: u32) -> Result<Vec<u32>, Alloc
     let mut targets = held(alloc, rows)?;
     let mut left = spare(rows).min(need);
     left -= revoke_in_bulk(rows, &mut targets, left);
-    let mut chunk = MOST_PAGES;
+    let mut chunk = MAX_PAGES;
     while left > 0 {
         if left <= rows.len() as u32 * (chunk - 1) {
             chunk /= 2;
@@ -63,7 +64,7 @@ fn spare(rows: &[Row]) -> u32
 fn next_payer(rows: &[Row], targets: &[u32], less: u32) -> Option<usize>
     requires rows { AreRows rows.now }
     requires count { length targets.now ≡ length rows.now }
-    requires most { (i : ℕ) → i < length targets.now → slice_index targets.now i ≤ 65536 }
+    requires most { (i : ℕ) → i < length targets.now → slice_index targets.now i ≤ MAX_PAGES }
     ensures { IsBestBelow rows.now (λ i. slice_index targets.now i - less) (length rows.now) result }
 {
     let mut best: Option<usize> = None;

@@ -1,5 +1,6 @@
 -- What an access changes of its machine's row where a sample period is open.
 use Rattle.std.specs.Prelude.{◌≡◌, ◌<◌, ◌≤◌, ℕ, ◌+◌, ◌==◌, ◌&&◌, ◌||◌, not, nat_lt, Bool, List, [], ◌∷◌, length, count_by, Option, Some, None, if◌then◌else◌}
+use Rattle.esx_types.specs.declared.config.TheConstants.{MAX_SAMPLE}
 use Rattle.esx_average.specs.Means.{Means, estimate, next_means}
 use Rattle.esx_model.specs.declared.book.Mark.{Mark}
 use Rattle.esx_model.specs.declared.book.PeriodRow.{PeriodRow}
@@ -46,11 +47,11 @@ open_parts page means (Some p) = period_parts page means p
 abbrev pub counted_parts : VmRow → ℕ → List VmPart
 counted_parts v page = open_parts page (record { slow = v.slow; fast = v.fast }) v.period
 
--- An open period as the tables of a sound site tell it: it has accesses left, and 1 to 100 pages.
+-- An open period as the tables of a sound site tell it: it has accesses left, and 1 to `MAX_SAMPLE` pages.
 pub record IsOpen (p : PeriodRow) : Type 0 where
   pub still : p.done < p.length
   pub least : 1 ≤ length p.marks
-  pub most : length p.marks ≤ 100
+  pub most : length p.marks ≤ MAX_SAMPLE
 
 abbrev pub IsOpenOf : VmRow → Type 0
 IsOpenOf v = (p : PeriodRow) → v.period ≡ Some p → IsOpen p

@@ -1,6 +1,7 @@
 //! What a machine's averages and its open period tell.
 
 ghost use Rattle.std.specs.Prelude.{◌≡◌, ◌≤◌};
+ghost use Rattle.esx_formulas.specs.declared.activity.TheConstants.{WHOLE};
 ghost use Rattle.esx_formulas.specs.Estimates.{IsEstimate};
 ghost use Rattle.esx_model.specs.Readings.{active_now, period_so_far};
 ghost use Rattle.esx_changes.specs.Activity.{IsTold};
@@ -29,11 +30,11 @@ pub fn sampled(period: &PeriodRow) -> u32
     period.marks.len() as u32
 }
 
-/// The share of a machine's memory that counts as in use, in units of 1/65,536.
+/// The share of a machine's memory that counts as in use, in units of 1/`WHOLE`.
 pub fn active(row: &VmTable) -> u32
     requires { IsTold row.now.period }
     ensures value { result ≡ active_now row.now }
-    ensures most { result ≤ 65536 }
+    ensures most { result ≤ WHOLE }
 {
     let averages = row.averages();
     match row.period() {

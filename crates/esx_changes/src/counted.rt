@@ -1,6 +1,7 @@
 //! What an access changes of its machine's row where a sample period is open.
 
 ghost use Rattle.std.specs.Prelude.{◌≡◌, ◌≤◌, ◌<◌, ◌+◌, ◌++◌, ◌∷◌, [], length, map, count_by, vec_capacity, OnOk, IfOk, Some};
+ghost use Rattle.esx_types.specs.declared.config.TheConstants.{MAX_SAMPLE};
 ghost use Rattle.esx_tables.specs.declared.change.Change.TheVariants.{OfVm};
 ghost use Rattle.esx_average.specs.Means.{Means};
 ghost use Rattle.esx_tables.specs.Sampled.{marks_of};
@@ -48,7 +49,7 @@ fn near_marks(row: &VmTable, page: u32) -> &[Mark]
 
 /// How many sampled pages were accessed, with this access.
 fn touched_count(row: &VmTable, page: u32) -> u32
-    requires { length (marks_of row.now.period) ≤ 100 }
+    requires { length (marks_of row.now.period) ≤ MAX_SAMPLE }
     ensures value { result ≡ count_by (is_touched_by page) (marks_of row.now.period) }
     ensures most { result ≤ length (marks_of row.now.period) }
 {
@@ -112,7 +113,7 @@ fn push_turned(
     page: u32,
     marks: &[Mark],
 ) -> Result<(), AllocError>
-    requires { length marks.now ≤ 100 }
+    requires { length marks.now ≤ MAX_SAMPLE }
     ensures { OnOk result (changes.new.items ≡ changes.old.items ++ map (OfVm vm) (turned_from 0 page marks.now)) }
 {
     for (i, mark) in marks.iter().enumerate() {

@@ -10,6 +10,9 @@ use Rattle.esx_swap.specs.contracts.slots.Slots as Slots
 use Rattle.esx_tables.specs.contracts.vm_table.VmTable as VmTable
 use Rattle.esx_tables.specs.contracts.tables.SiteTables as SiteTables
 use Rattle.esx_tables.specs.contracts.change.Change as Change
+use Rattle.esx_tables.specs.contracts.record.Record as Changes
+use Rattle.esx_machine.specs.contracts.record.Held as Held
+use Rattle.esx_machine.specs.contracts.record.Record as Record
 use Rattle.esx_events.specs.contracts.event.Event as Event
 use Rattle.esx_events.specs.contracts.event.Answer as Answer
 use Rattle.esx_events.specs.contracts.event.Refusal as Refusal
@@ -20,6 +23,7 @@ use Rattle.atomic_table.proofs.badge.Badge.TheSendSync as Badge
 use Rattle.atomic_table.proofs.send_lease.SendLease.TheSendSync as SendLease
 use Rattle.atomic_table.proofs.shared.Shared.TheSendSync as Shared
 use Rattle.esx_journal.specs.contracts.marks.Marks as Marks
+use Rattle.esx_journal.specs.contracts.rows.Rows as NodeRows
 use Rattle.esx_console.specs.contracts.console.Console as Console
 use Rattle.esx_console.specs.contracts.log.VecLineLog.TheImpl.{ghosts as lines}
 use Rattle.std.specs.contracts.vec.Vec as Vec
@@ -65,6 +69,30 @@ change_send = search (vm_send, sendable, below.crosses) depth 60 fits 8000
 change_sync : IsSync Change.the_row
 change_sync = search (vm_sync, sendable, below.crosses) depth 60 fits 8000
 
+changes_send : IsSend Changes.the_row
+changes_send = search (change_send, sendable, below.crosses) depth 60 fits 8000
+
+changes_sync : IsSync Changes.the_row
+changes_sync = search (change_sync, sendable, below.crosses) depth 60 fits 8000
+
+held_change_send : IsSend (Change.the_field).row
+held_change_send = search (vm_send, sendable, below.crosses) depth 60 fits 8000
+
+held_change_sync : IsSync (Change.the_field).row
+held_change_sync = search (vm_sync, sendable, below.crosses) depth 60 fits 8000
+
+held_send : IsSend (Held.the_field).row
+held_send = search (held_change_send, changes_send, sendable, below.crosses) depth 60 fits 8000
+
+held_sync : IsSync (Held.the_field).row
+held_sync = search (held_change_sync, changes_sync, sendable, below.crosses) depth 60 fits 8000
+
+record_send : IsSend Record.the_row
+record_send = search (held_send, sendable, below.crosses) depth 60 fits 8000
+
+record_sync : IsSync Record.the_row
+record_sync = search (held_sync, sendable, below.crosses) depth 60 fits 8000
+
 event_send : IsSend (Event.the_field).row
 event_send = search (sendable, below.crosses) depth 60 fits 8000
 
@@ -107,11 +135,17 @@ marks_send = search (maps.crosses, sendable, below.crosses) depth 60 fits 8000
 marks_sync : IsSync Marks.the_row
 marks_sync = search (maps.crosses, sendable, below.crosses) depth 60 fits 8000
 
+rows_send : IsSend NodeRows.the_row
+rows_send = search (record_send, sendable, below.crosses) depth 60 fits 8000
+
+rows_sync : IsSync NodeRows.the_row
+rows_sync = search (record_sync, sendable, below.crosses) depth 60 fits 8000
+
 pub console_send : IsSend (Console.the_row (Vec.the_row Line.the_row Heap.the_row heap) lines)
-console_send = search (tables_send, change_send, marks_send, line_send, sendable, below.crosses) depth 60 fits 8000
+console_send = search (tables_send, rows_send, marks_send, line_send, sendable, below.crosses) depth 60 fits 8000
 
 pub console_sync : IsSync (Console.the_row (Vec.the_row Line.the_row Heap.the_row heap) lines)
-console_sync = search (tables_sync, change_sync, marks_sync, line_sync, sendable, below.crosses) depth 60 fits 8000
+console_sync = search (tables_sync, rows_sync, marks_sync, line_sync, sendable, below.crosses) depth 60 fits 8000
 
 legal_send : IsSend LegalConsole.the_row
 legal_send = search (console_send, sendable, below.crosses) depth 60 fits 8000

@@ -4,6 +4,7 @@ use Rattle.std.specs.Prelude.{fold, option_map}
 use Rattle.std.proofs.Math.Nat.{mul_right_comm, mul-lt-mul_of_pos_right, mul-le-mul_right}
 use Rattle.std.proofs.lemmas.Bool.{cases_lt, lt-ltb, le-ltb}
 use Rattle.std.proofs.lemmas.Bool.Decides.{nat_tests}
+use Rattle.esx_types.specs.declared.config.TheConstants.{MAX_TAU}
 use Rattle.esx_formulas.specs.declared.targets.Row.{Row}
 use Rattle.esx_formulas.specs.Ratio.{Claim, claim}
 use Rattle.esx_formulas.specs.Targets.{held, comes_no_later, sooner, first_claim, with_pages, paid, after_revoking, targets_of}
@@ -53,7 +54,7 @@ sooner_scaled k (Some a) b pos =
     of true = refl
     of false = refl
 
-module _ (tau : ℕ) (most : tau ≤ 99) where
+module _ (tau : ℕ) (most : tau ≤ MAX_TAU) where
   factor : 0 < 100 - tau
   factor = omega arith
 
@@ -124,8 +125,8 @@ module _ (tau : ℕ) (most : tau ≤ 99) where
   same_targets_of rows need taxed =
       ap (map (λ (row : Row). row.pages)) (revoked_alike need (map (λ (row : Row). with_pages row (held row)) rows) (begin_taxed rows taxed))
 
-pub same_payer : (tau : ℕ) (rows : List Row) → tau ≤ 99 → AreTaxed tau rows → option_map (λ (a : Claim). a.vm) (first_claim rows) ≡ option_map (λ (a : Claim). a.vm) (v1.first_claim tau rows)
+pub same_payer : (tau : ℕ) (rows : List Row) → tau ≤ MAX_TAU → AreTaxed tau rows → option_map (λ (a : Claim). a.vm) (first_claim rows) ≡ option_map (λ (a : Claim). a.vm) (v1.first_claim tau rows)
 same_payer tau rows most taxed = same_payer_of tau most rows taxed
 
-pub same_targets : (tau : ℕ) (rows : List Row) (need : ℕ) → tau ≤ 99 → AreTaxed tau rows → targets_of rows need ≡ v1.targets_of tau rows need
+pub same_targets : (tau : ℕ) (rows : List Row) (need : ℕ) → tau ≤ MAX_TAU → AreTaxed tau rows → targets_of rows need ≡ v1.targets_of tau rows need
 same_targets tau rows need most taxed = same_targets_of tau most rows need taxed

@@ -2,7 +2,10 @@
 use Rattle.std.proofs.Common.{◌≡◌, ℕ, ◌-◌, ◌*◌, ◌<◌, ◌≤◌, ◌⊎◌, inl, inr, arith}
 use Rattle.std.proofs.lemmas.Bool.{cases_lt}
 use Rattle.std.proofs.Math.Nat.{mul-le-mul, mul-le-mul_left, mul-le-mul_right, mul-lt-mul_of_pos_right}
+use Rattle.esx_types.specs.declared.config.TheConstants.{MAX_TAU}
 use Rattle.esx_formulas.specs.declared.targets.Row.{Row}
+use Rattle.esx_formulas.specs.declared.activity.TheConstants.{WHOLE}
+use Rattle.esx_formulas.specs.declared.ratio.TheConstants.{WHOLE_PRICE}
 use Rattle.esx_formulas.specs.Ratio.{Claim, claim, ComesNoLater, IsRow}
 use Rattle.esx_formulas.proofs.Fractions.{cross_chain, cross_tie_first, cross_tie_last}
 
@@ -41,18 +44,18 @@ no_later_same a b p q =
     omega arith
 
 -- a page has its price
-pub price_above_none : (tau active : ℕ) → tau ≤ 99 → active ≤ 65536 → 0 < 6553600 - tau * active
+pub price_above_none : (tau active : ℕ) → tau ≤ MAX_TAU → active ≤ WHOLE → 0 < WHOLE_PRICE - tau * active
 price_above_none tau active p q =
-    let r : tau * active ≤ 99 * 65536 = mul-le-mul p q in omega arith
+    let r : tau * active ≤ MAX_TAU * WHOLE = mul-le-mul p q in omega arith
 
 pub claim_above_none : (row : Row) (pages : ℕ) → IsRow row → 0 < pages → 0 < (claim row pages).under
 claim_above_none row pages good some =
-    let price : 0 < 6553600 - row.tau * row.active = price_above_none row.tau row.active good.most_tau good.most_active in
-    let s : 0 * (6553600 - row.tau * row.active) < pages * (6553600 - row.tau * row.active) = mul-lt-mul_of_pos_right some price in
+    let price : 0 < WHOLE_PRICE - row.tau * row.active = price_above_none row.tau row.active good.most_tau good.most_active in
+    let s : 0 * (WHOLE_PRICE - row.tau * row.active) < pages * (WHOLE_PRICE - row.tau * row.active) = mul-lt-mul_of_pos_right some price in
     omega arith
 
 -- a machine's ratio with more pages comes no later
 pub more_pages_no_later : (row : Row) (more fewer : ℕ) → fewer ≤ more → ComesNoLater (claim row more) (claim row fewer)
 more_pages_no_later row more fewer p =
-    let price : fewer * (6553600 - row.tau * row.active) ≤ more * (6553600 - row.tau * row.active) = mul-le-mul_right (6553600 - row.tau * row.active) p in
+    let price : fewer * (WHOLE_PRICE - row.tau * row.active) ≤ more * (WHOLE_PRICE - row.tau * row.active) = mul-le-mul_right (WHOLE_PRICE - row.tau * row.active) p in
     record { ratio = mul-le-mul_left (row.shares * (100 - row.tau)) price; tie = λ e. omega arith }

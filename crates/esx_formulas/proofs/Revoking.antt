@@ -2,6 +2,7 @@
 use Rattle.std.proofs.Common.{◌≡◌, ℕ, zero, suc, ◌+◌, ◌-◌, ◌<◌, ◌≤◌, ◌==◌, cond, List, [], ◌∷◌, length, get_or, set, map, refl, sym, ap, ◌∙◌, Option, Some, None, inl, inr, arith, get_or-set_same, get_or-set_other}
 use Rattle.std.proofs.lemmas.Bool.{cases_eq, cond-true, cond-false, eq-eqb, ne_eqb}
 use Rattle.std.proofs.lemmas.List.{length-map, length-set, get_or-map, ext_get_or}
+use Rattle.esx_types.specs.declared.config.TheConstants.{MAX_PAGES}
 use Rattle.esx_formulas.specs.declared.targets.Row.{Row}
 use Rattle.esx_formulas.specs.Ratio.{Claim, AreRows, row_at, no_row}
 use Rattle.esx_formulas.specs.Targets.{held, AreTargets, first_claim, with_pages, paid, after_revoking, targets_of}
@@ -41,7 +42,7 @@ each_held (row ∷ rows) = ap (λ r. with_pages row (held row) ∷ r) (each_held
 
 module _ (rows : List Row) (are : AreRows rows) where
   -- no row has more pages than a machine may have
-  most_pages : (need : ℕ) (t : List ℕ) (i : ℕ) → AreTargets rows need t → i < length rows → get_or t i 0 ≤ 65536
+  most_pages : (need : ℕ) (t : List ℕ) (i : ℕ) → AreTargets rows need t → i < length rows → get_or t i 0 ≤ MAX_PAGES
   most_pages need t i h p = omega (arith, h.most i p, (are.each i p).most_pages, (are.each i p).most_floor)
 
   each_are : (need : ℕ) (t : List ℕ) → AreTargets rows need t → AreRows (with_each rows t)

@@ -1,12 +1,13 @@
--- Sampled activity (Waldspurger, "Measuring Idle Memory"): averages in units of 1/65,536, over the estimates of closed periods.
+-- Sampled activity (Waldspurger, "Measuring Idle Memory"): averages in units of 1/`WHOLE`, over the estimates of closed periods.
 use Rattle.std.specs.Prelude.{ℕ, ◌+◌, ◌*◌, ◌/◌, max, Bool, ◌==◌, List, length, fold, count_by, Option, Some, None}
 use Rattle.std.specs.List.{list_any}
 use Rattle.esx_formulas.specs.declared.activity.Estimate.{Estimate}
 use Rattle.esx_formulas.specs.declared.activity.Period.{Period}
+use Rattle.esx_formulas.specs.declared.activity.TheConstants.{WHOLE}
 
 -- the share of the sampled pages that were touched
 abbrev pub touched_share : Estimate → ℕ
-touched_share e = e.touched * 65536 / e.pages
+touched_share e = e.touched * WHOLE / e.pages
 
 -- the slow average after one more estimate
 abbrev pub slower : ℕ → ℕ → ℕ
@@ -18,10 +19,10 @@ faster fast x = (fast + x) / 2
 
 -- the averages over all closed periods, the oldest first; a new machine counts as fully active
 unfoldable pub slow_average : List Estimate → ℕ
-slow_average closed = fold (λ slow e. slower slow (touched_share e)) 65536 closed
+slow_average closed = fold (λ slow e. slower slow (touched_share e)) WHOLE closed
 
 unfoldable pub fast_average : List Estimate → ℕ
-fast_average closed = fold (λ fast e. faster fast (touched_share e)) 65536 closed
+fast_average closed = fold (λ fast e. faster fast (touched_share e)) WHOLE closed
 
 -- was the page accessed in the period?
 abbrev pub is_touched : Period → ℕ → Bool

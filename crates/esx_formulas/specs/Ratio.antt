@@ -1,7 +1,9 @@
 -- Who pays for the next page: shares per page, where an idle page costs more (Waldspurger, "Reclaiming Idle Memory").
 use Rattle.std.specs.Prelude.{◌≡◌, ℕ, ◌-◌, ◌*◌, ◌≤◌, ◌<◌, List, length, slice_index_or}
-use Rattle.esx_types.specs.declared.config.TheConstants.{VM_NUMBERS}
+use Rattle.esx_types.specs.declared.config.TheConstants.{MAX_PAGES, MAX_SHARES, MAX_TAU, VM_NUMBERS}
 use Rattle.esx_formulas.specs.declared.targets.Row.{Row}
+use Rattle.esx_formulas.specs.declared.activity.TheConstants.{WHOLE}
+use Rattle.esx_formulas.specs.declared.ratio.TheConstants.{WHOLE_PRICE}
 
 -- A fraction that a virtual machine is judged by.
 pub record Claim : Type 0 where
@@ -9,10 +11,10 @@ pub record Claim : Type 0 where
   pub over : ℕ
   pub under : ℕ
 
--- the taxed ratio of a row at its own tax, were it to have so many pages: the tax in percent, the active share in units of 1/65,536.
+-- the taxed ratio of a row at its own tax, were it to have so many pages: the tax in percent, the active share in units of 1/`WHOLE`.
 -- An idle page costs 1 / (1 - tau) of an active one, so what is left of the tax stands over the fraction.
 abbrev pub claim : Row → ℕ → Claim
-claim row pages = record { vm = row.vm; over = row.shares * (100 - row.tau); under = pages * (6553600 - row.tau * row.active) }
+claim row pages = record { vm = row.vm; over = row.shares * (100 - row.tau); under = pages * (WHOLE_PRICE - row.tau * row.active) }
 
 -- The less fraction comes first, and of equal ones the lower machine.
 pub record ComesNoLater (a b : Claim) : Type 0 where
@@ -23,11 +25,11 @@ pub record ComesNoLater (a b : Claim) : Type 0 where
 pub record IsRow (row : Row) : Type 0 where
   pub vm : row.vm < VM_NUMBERS
   pub least_shares : 1 ≤ row.shares
-  pub most_shares : row.shares ≤ 1048576
-  pub most_pages : row.pages ≤ 65536
-  pub most_floor : row.floor ≤ 65536
-  pub most_active : row.active ≤ 65536
-  pub most_tau : row.tau ≤ 99
+  pub most_shares : row.shares ≤ MAX_SHARES
+  pub most_pages : row.pages ≤ MAX_PAGES
+  pub most_floor : row.floor ≤ MAX_PAGES
+  pub most_active : row.active ≤ WHOLE
+  pub most_tau : row.tau ≤ MAX_TAU
 
 abbrev pub no_row : Row
 no_row = record { vm = 0; shares = 0; pages = 0; floor = 0; active = 0; tau = 0 }

@@ -1,6 +1,7 @@
 -- Laws of the ratio's order and of targets.
 use Rattle.std.specs.Prelude.{◌≡◌, ℕ, ◌<◌, ◌≤◌, ◌⊎◌, ◌↔◌, IsTrue, MatchOption, List, option_map}
 use Rattle.std.specs.List.{AllByRecursion}
+use Rattle.esx_types.specs.declared.config.TheConstants.{MAX_TAU}
 use Rattle.esx_formulas.specs.declared.targets.Row.{Row}
 use Rattle.esx_formulas.specs.Ratio.{Claim, claim, ComesNoLater, IsRow, AreRows, AreAtFloor, HasLeastRatio}
 use Rattle.esx_formulas.specs.Targets.{AreTargets, comes_no_later, first_claim, targets_of}
@@ -50,6 +51,6 @@ AreTaxed tau rows = AllByRecursion (λ (row : Row). row.tau ≡ tau) rows
 
 -- where one tax is common the factor of each ratio cancels: version 1 takes pages from the same machines
 pub record DoesCommonTaxCancel : Type 0 where
-  pub payer : (tau : ℕ) (rows : List Row) → tau ≤ 99 → AreTaxed tau rows →
+  pub payer : (tau : ℕ) (rows : List Row) → tau ≤ MAX_TAU → AreTaxed tau rows →
       option_map (λ (a : Claim). a.vm) (first_claim rows) ≡ option_map (λ (a : Claim). a.vm) (v1.first_claim tau rows)
-  pub targets : (tau : ℕ) (rows : List Row) (need : ℕ) → tau ≤ 99 → AreTaxed tau rows → targets_of rows need ≡ v1.targets_of tau rows need
+  pub targets : (tau : ℕ) (rows : List Row) (need : ℕ) → tau ≤ MAX_TAU → AreTaxed tau rows → targets_of rows need ≡ v1.targets_of tau rows need

@@ -7,6 +7,9 @@ ghost use Rattle.esx_formulas.specs.Estimates.{IsEstimate};
 
 use esx_types::Rows;
 
+/// All of a machine's memory, in the unit of averages and of shares that are in use.
+pub const WHOLE: u32 = 65536;
+
 /// What a closed sample period told: how many of its sampled pages were touched.
 #[derive(Clone, Copy, Debug, PartialEq, Eq)]
 pub struct Estimate {
@@ -36,13 +39,13 @@ impl Period {
     }
 }
 
-/// The share of the sampled pages that were touched, in units of 1/65,536.
+/// The share of the sampled pages that were touched, in units of 1/`WHOLE`.
 pub fn touched_share(estimate: Estimate) -> u32
     requires { IsEstimate estimate }
     ensures value { result ≡ touched_share estimate }
-    ensures most { result ≤ 65536 }
+    ensures most { result ≤ WHOLE }
 {
-    estimate.touched * 65536 / estimate.pages
+    estimate.touched * WHOLE / estimate.pages
 }
 
 /// The average over closed periods, the oldest first, in which the past weighs seven times a period.
@@ -50,9 +53,9 @@ pub fn touched_share(estimate: Estimate) -> u32
 pub fn slow_average(closed: &[Estimate]) -> u32
     requires { All IsEstimate closed.now }
     ensures value { result ≡ slow_average closed.now }
-    ensures most { result ≤ 65536 }
+    ensures most { result ≤ WHOLE }
 {
-    let mut slow = 65536;
+    let mut slow = WHOLE;
     for estimate in closed {
         slow = (slow * 7 + touched_share(*estimate)) / 8;
     }
@@ -64,9 +67,9 @@ pub fn slow_average(closed: &[Estimate]) -> u32
 pub fn fast_average(closed: &[Estimate]) -> u32
     requires { All IsEstimate closed.now }
     ensures value { result ≡ fast_average closed.now }
-    ensures most { result ≤ 65536 }
+    ensures most { result ≤ WHOLE }
 {
-    let mut fast = 65536;
+    let mut fast = WHOLE;
     for estimate in closed {
         fast = (fast + touched_share(*estimate)) / 2;
     }
@@ -76,10 +79,10 @@ pub fn fast_average(closed: &[Estimate]) -> u32
 /// The greatest of the slow average, the fast one, and the fast one as it would be if the open period,
 /// where there is one, closed now.
 pub fn active_share(slow: u32, fast: u32, now: Option<Estimate>) -> u32
-    requires averages { (slow ≤ 65536) × (fast ≤ 65536) }
+    requires averages { (slow ≤ WHOLE) × (fast ≤ WHOLE) }
     requires open { ForSome now IsEstimate }
     ensures value { result ≡ active_share slow fast now }
-    ensures most { result ≤ 65536 }
+    ensures most { result ≤ WHOLE }
 {
     let open = match now {
         Some(estimate) => (fast + touched_share(estimate)) / 2,

@@ -1,14 +1,15 @@
 //! What a site's levels are made from: thresholds, a margin, how deep a level is.
 
 ghost use Rattle.std.specs.Prelude.{◌≡◌, ◌≤◌};
+ghost use Rattle.esx_types.specs.declared.config.TheConstants.{MAX_FRAMES, MAX_HIGH};
 ghost use Rattle.esx_formulas.specs.Level.{threshold, margin, depth};
 
 use esx_types::{Config, Level};
 
 /// A percentage of the frames, rounded down, and no less than the level's rank.
 pub fn threshold(frames: u32, percent: u32, rank: u32) -> u32
-    requires frames { frames ≤ 1048576 }
-    requires percent { percent ≤ 50 }
+    requires frames { frames ≤ MAX_FRAMES }
+    requires percent { percent ≤ MAX_HIGH }
     ensures { result ≡ threshold frames percent rank }
 {
     (frames * percent / 100).max(rank)

@@ -1,12 +1,17 @@
 //! Which virtual machine gives up the next page.
 
 ghost use Rattle.std.specs.Prelude.{◌≡◌, ◌-◌, ◌*◌, ◌≤◌, ◌↔◌, IsTrue, MatchOption, option_map, length};
+ghost use Rattle.esx_types.specs.declared.config.TheConstants.{MAX_PAGES, MAX_SHARES};
 ghost use Rattle.esx_formulas.specs.Ratio.{claim, ComesNoLater, IsRow, AreRows, AreAtFloor, HasLeastRatio, row_at};
 ghost use Rattle.esx_formulas.specs.Targets.{first_claim};
 ghost use Rattle.esx_formulas.specs.Payers.{IsBestBelow};
 
+use crate::activity::WHOLE;
 use crate::targets::Row;
 use esx_types::VmId;
+
+/// What a page costs of a machine that uses none of its memory or pays no tax: all of it, in hundredths.
+pub const WHOLE_PRICE: u64 = 100 * WHOLE as u64;
 
 /// The machine of least ratio among those with pages above their floor, each at its own tax: the next page
 /// is taken from it. Of equal ratios the lower machine's is the less. It is none where no machine has pages
@@ -55,7 +60,7 @@ fn comes_no_later(row: &Row, other: &Row) -> bool
 pub fn comes_no_later_at(row: &Row, pages: u32, other: &Row, other_pages: u32) -> bool
     requires row { IsRow row.now }
     requires other { IsRow other.now }
-    requires pages { (pages ≤ 65536) × (other_pages ≤ 65536) }
+    requires pages { (pages ≤ MAX_PAGES) × (other_pages ≤ MAX_PAGES) }
     ensures { IsTrue result ↔ ComesNoLater (claim row.now pages) (claim other.now other_pages) }
 {
     let mine = u128::from(weight(row)) * u128::from(u64::from(other_pages) * price(other));
@@ -67,17 +72,17 @@ pub fn comes_no_later_at(row: &Row, pages: u32, other: &Row, other_pages: u32) -
 pub fn weight(row: &Row) -> u32
     requires { IsRow row.now }
     ensures value { result ≡ row.now.shares * (100 - row.now.tau) }
-    ensures most { result ≤ 104857600 }
+    ensures most { result ≤ 100 * MAX_SHARES }
 {
     row.shares * (100 - row.tau)
 }
 
-/// What each page of a machine costs, in units of 1/6,553,600: the less of its memory is in use, the more.
+/// What each page of a machine costs, in units of 1/`WHOLE_PRICE`: the less of its memory is in use, the more.
 pub fn price(row: &Row) -> u64
     requires { IsRow row.now }
-    ensures value { result ≡ 6553600 - row.now.tau * row.now.active }
-    ensures least { 65536 ≤ result }
-    ensures most { result ≤ 6553600 }
+    ensures value { result ≡ WHOLE_PRICE - row.now.tau * row.now.active }
+    ensures least { WHOLE ≤ result }
+    ensures most { result ≤ WHOLE_PRICE }
 {
-    6553600 - u64::from(row.tau) * u64::from(row.active)
+    WHOLE_PRICE - u64::from(row.tau) * u64::from(row.active)
 }

@@ -5,15 +5,16 @@ ghost use Rattle.esx_formulas.specs.Ratio.{IsRow, AreRows};
 ghost use Rattle.esx_formulas.specs.Targets.{held, AreTargets, targets_of};
 ghost use Rattle.esx_formulas.specs.Payers.{IsBestBelow};
 
+use crate::activity::WHOLE;
 use crate::ratio::comes_no_later_at;
-use esx_types::{VM_NUMBERS, VmId};
+use esx_types::{MAX_PAGES, MAX_SHARES, MAX_TAU, VM_NUMBERS, VmId};
 use std::alloc::{AllocError, Global};
 
 /// What a virtual machine has, for the ratio and the targets.
 ///
-/// `shares` is 1 to 2^20. `pages` is how many pages it holds and `floor` how many of them it keeps in any
-/// case, each at most 2^16. `active` is the share of its memory that is in use, in units of 1/65,536, and
-/// `tau` its tax on idle memory, 0 to 99 percent.
+/// `shares` is 1 to `MAX_SHARES`. `pages` is how many pages it holds and `floor` how many of them it keeps in
+/// any case, each at most `MAX_PAGES`. `active` is the share of its memory that is in use, in units of
+/// 1/`WHOLE`, and `tau` its tax on idle memory, at most `MAX_TAU` percent.
 #[derive(Clone, Copy, Debug, PartialEq, Eq)]
 pub struct Row {
     pub vm: VmId,
@@ -31,11 +32,11 @@ impl Row {
     {
         usize::from(self.vm.number()) < VM_NUMBERS
             && 1 <= self.shares
-            && self.shares <= 1048576
-            && self.pages <= 65536
-            && self.floor <= 65536
-            && self.active <= 65536
-            && self.tau <= 99
+            && self.shares <= MAX_SHARES
+            && self.pages <= MAX_PAGES
+            && self.floor <= MAX_PAGES
+            && self.active <= WHOLE
+            && self.tau <= MAX_TAU
     }
 }
 
@@ -84,7 +85,7 @@ pub fn held(alloc: Global, rows: &[Row]) -> Result<Vec<u32>, AllocError>
 fn next_payer(rows: &[Row], targets: &[u32]) -> Option<usize>
     requires rows { AreRows rows.now }
     requires count { length targets.now ≡ length rows.now }
-    requires most { (i : ℕ) → i < length targets.now → slice_index targets.now i ≤ 65536 }
+    requires most { (i : ℕ) → i < length targets.now → slice_index targets.now i ≤ MAX_PAGES }
     ensures { IsBestBelow rows.now (λ i. slice_index targets.now i) (length rows.now) result }
 {
     let mut best: Option<usize> = None;

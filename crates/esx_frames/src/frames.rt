@@ -302,7 +302,7 @@ impl FrameTable {
     pub fn add_ref(&mut self, mpn: u32)
         requires in_range { mpn < length self.old }
         requires shared { 1 ≤ ref_count (frame_at self.old mpn) }
-        requires room { ref_count (frame_at self.old mpn) < 2 ^ 24 }
+        requires room { ref_count (frame_at self.old mpn) + 1 < 2 ^ 32 }
         ensures { let row = frame_at self.old mpn in
             self.new ≡ slice_set self.old mpn (with_count row (ref_count row + 1)) }
     {

@@ -1,6 +1,6 @@
 //! The list: the rows up to the highest that was used, and how many there are in all.
 
-ghost use Rattle.std.specs.Prelude.{◌≡◌, ◌<◌, ◌≤◌, ◌+◌, ◌-◌, ◌++◌, IfOk, length, option_copied, replicate, slice_get, slice_index_or, slice_set, vec_capacity};
+ghost use Rattle.std.specs.Prelude.{◌≡◌, ◌<◌, ◌≤◌, ◌+◌, ◌-◌, ◌++◌, IfOk, length, option_copied, replicate, slice_get, slice_index_or, vec_capacity};
 ghost use Rattle.std.specs.Borrow.{sem};
 
 use crate::blank::Blank;
@@ -95,12 +95,13 @@ impl<T: Blank> Grown<T> {
 }
 
 /// Uses the rows up to a place, in room that is there.
+#[inline]
 fn reach<T: Blank>(used: &mut Vec<T>, at: usize)
     requires { at < vec_capacity used.old }
     ensures items { used.new.items ≡ used.old.items ++ replicate (at + 1 - length used.old.items) T.blank }
-    ensures room { vec_capacity used.new ≡ vec_capacity used.old }
+    ensures room { vec_capacity used.old ≤ vec_capacity used.new }
 {
-    for _ in used.len()..at + 1 {
-        used.push_reserved(T::blank());
+    if at >= used.len() {
+        T::fill(used, at + 1);
     }
 }

@@ -2,7 +2,7 @@
 use Rattle.std.proofs.Common.{◌≡◌, ◌≢◌, ℕ, zero, suc, ◌+◌, ◌<◌, ◌≤◌, ◌==◌, ◌||◌, true, false, List, length, slice_set, slice_index_or, refl, sym, ap, ◌∙◌, arith, ◌⊎◌, inl, inr}
 use Rattle.std.proofs.lemmas.Bool.Decides.{eqb_tells}
 use Rattle.esx_model.specs.Tree.{Node, parent, alive, on_way}
-use Rattle.esx_journal.specs.declared.row.Row.{Row}
+use Rattle.esx_journal.specs.Rows.{Row}
 use Rattle.esx_journal.specs.Row.{AreNodes, Lost, Drops, emptied}
 use Rattle.esx_journal.specs.Children.{AreLinked, parent_of, has_record, first_of, next_of, no_row, unlinked}
 use Rattle.esx_journal.proofs.Lists.{set_length}

@@ -2,7 +2,7 @@
 use Rattle.std.proofs.Common.{◌≡◌, ◌≢◌, ℕ, ◌+◌, ◌<◌, ◌≤◌, ◌==◌, ◌||◌, ◌&&◌, true, false, not, List, length, slice_index_or, is_some, sym, ap, ◌∙◌, arith, ◌⊎◌, inl, inr}
 use Rattle.std.proofs.lemmas.Bool.Decides.{eqb_tells}
 use Rattle.esx_model.specs.Tree.{Node, parent, alive, on_way}
-use Rattle.esx_journal.specs.declared.row.Row.{Row}
+use Rattle.esx_journal.specs.Rows.{Row}
 use Rattle.esx_journal.specs.Row.{AreNodes, IsLeft, Lost, Drops, emptied, lost_parent}
 use Rattle.esx_journal.specs.Children.{AreLinked, parent_of, has_record, no_row, unlinked}
 use Rattle.esx_journal.proofs.Paths.{is_other, parent_below, parent_fits, way_below, way_self}

@@ -8,7 +8,7 @@ use Rattle.esx_machine.specs.Machine.{Back}
 use Rattle.esx_model.specs.Tree.{Node, Move, Up, Down, parent, alive, path, on_way, at, IsTree}
 use Rattle.esx_model.specs.History.{History, cursor, here}
 use Rattle.esx_model.specs.Branching.{dropped, standing_below, stands, is_on_path, prune}
-use Rattle.esx_journal.specs.declared.row.Row.{Row}
+use Rattle.esx_journal.specs.Rows.{Row}
 use Rattle.esx_journal.specs.Row.{AreNodes, Drops, emptied, bare}
 use Rattle.esx_journal.specs.Journal.{Kept, Leads, IsRow, IsAccepted, AreDescents, Aims, kept_after}
 use Rattle.esx_journal.proofs.Paths.{is_other, way_child, way_below, way_self, alive_fits, alive_zero}

@@ -19,7 +19,7 @@ use Rattle.esx_plans.specs.plan.Balloon.{CanEpochsRise}
 use Rattle.esx_model.specs.Show.{shown}
 use Rattle.esx_model.specs.Epochs.{AreEpochsWithin}
 use Rattle.esx_model.proofs.Callers.{later_within, path_within}
-use Rattle.esx_journal.specs.declared.row.Row.{Row}
+use Rattle.esx_journal.specs.Rows.{Row}
 use Rattle.esx_journal.specs.Row.{row_of, grown, with_child}
 use Rattle.esx_journal.specs.Children.{no_row, child_of_number}
 use Rattle.esx_journal.specs.Journal.{Kept, Leads, IsAccepted, IsRow, AreDescents, Aims, Holds, kept_after}

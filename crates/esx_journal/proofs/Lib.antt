@@ -1,4 +1,5 @@
 pub mod Lists
+pub mod Parting
 pub mod Names
 pub mod NameNumbers
 pub mod Paths

@@ -3,7 +3,7 @@ use Rattle.std.proofs.Common.{◌≡◌, ◌≢◌, ℕ, zero, suc, ◌+◌, ◌
 use Rattle.std.proofs.lemmas.Bool.Decides.{eqb_tells}
 use Rattle.esx_machine.specs.Machine.{Back}
 use Rattle.esx_model.specs.Tree.{Node, parent, alive, on_way, IsTree}
-use Rattle.esx_journal.specs.declared.row.Row.{Row}
+use Rattle.esx_journal.specs.Rows.{Row}
 use Rattle.esx_journal.specs.Row.{AreNodes, IsLeft, Lost, Drops, emptied, bare, standing}
 use Rattle.esx_journal.specs.Children.{AreLinked, parent_of, has_record, first_of, no_row, unlinked}
 use Rattle.esx_journal.proofs.Lists.{set_there, set_elsewhere, set_length, any_default}

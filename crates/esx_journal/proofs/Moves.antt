@@ -3,7 +3,7 @@ use Rattle.std.proofs.Common.{◌≡◌, ◌≢◌, ℕ, zero, suc, ◌+◌, ◌
 use Rattle.std.proofs.lemmas.Bool.Decides.{eqb_tells, nat_tests}
 use Rattle.esx_model.specs.Tree.{Move, Down, parent, path, at, last_descent, IsTree, IsWalk}
 use Rattle.esx_model.specs.History.{History, cursor, here, up_once, down_once, down_to, child, if_alive, undone, redone, undo, redo, then_go, jumped}
-use Rattle.esx_journal.specs.declared.row.Row.{Row}
+use Rattle.esx_journal.specs.Rows.{Row}
 use Rattle.esx_journal.specs.Row.{LastsFit, kept_child, child_at}
 use Rattle.esx_journal.specs.Children.{child_of_number}
 use Rattle.esx_journal.specs.Journal.{Kept, Holds, Aims}

@@ -10,6 +10,7 @@ use Rattle.std.specs.Ordering.{ordering_then, ordering_reverse}
 use Rattle.std.proofs.lemmas.Bool.{and_parts}
 use Rattle.std.proofs.lemmas.Map.Lookups.{exact_pairs, exact_unsigned}
 use Rattle.std.proofs.lemmas.Slice.Eq.{bytes_eq-Decides}
+use Rattle.esx_events.specs.declared.name.TheConstants.{MAX_NAME}
 use Rattle.esx_events.specs.Names.{IsName, is_name_byte, starts_lower}
 use Rattle.esx_journal.specs.Marks.{number_of, numbers_of, pair_of, pair_cmp, compared}
 
@@ -80,7 +81,7 @@ digits [] e = tt
 digits (x ∷ xs) e = (let both = and_parts (is_name_byte x) (list_all is_name_byte xs) e in (digit x both.0, digits xs both.1))
 
 digits_of_name : (name : List ℕ) → IsName name → AreDigits name
-digits_of_name name e = digits name (and_parts (starts_lower name && nat_le (length name) 32) (list_all is_name_byte name) e).1
+digits_of_name name e = digits name (and_parts (starts_lower name && nat_le (length name) MAX_NAME) (list_all is_name_byte name) e).1
 
 same_pair : (a b : List ℕ) → AreDigits a → AreDigits b → pair_of a ≡ pair_of b → a ≡ b
 same_pair a b p q e =

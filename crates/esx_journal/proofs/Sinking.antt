@@ -8,7 +8,7 @@ use Rattle.esx_model.specs.History.{History, cursor, if_alive, jumped}
 use Rattle.esx_model.specs.Tree.{line, way}
 use Rattle.esx_model.specs.Branching.{stands, gone_to, goto}
 use Rattle.esx_journal.specs.Turns.{above}
-use Rattle.esx_journal.specs.declared.row.Row.{Row}
+use Rattle.esx_journal.specs.Rows.{Row}
 use Rattle.esx_journal.specs.Journal.{Kept, IsRow, Aims, Holds}
 use Rattle.esx_journal.specs.Ways.{ups, downs, Climbed}
 use Rattle.esx_journal.proofs.Lists.{set_there, set_elsewhere, set_length}

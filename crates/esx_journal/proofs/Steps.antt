@@ -6,7 +6,7 @@ use Rattle.esx_machine.specs.Machine.{Back}
 use Rattle.esx_machine.specs.Machine.{Trades}
 use Rattle.esx_model.specs.Tree.{Node, Move, Up, Down, parent, alive, path, on_way, at, last_descent, IsWalk}
 use Rattle.esx_model.specs.History.{History, cursor, up_once, down_to, child, if_alive}
-use Rattle.esx_journal.specs.declared.row.Row.{Row}
+use Rattle.esx_journal.specs.Rows.{Row}
 use Rattle.esx_journal.specs.Row.{FlipsAt, Flipped}
 use Rattle.esx_journal.specs.Journal.{Kept, Leads, IsRow, AreDescents, Aims, Holds, kept_after}
 use Rattle.esx_journal.proofs.Lists.{set_there, set_elsewhere, set_length}

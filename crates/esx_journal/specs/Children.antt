@@ -1,6 +1,6 @@
 -- How the children of each node are found.
 use Rattle.std.specs.Prelude.{◌≡◌, ℕ, zero, suc, ◌<◌, Bool, false, List, length, Option, Some, None, is_some, slice_index_or, slice_set}
-use Rattle.esx_journal.specs.declared.row.Row.{Row}
+use Rattle.esx_journal.specs.Rows.{Row}
 
 -- the child of a number, and none of 0: the opening is nobody's child
 abbrev pub child_of_number : ℕ → Option ℕ
@@ -16,6 +16,9 @@ parent_of rows n = (slice_index_or rows n no_row).parent
 
 abbrev pub has_record : List Row → ℕ → Bool
 has_record rows n = is_some (slice_index_or rows n no_row).back
+
+abbrev pub last_of : List Row → ℕ → ℕ
+last_of rows n = (slice_index_or rows n no_row).last
 
 abbrev pub first_of : List Row → ℕ → ℕ
 first_of rows n = (slice_index_or rows n no_row).first

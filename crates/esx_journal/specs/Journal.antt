@@ -1,6 +1,7 @@
 -- What a journal keeps of a history.
-use Rattle.std.specs.Prelude.{◌≡◌, ◌≢◌, ℕ, ◌+◌, ◌^◌, ◌<◌, ◌≤◌, Bool, true, false, List, [], ◌∷◌, length, Option, Some, None, is_some, slice_index_or, Result, Ok, Err, IsOk}
+use Rattle.std.specs.Prelude.{◌≡◌, ◌≢◌, ℕ, ◌+◌, ◌<◌, ◌≤◌, Bool, true, false, List, [], ◌∷◌, length, Option, Some, None, is_some, slice_index_or, Result, Ok, Err, IsOk}
 use Rattle.esx_types.specs.declared.config.Config.{Config}
+use Rattle.esx_types.specs.declared.config.TheConstants.{MAX_NODES}
 use Rattle.esx_events.specs.declared.event.Event.{Event}
 use Rattle.esx_events.specs.declared.event.Answer.{Answer}
 use Rattle.esx_events.specs.declared.event.Refusal.{Refusal}
@@ -17,7 +18,7 @@ use Rattle.esx_model.specs.Branching.{stands}
 use Rattle.esx_machine.specs.Machine as machines
 use Rattle.esx_machine.specs.Machine.{Back}
 use Rattle.esx_machine.specs.Machine.{Trades}
-use Rattle.esx_journal.specs.declared.row.Row.{Row}
+use Rattle.esx_journal.specs.Rows.{Row}
 use Rattle.esx_journal.specs.Children.{AreLinked, child_of_number}
 
 pub record Kept : Type 0 where
@@ -90,7 +91,7 @@ pub record IsKept (j : Kept) : Type 0 where
   pub aim : List Move
   pub holds : Aims j history aim
   pub fits : length history.nodes ≤ j.nodes
-  pub limit : j.nodes ≤ 2 ^ 24
+  pub limit : j.nodes ≤ MAX_NODES
   pub linked : AreLinked j.rows
 
 -- where the cursor is

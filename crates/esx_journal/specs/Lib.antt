@@ -1,3 +1,4 @@
+pub mod Rows
 pub mod Row
 pub mod Children
 pub mod Journal

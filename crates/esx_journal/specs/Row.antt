@@ -5,7 +5,7 @@ use Rattle.esx_machine.specs.Machine.{Back}
 use Rattle.esx_machine.specs.Machine.{Trades}
 use Rattle.esx_model.specs.Tree.{Node, parent, alive, on_way, IsTree}
 use Rattle.esx_model.specs.Branching.{standing_below}
-use Rattle.esx_journal.specs.declared.row.Row.{Row}
+use Rattle.esx_journal.specs.Rows.{Row}
 use Rattle.esx_journal.specs.Children.{child_of_number, has_record}
 
 -- the row of a new node, which is the youngest child of its parent

@@ -3,21 +3,22 @@
 ghost use Rattle.std.specs.Prelude.{◌≡◌, ◌<◌, length};
 ghost use Rattle.esx_journal.specs.Children.{next_of, unlinked};
 
-use crate::row::Row;
+use crate::rows::Rows;
 
 /// Takes a node off its parent, of which it is the youngest child.
-pub fn unlink(rows: &mut Vec<Row>, parent: u32, child: u32)
-    requires parent { parent < length rows.old.items }
-    requires child { child < length rows.old.items }
-    ensures { rows.new.items ≡ unlinked rows.old.items parent (next_of rows.old.items child) }
+pub fn unlink(rows: &mut Rows, parent: u32, child: u32)
+    requires parent { parent < length rows.old }
+    requires child { child < length rows.old }
+    ensures { rows.new ≡ unlinked rows.old parent (next_of rows.old child) }
 {
-    rows[parent as usize].first = rows[child as usize].next;
+    let next = rows.next(child as usize);
+    rows.set_first(parent as usize, next);
 }
 
 /// Leaves no child to a node.
-pub fn forget_children(rows: &mut Vec<Row>, parent: u32)
-    requires { parent < length rows.old.items }
-    ensures { rows.new.items ≡ unlinked rows.old.items parent 0 }
+pub fn forget_children(rows: &mut Rows, parent: u32)
+    requires { parent < length rows.old }
+    ensures { rows.new ≡ unlinked rows.old parent 0 }
 {
-    rows[parent as usize].first = 0;
+    rows.set_first(parent as usize, 0);
 }

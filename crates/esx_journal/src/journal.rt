@@ -1,6 +1,7 @@
 //! The journal: one row for each node, at its number.
 
 ghost use Rattle.std.specs.Prelude.{◌≡◌, ◌≢◌, ◌<◌, ◌≤◌, ◌+◌, ◌∷◌, ℕ, List, length, IfOk, IfErr, is_some, true, Some, None, Ok, if◌then◌else◌};
+ghost use Rattle.esx_events.specs.declared.events.TheConstants.{MAX_EVENTS};
 ghost use Rattle.esx_types.specs.Ranges.{IsConfig};
 ghost use Rattle.esx_model.specs.Replay.{replay_of};
 ghost use Rattle.esx_model.specs.Tree.{Move, Down, parent, last_descent};
@@ -12,11 +13,12 @@ ghost use Rattle.esx_journal.specs.Journal.{Aims, Holds, Moves, Goes, Names, Pru
 ghost use Rattle.esx_journal.specs.Ways.{Climbed};
 
 use crate::marks::Marks;
-use crate::row::{Row, add_child, child_of, drop_below, flip_row, revert, take_room};
+use crate::row::{add_child, child_of, drop_below, revert};
+use crate::rows::Rows;
 use crate::trial::try_events;
 use esx_events::{Answer, Event, Name, Refusal, Sides, Stand};
 use esx_machine::Machine;
-use esx_types::{Config, Rows};
+use esx_types::Config;
 use std::alloc::{AllocError, Global};
 use std::marker::Model;
 
@@ -26,8 +28,9 @@ use std::marker::Model;
 /// and at most `nodes` of the `Config` are made.
 #[derive(Drop)]
 pub struct Journal {
+    alloc: Global,
     machine: Machine,
-    rows: Vec<Row>,
+    rows: Rows,
     cursor: u32,
     depth: u32,
     nodes: u32,
@@ -39,9 +42,9 @@ impl Model for Journal {
 
     ghost Value = { Kept };
 
-    ghost view = { λ a. record { machine = a.machine; rows = a.rows.items; cursor = a.cursor; depth = a.depth; nodes = a.nodes; marks = a.marks } };
+    ghost view = { λ a. record { machine = a.machine; rows = a.rows; cursor = a.cursor; depth = a.depth; nodes = a.nodes; marks = a.marks } };
 
-    ghost invariant = { λ a. IsKept (record { machine = a.machine; rows = a.rows.items; cursor = a.cursor; depth = a.depth; nodes = a.nodes; marks = a.marks }) };
+    ghost invariant = { λ a. IsKept (record { machine = a.machine; rows = a.rows; cursor = a.cursor; depth = a.depth; nodes = a.nodes; marks = a.marks }) };
 }
 
 impl Journal {
@@ -53,15 +56,9 @@ impl Journal {
         ensures late { IfErr result (λ e. e ≡ Refusal.OutOfMemory → IsConfig config) }
     {
         let machine = Machine::open(alloc, config)?;
-        let mut rows = Vec::new(alloc);
-        rows.push(Row {
-            parent: 0,
-            last: 0,
-            first: 0,
-            next: 0,
-            back: None,
-        })?;
+        let rows = Rows::opening(alloc)?;
         Ok(Journal {
+            alloc,
             machine,
             rows,
             cursor: 0,
@@ -100,14 +97,20 @@ impl Journal {
             return Err(Refusal::Full);
         }
         let (answer, back) = self.machine.apply(event)?;
-        match take_room(&mut self.rows, answer, with_copy) {
+        match add_child(
+            &mut self.rows,
+            self.cursor,
+            made as u32,
+            back,
+            answer,
+            with_copy,
+        ) {
             Ok(told) => {
-                add_child(&mut self.rows, self.cursor, made as u32, back);
                 self.cursor = made as u32;
                 self.depth += 1;
                 Ok(told)
             }
-            Err(_) => {
+            Err(back) => {
                 revert(&mut self.machine, back);
                 Err(Refusal::OutOfMemory)
             }
@@ -149,8 +152,8 @@ impl Journal {
         ensures holds { (h : History) (aim : List Move) → Aims self.old h aim → Aims self.new (up_once h) aim }
     {
         let at = self.cursor as usize;
-        flip_row(&mut self.machine, &mut self.rows, at);
-        self.cursor = self.rows[at].parent;
+        self.rows.flip(at, &mut self.machine);
+        self.cursor = self.rows.parent(at);
         self.depth -= 1;
     }
 
@@ -172,7 +175,7 @@ impl Journal {
             → Aims self.new (down_to h n) aim }
     {
         if let Some(next) = child_of(&self.rows, self.cursor as usize) {
-            flip_row(&mut self.machine, &mut self.rows, next as usize);
+            self.rows.flip(next as usize, &mut self.machine);
             self.cursor = next;
             self.depth += 1;
         }
@@ -209,11 +212,8 @@ impl Journal {
         ensures told { (h : History) (aim : List Move) → Aims self.now h aim → result ≡ stands h node }
         ensures within { result ≡ true → node < length self.now.rows }
     {
-        node == 0
-            || match self.rows.get(node as usize) {
-                Some(row) => row.back.is_some(),
-                None => false,
-            }
+        let at = node as usize;
+        node == 0 || (at < self.rows.len() && self.rows.has_record(at))
     }
 
     /// Makes a node the last child of its parent, which it answers.
@@ -225,8 +225,8 @@ impl Journal {
         ensures place { self.new.cursor ≡ self.old.cursor }
         ensures holds { (h : History) (aim : List Move) → Aims self.old h aim → (result ≡ parent h.nodes node) × Aims self.new h (Down node ∷ aim) }
     {
-        let parent = self.rows[node as usize].parent;
-        self.rows[parent as usize].last = node;
+        let parent = self.rows.parent(node as usize);
+        self.rows.set_last(parent as usize, node);
         parent
     }
 
@@ -291,7 +291,7 @@ impl Journal {
     {
         let mut at = self.cursor;
         'climb: while at > node {
-            at = self.rows[at as usize].parent;
+            at = self.rows.parent(at as usize);
         }
         at == node
     }
@@ -315,17 +315,17 @@ impl Journal {
     /// What would come of events at the cursor: they are tried in order up to the first that is refused,
     /// and all of them are taken back.
     pub fn what_if(&mut self, events: &[Event]) -> Result<Sides, AllocError>
-        requires { length events.now ≤ 64 }
+        requires { length events.now ≤ MAX_EVENTS }
         ensures same { self.new ≡ self.old }
         ensures sides { (h : History) → Holds self.old h → IfOk result (λ sides. sides ≡ what_if events.now h) }
     {
         let before = self.machine.sum();
-        let mut replies = Vec::new(*self.rows.allocator());
+        let mut replies = Vec::new(self.alloc);
         let after = try_events(&mut self.machine, events, 0, &mut replies)?;
         Ok(Sides {
             given: events.len() as u32,
             before,
-            replies: Rows::from_vec(replies),
+            replies: esx_types::Rows::from_vec(replies),
             after,
         })
     }

@@ -9,6 +9,7 @@ pub mod laws;
 pub mod marks;
 mod numbers;
 mod row;
+mod rows;
 mod trial;
 
 pub use journal::Journal;

@@ -1,6 +1,7 @@
 //! The numbers by which names are found.
 
 ghost use Rattle.std.specs.Prelude.{◌≡◌, ◌≤◌, length};
+ghost use Rattle.esx_events.specs.declared.name.TheConstants.{MAX_NAME};
 ghost use Rattle.esx_journal.specs.Marks.{number_of, numbers_of, pair_of};
 
 /// At most eight bytes as a number.
@@ -27,7 +28,7 @@ fn pair_of(bytes: &[u8]) -> (u64, u64)
 
 /// A name's bytes as four numbers. Names are told apart by these, and compared by them in few steps.
 pub fn numbers_of(bytes: &[u8]) -> ((u64, u64), (u64, u64))
-    requires { length bytes.now ≤ 32 }
+    requires { length bytes.now ≤ MAX_NAME }
     ensures { result ≡ numbers_of bytes.now }
 {
     let (first, rest) = bytes.split_at(bytes.len().min(16));

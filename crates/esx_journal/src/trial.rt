@@ -1,6 +1,8 @@
 //! Events that are tried and taken back.
 
-ghost use Rattle.std.specs.Prelude.{◌≡◌, ◌≤◌, ◌+◌, ◌^◌, drop, length};
+ghost use Rattle.std.specs.Prelude.{◌≡◌, ◌≤◌, ◌+◌, drop, length};
+ghost use Rattle.esx_events.specs.declared.events.TheConstants.{MAX_EVENTS};
+ghost use Rattle.esx_types.specs.declared.config.TheConstants.{MAX_NODES};
 ghost use Rattle.esx_model.specs.declared.scene.Scene.{Scene};
 ghost use Rattle.esx_model.specs.Epochs.{AreEpochsWithin};
 ghost use Rattle.esx_machine.specs.Machine.{Shows};
@@ -20,8 +22,8 @@ pub fn try_events(
     replies: &mut Vec<Result<Answer, Refusal>>,
 ) -> Result<Sum, AllocError>
     requires within { at ≤ length events.now }
-    requires few { length events.now ≤ 64 }
-    requires shows { (scene : Scene) × Shows machine.old scene × AreEpochsWithin (2 ^ 24 + at) scene.site }
+    requires few { length events.now ≤ MAX_EVENTS }
+    requires shows { (scene : Scene) × Shows machine.old scene × AreEpochsWithin (MAX_NODES + at) scene.site }
     ensures same { machine.new ≡ machine.old }
     ensures tells { (scene : Scene) → Shows machine.old scene
         → Tells result machine.old.config scene (drop at events.now) replies.old.items replies.new.items }

@@ -22,16 +22,14 @@ leads_back r here there kept t = record { makes = sym (ap (λ (x : Kept × Back)
 pub leads_to_one : (r : Back) (here there other : Kept) → Trades r here there → Trades r here other → there ≡ other
 leads_to_one r here there other t u = t.makes ∙ sym u.makes
 
--- the two steps of a flip
-pub two_steps : (k : Kept) (r : Back) (t : Tables) (ds : List Change) (x y : Level) → t ≡ (exchanged k.tables r.changes).0 → ds ≡ (exchanged k.tables r.changes).1 → x ≡ r.level → y ≡ k.level
-    → flipped k r ≡ (record k { level = x; tables = t }, record { level = y; changes = ds })
-two_steps k r t ds x y e f g h =
+-- a flip by its parts
+pub by_parts : (k : Kept) (r s : Back) (t : Tables) (x : Level) → t ≡ (exchanged k.tables r.changes).0 → x ≡ r.level → s ≡ record { level = k.level; changes = (exchanged k.tables r.changes).1 }
+    → flipped k r ≡ (record k { level = x; tables = t }, s)
+by_parts k r s t x e f g =
     let new : Tables → Level → Kept = λ a l. record k { level = l; tables = a } in
-    let back : List Change → Level → Back = λ cs l. record { level = l; changes = cs } in
-    sym (ap (λ (a : Tables). (new a x, back ds y)) e
-    ∙ ap (λ (cs : List Change). (new (exchanged k.tables r.changes).0 x, back cs y)) f
-    ∙ ap (λ (l : Level). (new (exchanged k.tables r.changes).0 l, back (exchanged k.tables r.changes).1 y)) g
-    ∙ ap (λ (l : Level). (new (exchanged k.tables r.changes).0 r.level, back (exchanged k.tables r.changes).1 l)) h)
+    sym (ap (λ (a : Tables). (new a x, s)) e
+    ∙ ap (λ (l : Level). (new (exchanged k.tables r.changes).0 l, s)) f
+    ∙ ap (λ (b : Back). (new (exchanged k.tables r.changes).0 r.level, b)) g)
 
 pub flip_kept : (here new : Kept) (r s : Back) → flipped here r ≡ (new, s) → (there : Kept) → Trades r here there → IsKept new
 flip_kept here new r s e there t = subst IsKept (t.makes ∙ ap (λ (x : Kept × Back). x.0) e) t.kept

@@ -7,6 +7,7 @@ pub use Rattle.esx_model.specs.Tables
 pub use Rattle.esx_tables.specs.Changes
 pub use Rattle.esx_plans.specs.plan.Balloon
 pub mod Machine
+pub mod Records
 pub mod Questions
 pub mod Applied
 pub use Rattle.esx_advice.specs.Advised

@@ -1,7 +1,7 @@
 -- What questions read of the raw tables, and what the tables of every sound site have on which they rest. No public clause cites this module.
 use Rattle.std.specs.Prelude.{◌≡◌, ℕ, ◌≤◌, ◌==◌, Bool, true, false, ◌&&◌, not, is_some, nat_lt, nat_le, List, [], ◌∷◌, length, Option, Some, None, if◌then◌else◌, Result, Ok, Err}
 use Rattle.std.specs.List.{list_any}
-use Rattle.esx_types.specs.declared.config.TheConstants.{VM_NUMBERS}
+use Rattle.esx_types.specs.declared.config.TheConstants.{MAX_PAGES, MAX_SHARES, MAX_TAU, VM_NUMBERS}
 use Rattle.esx_types.specs.declared.level.Level.{Level}
 use Rattle.esx_types.specs.declared.table.Listing.{Listing}
 use Rattle.esx_types.specs.declared.table.Listing.TheVariants.{Unlisted, Shared, Hinted}
@@ -35,14 +35,14 @@ use Rattle.esx_plans.specs.plan.Ratios.{numbered, ratio_row}
 -- a machine's numbers are in their ranges
 pub record IsReadable (v : VmRow) : Type 0 where
   pub least_shares : 1 ≤ v.spec.shares
-  pub most_shares : v.spec.shares ≤ 1048576
-  pub most_target : v.target ≤ 65536
+  pub most_shares : v.spec.shares ≤ MAX_SHARES
+  pub most_target : v.target ≤ MAX_PAGES
   pub period : IsTold v.period
 
 pub record AreReadable (t : Tables) : Type 0 where
   pub vms : length t.vms ≡ VM_NUMBERS
   pub each : (n : ℕ) (v : VmRow) → row_at t n ≡ Some v → IsReadable v
-  pub tau : t.tau ≤ 99
+  pub tau : t.tau ≤ MAX_TAU
 
 -- Where a page is.
 

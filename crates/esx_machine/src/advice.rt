@@ -2,7 +2,7 @@
 
 ghost use Rattle.std.specs.Prelude.{◌≡◌, ◌≤◌, ◌<◌, Some, is_some};
 ghost use Rattle.std.specs.Option.{ForSome};
-ghost use Rattle.esx_types.specs.declared.config.TheConstants.{VM_NUMBERS};
+ghost use Rattle.esx_types.specs.declared.config.TheConstants.{MAX_TAU, VM_NUMBERS};
 ghost use Rattle.esx_formulas.specs.Ratio.{IsRow};
 ghost use Rattle.esx_formulas.specs.Targets.{first_claim};
 ghost use Rattle.esx_model.specs.declared.book.VmRow.{VmRow};
@@ -46,7 +46,7 @@ fn can_go(tables: &SiteTables, level: Level, vm: &VmTable, page: u32) -> bool
 
 /// What a machine has at a tax, of which it keeps its target.
 fn target_row(tau: u32, vm: VmId, row: &VmTable) -> Row
-    requires tau { tau ≤ 99 }
+    requires tau { tau ≤ MAX_TAU }
     requires row { IsReadable row.now }
     ensures value { result ≡ target_row tau vm row.now }
     ensures good { IsRow result }
@@ -90,7 +90,7 @@ fn sooner(best: Option<Row>, row: Row) -> Option<Row>
 
 /// The same with one more place of a machine.
 fn sooner_of(tau: u32, best: Option<Row>, number: usize, vm: &Option<VmTable>) -> Option<Row>
-    requires tau { tau ≤ 99 }
+    requires tau { tau ≤ MAX_TAU }
     requires best { ForSome best IsRow }
     requires number { number < VM_NUMBERS }
     requires vm { (v : VmRow) → vm.now ≡ Some v → IsReadable v }

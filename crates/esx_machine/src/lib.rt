@@ -6,6 +6,8 @@ pub mod laws;
 pub mod machine;
 mod planning;
 mod reading;
+mod record;
 mod table;
 
-pub use machine::{Machine, Record};
+pub use machine::Machine;
+pub use record::Record;

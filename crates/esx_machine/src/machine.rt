@@ -1,18 +1,18 @@
-//! The machine, and the records of its events.
+//! The machine: one event, one flip, and questions.
 
 use crate::advice::advise;
 use crate::planning::plan;
 use crate::reading::{activity, page_state};
+use crate::record::Record;
 use crate::table::table_of;
 use esx_events::{Activity, Answer, Event, Help, PageState, Refusal, Sum, TableRow};
 use esx_level::Thresholds;
 use esx_model::Book;
 use esx_plans::Plan;
-use esx_tables::{Record as Changes, RecordSize, SiteTables};
+use esx_tables::SiteTables;
 use esx_types::{Config, Level, Rows, VmId};
 use std::alloc::{AllocError, Global};
 use std::marker::Model;
-use std::mem;
 
 /// A site's numbers, how scarce its frames are, and its tables.
 #[derive(Drop)]
@@ -31,37 +31,6 @@ impl Model for Machine {
     ghost view = { λ a. record { config = a.config; level = a.level; tables = a.tables } };
 
     ghost invariant = { λ a. IsKept (record { config = a.config; level = a.level; tables = a.tables }) };
-}
-
-/// What leads from the tables after an event to those before it, and back. Its changes keep their places in
-/// one list: one flip goes over it from its end, and the next from its front.
-#[derive(Drop)]
-pub struct Record {
-    level: Level,
-    // Does the next flip begin at the end?
-    at_end: bool,
-    changes: Changes,
-}
-
-impl Model for Record {
-    ghost use Rattle.esx_tables.specs.Changes.{in_order};
-    ghost use Rattle.esx_machine.specs.Machine.{Back};
-
-    ghost Value = { Back };
-
-    ghost view = { λ a. record { level = a.level; changes = in_order a.at_end a.changes } };
-}
-
-impl Record {
-    ghost use Rattle.std.specs.Prelude.{◌≡◌};
-    ghost use Rattle.esx_tables.specs.Sizes.{size_of, capped};
-
-    /// How much it holds.
-    pub fn size(&self) -> RecordSize
-        ensures { result ≡ capped (size_of self.now.changes) }
-    {
-        self.changes.size()
-    }
 }
 
 impl Machine {
@@ -117,12 +86,7 @@ impl Machine {
         self.tables.exchange_from(&mut changes, false);
         let free = self.tables.counts().free;
         self.level = Thresholds::of(self.config).next(level, free);
-        let back = Record {
-            level,
-            at_end: true,
-            changes,
-        };
-        Ok((plan.answer, back))
+        Ok((plan.answer, Record::leading_back(level, changes)))
     }
 
     /// The plan of an event. What is kept while it is made is seen in no table.
@@ -147,9 +111,7 @@ impl Machine {
         ensures { (there : Kept) → Trades back.old self.old there
             → (self.new ≡ there) × Trades back.new there self.old × (back.new ≡ turned back.old self.old) }
     {
-        self.tables.exchange_from(&mut back.changes, back.at_end);
-        back.at_end = !back.at_end;
-        mem::swap(&mut self.level, &mut back.level);
+        back.trade(&mut self.tables, &mut self.level);
     }
 
     /// The site's numbers, as it was opened.

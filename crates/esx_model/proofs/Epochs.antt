@@ -3,6 +3,7 @@ use Rattle.std.proofs.Common.{zero, suc, ◌≡◌, ℕ, ◌+◌, ◌-◌, ◌�
 use Rattle.std.specs.List.{AllByRecursion, list_any}
 use Rattle.std.specs.Option.{option_map}
 use Rattle.esx_types.specs.declared.config.Config.{Config}
+use Rattle.esx_types.specs.declared.config.TheConstants.{VM_NUMBERS}
 use Rattle.esx_types.specs.declared.vm.VmSpec.{VmSpec}
 use Rattle.esx_types.specs.declared.vm.VmState.TheVariants.{Stopping}
 use Rattle.esx_types.specs.declared.level.Level.{Level}
@@ -374,7 +375,7 @@ pub path_within : (c : Config) (es : List Event) (t : Scene) → run c es ≡ Ok
 path_within c es t h =
     let all : 0 + length es ≡ length es = omega arith in
     let Q : ℕ → Type 0 = λ n. AreEpochsWithin n t.site in
-    subst Q all (run_within c 0 0 es (opening c) t (all_none 0 32) h)
+    subst Q all (run_within c 0 0 es (opening c) t (all_none 0 VM_NUMBERS) h)
 
 pub each_within : (c : Config) (es : List Event) (t : Scene) (n : ℕ) (v : Vm) → run c es ≡ Ok t → vm_at t.site n ≡ Some v → v.epoch ≤ length es
 each_within c es t n v h there = epoch_at (length es) t.site n v (path_within c es t h) there

@@ -1,6 +1,7 @@
 -- Every event keeps a site sound, and every path leads to a sound site.
 use Rattle.std.proofs.Common.{zero, suc, ◌≡◌, ℕ, ◌+◌, List, [], ◌∷◌, get_or, replicate, refl, subst, arith, Some, None, Ok}
 use Rattle.esx_types.specs.declared.config.Config.{Config}
+use Rattle.esx_types.specs.declared.config.TheConstants.{VM_NUMBERS}
 use Rattle.esx_types.specs.Ranges.{IsConfig}
 use Rattle.esx_types.specs.declared.level.Level.{Level}
 use Rattle.esx_events.specs.declared.event.Answer.{Answer}
@@ -72,7 +73,7 @@ pub opening_sound : (c : Config) → IsConfig c → IsSound c (opening c).site
 unfolding all_places all_overhead
 opening_sound c fine = record {
   vms = refl;
-  each = λ n v h. absurd (none_there 32 n v h);
+  each = λ n v h. absurd (none_there VM_NUMBERS n v h);
   memory = omega arith;
   swap = omega arith;
   tau = fine.most_tau;

@@ -4,9 +4,10 @@ use Rattle.std.specs.Option.{option_map}
 use Rattle.std.specs.List.{fold, AllByRecursion}
 use Rattle.std.proofs.lemmas.List.Sums.{count_by-le-length}
 use Rattle.esx_types.specs.declared.config.Config.{Config}
-use Rattle.esx_types.specs.declared.config.TheConstants.{VM_NUMBERS}
+use Rattle.esx_types.specs.declared.config.TheConstants.{MAX_PAGES, MAX_TAU, VM_NUMBERS}
 use Rattle.esx_formulas.specs.declared.activity.Estimate.{Estimate}
 use Rattle.esx_formulas.specs.declared.activity.Period.{Period}
+use Rattle.esx_formulas.specs.declared.activity.TheConstants.{WHOLE}
 use Rattle.esx_formulas.specs.Average.{touched_share, slower, faster, slow_average, fast_average, is_touched, so_far, open_average}
 use Rattle.esx_formulas.specs.Estimates.{IsEstimate}
 use Rattle.esx_formulas.specs.Ratio.{IsRow, AreRows, row_at}
@@ -22,26 +23,26 @@ use Rattle.esx_model.specs.Laws.{HasOneListOfTargets}
 
 -- Averages are shares.
 
-share_most : (e : Estimate) → IsEstimate e → touched_share e ≤ 65536
+share_most : (e : Estimate) → IsEstimate e → touched_share e ≤ WHOLE
 share_most e h = grind (arith)
 
-slow_most : (closed : List Estimate) (slow : ℕ) → slow ≤ 65536 → AllByRecursion IsEstimate closed → fold (λ slow e. slower slow (touched_share e)) slow closed ≤ 65536
+slow_most : (closed : List Estimate) (slow : ℕ) → slow ≤ WHOLE → AllByRecursion IsEstimate closed → fold (λ slow e. slower slow (touched_share e)) slow closed ≤ WHOLE
 slow_most [] slow low h = low
 slow_most (e ∷ closed) slow low h = (let x = share_most e h.0 in slow_most closed (slower slow (touched_share e)) (omega (arith, x, low)) h.1)
 
-fast_most : (closed : List Estimate) (fast : ℕ) → fast ≤ 65536 → AllByRecursion IsEstimate closed → fold (λ fast e. faster fast (touched_share e)) fast closed ≤ 65536
+fast_most : (closed : List Estimate) (fast : ℕ) → fast ≤ WHOLE → AllByRecursion IsEstimate closed → fold (λ fast e. faster fast (touched_share e)) fast closed ≤ WHOLE
 fast_most [] fast low h = low
 fast_most (e ∷ closed) fast low h = (let x = share_most e h.0 in fast_most closed (faster fast (touched_share e)) (omega (arith, x, low)) h.1)
 
-pub slow_is_share : (closed : List Estimate) → AllByRecursion IsEstimate closed → slow_average closed ≤ 65536
+pub slow_is_share : (closed : List Estimate) → AllByRecursion IsEstimate closed → slow_average closed ≤ WHOLE
 unfolding slow_average
-slow_is_share closed h = slow_most closed 65536 (omega arith) h
+slow_is_share closed h = slow_most closed WHOLE (omega arith) h
 
-pub fast_is_share : (closed : List Estimate) → AllByRecursion IsEstimate closed → fast_average closed ≤ 65536
+pub fast_is_share : (closed : List Estimate) → AllByRecursion IsEstimate closed → fast_average closed ≤ WHOLE
 unfolding fast_average
-fast_is_share closed h = fast_most closed 65536 (omega arith) h
+fast_is_share closed h = fast_most closed WHOLE (omega arith) h
 
-open_most : (spec_max fast : ℕ) (o : Option Period) → fast ≤ 65536 → IsPeriodOrNone spec_max o → open_average fast (option_map so_far o) ≤ 65536
+open_most : (spec_max fast : ℕ) (o : Option Period) → fast ≤ WHOLE → IsPeriodOrNone spec_max o → open_average fast (option_map so_far o) ≤ WHOLE
 open_most m fast None low period = low
 open_most m fast (Some p) low period =
     let touched = count_by-le-length (is_touched p) p.pages in
@@ -49,7 +50,7 @@ open_most m fast (Some p) low period =
     let x = share_most (so_far p) fine in
     omega (arith, x, low)
 
-pub active_is_share : (c : Config) (v : Vm) → IsVm c v → active v ≤ 65536
+pub active_is_share : (c : Config) (v : Vm) → IsVm c v → active v ≤ WHOLE
 active_is_share c v fine =
     let slow = slow_is_share v.closed fine.closed in
     let fast = fast_is_share v.closed fine.closed in
@@ -61,7 +62,7 @@ resident_most c v fine = (let few = count_by-le-length is_here v.places in omega
 
 -- The rows.
 
-row_fine : (c : Config) (tau : ℕ) (floor : Vm → ℕ) (n : ℕ) (v : Vm) → tau ≤ 99 → IsVm c v → n < VM_NUMBERS → floor v ≤ 65536 → IsRow (row_of_vm tau n (floor v) v)
+row_fine : (c : Config) (tau : ℕ) (floor : Vm → ℕ) (n : ℕ) (v : Vm) → tau ≤ MAX_TAU → IsVm c v → n < VM_NUMBERS → floor v ≤ MAX_PAGES → IsRow (row_of_vm tau n (floor v) v)
 row_fine c tau floor n v tax fine low least = record {
   vm = low;
   least_shares = fine.good.least_shares;
@@ -72,7 +73,7 @@ row_fine c tau floor n v tax fine low least = record {
   most_tau = tax;
 }
 
-rows_fine : (c : Config) (tau : ℕ) (floor : Vm → ℕ) (n : ℕ) (vms : List (Option Vm)) → tau ≤ 99 → ((k : ℕ) (v : Vm) → get_or vms k None ≡ Some v → IsVm c v × (floor v ≤ 65536)) → n + length vms ≤ VM_NUMBERS
+rows_fine : (c : Config) (tau : ℕ) (floor : Vm → ℕ) (n : ℕ) (vms : List (Option Vm)) → tau ≤ MAX_TAU → ((k : ℕ) (v : Vm) → get_or vms k None ≡ Some v → IsVm c v × (floor v ≤ MAX_PAGES)) → n + length vms ≤ VM_NUMBERS
     → (i : ℕ) → i < length (rows_from tau floor n vms) → IsRow (row_at (rows_from tau floor n vms) i)
 rows_fine c tau floor n [] tax each low i below = absurd (omega arith)
 rows_fine c tau floor n (None ∷ os) tax each low i below = rows_fine c tau floor (n + 1) os tax (λ k v h. each (suc k) v h) (omega (arith, low)) i below
@@ -93,7 +94,7 @@ rows_ordered tau floor n (Some v ∷ os) zero (suc j) less below = (let rest = r
 rows_ordered tau floor n (Some v ∷ os) (suc i) (suc j) less below = rows_ordered tau floor (n + 1) os i j (omega (arith, less)) (omega (arith, below))
 
 -- the rows of a sound site
-pub rows_of_sound : (c : Config) (s : Site) (floor : Vm → ℕ) → IsSound c s → ((v : Vm) → IsVm c v → floor v ≤ 65536) → AreRows (rows_of floor s)
+pub rows_of_sound : (c : Config) (s : Site) (floor : Vm → ℕ) → IsSound c s → ((v : Vm) → IsVm c v → floor v ≤ MAX_PAGES) → AreRows (rows_of floor s)
 unfolding rows_of
 rows_of_sound c s floor sound least = record {
   each = rows_fine c s.tau floor 0 s.vms sound.tau (λ k v h. (sound.each k v h, least v (sound.each k v h))) (omega (arith, sound.vms));

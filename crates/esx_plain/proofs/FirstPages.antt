@@ -4,7 +4,7 @@ use Rattle.std.specs.List.{filter, find, list_any, count_by}
 use Rattle.std.proofs.lemmas.List.Sums.{length-filter, count_by-le-length, sum_by-cons}
 use Rattle.std.proofs.lemmas.List.Concat.{length-flat_map}
 use Rattle.esx_types.specs.declared.config.Config.{Config}
-use Rattle.esx_types.specs.declared.config.TheConstants.{VM_NUMBERS}
+use Rattle.esx_types.specs.declared.config.TheConstants.{MAX_PAGES, VM_NUMBERS}
 use Rattle.esx_types.specs.declared.table.FrameRow.TheVariants as frame_is
 use Rattle.esx_model.specs.declared.scene.Place.{Place}
 use Rattle.esx_model.specs.declared.scene.Place.TheVariants.{Untouched, Here, Out, Lent}
@@ -64,13 +64,13 @@ pub slot_row_found : (s : Site) (i : ℕ) → slot_row s i ≡ first_slot (find 
 unfolding slot_row
 slot_row_found s i = slot_found i (all_places s) (find (is_out_at i) (all_places s)) refl
 
--- A sound site has no more pages than 32 machines may have.
+-- A sound site has no more pages than all machines may have.
 
-few_of : (o : Option Vm) → ((v : Vm) → o ≡ Some v → length v.places ≤ 65536) → length (vm_places o) ≤ 65536
+few_of : (o : Option Vm) → ((v : Vm) → o ≡ Some v → length v.places ≤ MAX_PAGES) → length (vm_places o) ≤ MAX_PAGES
 few_of None h = omega arith
 few_of (Some v) h = h v refl
 
-few_places : (vms : List (Option Vm)) → ((n : ℕ) (v : Vm) → get_or vms n None ≡ Some v → length v.places ≤ 65536) → sum_by (λ o. length (vm_places o)) vms ≤ length vms * 65536
+few_places : (vms : List (Option Vm)) → ((n : ℕ) (v : Vm) → get_or vms n None ≡ Some v → length v.places ≤ MAX_PAGES) → sum_by (λ o. length (vm_places o)) vms ≤ length vms * MAX_PAGES
 few_places [] h = omega arith
 few_places (o ∷ os) h =
     let one = few_of o (h 0) in
@@ -78,10 +78,10 @@ few_places (o ∷ os) h =
     let total = sum_by-cons (λ o. length (vm_places o)) o os in
     omega arith
 
-few_of_sound : (c : Config) (s : Site) → IsSound c s → (n : ℕ) (v : Vm) → get_or s.vms n None ≡ Some v → length v.places ≤ 65536
+few_of_sound : (c : Config) (s : Site) → IsSound c s → (n : ℕ) (v : Vm) → get_or s.vms n None ≡ Some v → length v.places ≤ MAX_PAGES
 few_of_sound c s sound n v there = let fine = sound.each n v there in let most = fine.good.most_max in let all = fine.pages in omega arith
 
-pub places_few : (c : Config) (s : Site) → IsSound c s → length (all_places s) ≤ VM_NUMBERS * 65536
+pub places_few : (c : Config) (s : Site) → IsSound c s → length (all_places s) ≤ VM_NUMBERS * MAX_PAGES
 unfolding all_places
 places_few c s sound =
     let total = length-flat_map vm_places s.vms in

@@ -11,56 +11,57 @@ use Rattle.esx_types.specs.Pages.{is_here, is_out, is_lent, is_lent_in, page_at,
 use Rattle.esx_lists.specs.Counts.{one}
 use Rattle.esx_pmap.specs.Blocks.{block_count}
 use Rattle.esx_pmap.specs.declared.loans.Loan.{Loan}
+use Rattle.esx_pmap.specs.declared.map.TheConstants.{BLOCK}
 use Rattle.esx_pmap.specs.Loans.{AreLoans, lent_in, all_lent}
 use Rattle.esx_pmap.specs.Map.{IsMap, AreLent}
 use Rattle.esx_lists.proofs.Counts.{count_by-set, counted_there, count_by-replicate}
 
 -- a page's place within its block
-in_block : (rows : List MapRow) (i : ℕ) → i < length rows → i % 256 < length (take 256 (drop (i / 256 * 256) rows))
+in_block : (rows : List MapRow) (i : ℕ) → i < length rows → i % BLOCK < length (take BLOCK (drop (i / BLOCK * BLOCK) rows))
 in_block rows i h = rw (length-take, length-drop) (omega arith)
 
-row_in_block : (rows : List MapRow) (i : ℕ) → get_or (take 256 (drop (i / 256 * 256) rows)) (i % 256) Untouched ≡ page_at rows i
+row_in_block : (rows : List MapRow) (i : ℕ) → get_or (take BLOCK (drop (i / BLOCK * BLOCK) rows)) (i % BLOCK) Untouched ≡ page_at rows i
 row_in_block rows i =
-    let place : i / 256 * 256 + i % 256 ≡ i = omega arith in
-    get_or-take 256 (drop (i / 256 * 256) rows) (i % 256) Untouched (omega arith) ∙ (get_or-drop (i / 256 * 256) rows (i % 256) Untouched ∙ ap (page_at rows) place)
+    let place : i / BLOCK * BLOCK + i % BLOCK ≡ i = omega arith in
+    get_or-take BLOCK (drop (i / BLOCK * BLOCK) rows) (i % BLOCK) Untouched (omega arith) ∙ (get_or-drop (i / BLOCK * BLOCK) rows (i % BLOCK) Untouched ∙ ap (page_at rows) place)
 
-pub block_count-set_same : (rows : List MapRow) (i : ℕ) (row : MapRow) → i < length rows → block_count (set rows i row) (i / 256) ≡ block_count rows (i / 256) - one (is_here (page_at rows i)) + one (is_here row)
+pub block_count-set_same : (rows : List MapRow) (i : ℕ) (row : MapRow) → i < length rows → block_count (set rows i row) (i / BLOCK) ≡ block_count rows (i / BLOCK) - one (is_here (page_at rows i)) + one (is_here row)
 block_count-set_same rows i row h =
-    let start = i / 256 * 256 in
-    let place : i ≡ start + i % 256 = omega arith in
-    let moved : take 256 (drop start (set rows i row)) ≡ set (take 256 (drop start rows)) (i % 256) row =
-    ap (λ n. take 256 (drop start (set rows n row))) place ∙ (ap (take 256) (drop-set-add start rows (i % 256) row) ∙ take-set-lt 256 (drop start rows) (i % 256) row (omega arith)) in
-    ap resident_count moved ∙ (count_by-set is_here (take 256 (drop start rows)) (i % 256) row Untouched (in_block rows i h) ∙ rw (row_in_block rows i) refl)
+    let start = i / BLOCK * BLOCK in
+    let place : i ≡ start + i % BLOCK = omega arith in
+    let moved : take BLOCK (drop start (set rows i row)) ≡ set (take BLOCK (drop start rows)) (i % BLOCK) row =
+    ap (λ n. take BLOCK (drop start (set rows n row))) place ∙ (ap (take BLOCK) (drop-set-add start rows (i % BLOCK) row) ∙ take-set-lt BLOCK (drop start rows) (i % BLOCK) row (omega arith)) in
+    ap resident_count moved ∙ (count_by-set is_here (take BLOCK (drop start rows)) (i % BLOCK) row Untouched (in_block rows i h) ∙ rw (row_in_block rows i) refl)
 
-pub block_count-set_other : (rows : List MapRow) (i b : ℕ) (row : MapRow) → b ≢ i / 256 → block_count (set rows i row) b ≡ block_count rows b
+pub block_count-set_other : (rows : List MapRow) (i b : ℕ) (row : MapRow) → b ≢ i / BLOCK → block_count (set rows i row) b ≡ block_count rows b
 block_count-set_other rows i b row ne =
-    elim (cases_lt i (b * 256)) [
-      | inl h ↦ rw (drop-set-lt (b * 256) rows i row h) refl
+    elim (cases_lt i (b * BLOCK)) [
+      | inl h ↦ rw (drop-set-lt (b * BLOCK) rows i row h) refl
       | inr h ↦
-          let place : i ≡ b * 256 + (i - b * 256) = omega arith in
-          let past : 256 ≤ i - b * 256 = omega arith in
-          ap (λ n. block_count (set rows n row) b) place ∙ rw (drop-set-add (b * 256) rows (i - b * 256) row, take-set-le 256 (drop (b * 256) rows) (i - b * 256) row past) refl
+          let place : i ≡ b * BLOCK + (i - b * BLOCK) = omega arith in
+          let past : BLOCK ≤ i - b * BLOCK = omega arith in
+          ap (λ n. block_count (set rows n row) b) place ∙ rw (drop-set-add (b * BLOCK) rows (i - b * BLOCK) row, take-set-le BLOCK (drop (b * BLOCK) rows) (i - b * BLOCK) row past) refl
     ]
 
-pub block_there : (rows : List MapRow) (i : ℕ) → i < length rows → one (is_here (page_at rows i)) ≤ block_count rows (i / 256)
-block_there rows i h = rw (row_in_block rows i) at (counted_there is_here (take 256 (drop (i / 256 * 256) rows)) (i % 256) Untouched (in_block rows i h))
+pub block_there : (rows : List MapRow) (i : ℕ) → i < length rows → one (is_here (page_at rows i)) ≤ block_count rows (i / BLOCK)
+block_there rows i h = rw (row_in_block rows i) at (counted_there is_here (take BLOCK (drop (i / BLOCK * BLOCK) rows)) (i % BLOCK) Untouched (in_block rows i h))
 
-pub block_fits : (rows : List MapRow) (i : ℕ) (row : MapRow) → i < length rows → block_count rows (i / 256) - one (is_here (page_at rows i)) + one (is_here row) < 2 ^ 32
+pub block_fits : (rows : List MapRow) (i : ℕ) (row : MapRow) → i < length rows → block_count rows (i / BLOCK) - one (is_here (page_at rows i)) + one (is_here row) < 2 ^ 32
 block_fits rows i row h =
     let e = block_count-set_same rows i row h in
-    let l = count_by-le-length is_here (take 256 (drop (i / 256 * 256) (set rows i row))) in
-    let m = length-take 256 (drop (i / 256 * 256) (set rows i row)) in
+    let l = count_by-le-length is_here (take BLOCK (drop (i / BLOCK * BLOCK) (set rows i row))) in
+    let m = length-take BLOCK (drop (i / BLOCK * BLOCK) (set rows i row)) in
     omega (arith, e, l, m)
 
-pub map_set : (rows : List MapRow) (blocks : List ℕ) (resident out i count all outside : ℕ) (row : MapRow) → IsMap rows blocks resident out → i < length rows → count ≡ get_or blocks (i / 256) 0 - one (is_here (page_at rows i)) + one (is_here row) → all ≡ resident - one (is_here (page_at rows i)) + one (is_here row) → outside ≡ out - one (is_out (page_at rows i)) + one (is_out row) → IsMap (set rows i row) (set blocks (i / 256) count) all outside
+pub map_set : (rows : List MapRow) (blocks : List ℕ) (resident out i count all outside : ℕ) (row : MapRow) → IsMap rows blocks resident out → i < length rows → count ≡ get_or blocks (i / BLOCK) 0 - one (is_here (page_at rows i)) + one (is_here row) → all ≡ resident - one (is_here (page_at rows i)) + one (is_here row) → outside ≡ out - one (is_out (page_at rows i)) + one (is_out row) → IsMap (set rows i row) (set blocks (i / BLOCK) count) all outside
 map_set rows blocks resident out i count all outside row m h counted alike away = record {
   fits = rw length-set m.fits;
   enough = rw (length-set, length-set) m.enough;
-  each = λ b. elim (cases_eq b (i / 256)) [
+  each = λ b. elim (cases_eq b (i / BLOCK)) [
     | inl e ↦
-        let there : i / 256 < length blocks = omega (arith, m.enough) in
-        rw (e, get_or-set_same blocks (i / 256) count 0 there, counted, m.each (i / 256)) (sym (block_count-set_same rows i row h))
-    | inr ne ↦ rw (get_or-set_other blocks (i / 256) b count 0 ne) (m.each b ∙ sym (block_count-set_other rows i b row ne))
+        let there : i / BLOCK < length blocks = omega (arith, m.enough) in
+        rw (e, get_or-set_same blocks (i / BLOCK) count 0 there, counted, m.each (i / BLOCK)) (sym (block_count-set_same rows i row h))
+    | inr ne ↦ rw (get_or-set_other blocks (i / BLOCK) b count 0 ne) (m.each b ∙ sym (block_count-set_other rows i b row ne))
   ];
   all = alike ∙ (rw m.all (sym (count_by-set is_here rows i row Untouched h)));
   outside = away ∙ (rw m.outside (sym (count_by-set is_out rows i row Untouched h)));
@@ -71,8 +72,8 @@ none_of k = count_by-replicate is_here k Untouched refl
 
 none_in : (k b : ℕ) → block_count (replicate k Untouched) b ≡ 0
 none_in k b =
-    let rest : resident_count (drop (b * 256) (replicate k Untouched)) ≡ 0 = rw (drop-replicate (b * 256) k Untouched) (none_of (k - b * 256)) in
-    let part = sum_by-take-le (λ x. cond (is_here x) 1 0) (drop (b * 256) (replicate k Untouched)) 256 in
+    let rest : resident_count (drop (b * BLOCK) (replicate k Untouched)) ≡ 0 = rw (drop-replicate (b * BLOCK) k Untouched) (none_of (k - b * BLOCK)) in
+    let part = sum_by-take-le (λ x. cond (is_here x) 1 0) (drop (b * BLOCK) (replicate k Untouched)) BLOCK in
     omega (arith, rest, part)
 
 zero_or_past : (n b : ℕ) → get_or {A = ℕ} (replicate n 0) b 0 ≡ 0
@@ -83,7 +84,7 @@ zero_or_past n b =
     ]
 
 -- no page of a new map is in a frame
-pub map_new : (max n : ℕ) → max < 2 ^ 32 → n ≡ div_ceil max 256 → IsMap (replicate max Untouched) (replicate n 0) 0 0
+pub map_new : (max n : ℕ) → max < 2 ^ 32 → n ≡ div_ceil max BLOCK → IsMap (replicate max Untouched) (replicate n 0) 0 0
 map_new max n small e = record {
   fits = rw length-replicate small;
   enough = rw (length-replicate, length-replicate) (omega arith);
@@ -93,25 +94,25 @@ map_new max n small e = record {
 }
 
 -- the counts of the first blocks are those of their pages
-sum_blocks : (rows : List MapRow) (blocks : List ℕ) → ((b : ℕ) → get_or blocks b 0 ≡ block_count rows b) → (b : ℕ) → b ≤ length blocks → sum (take b blocks) ≡ resident_count (take (b * 256) rows)
-sum_blocks rows blocks each zero h = let none : zero * 256 ≡ 0 = omega arith in rw none refl
+sum_blocks : (rows : List MapRow) (blocks : List ℕ) → ((b : ℕ) → get_or blocks b 0 ≡ block_count rows b) → (b : ℕ) → b ≤ length blocks → sum (take b blocks) ≡ resident_count (take (b * BLOCK) rows)
+sum_blocks rows blocks each zero h = let none : zero * BLOCK ≡ 0 = omega arith in rw none refl
 sum_blocks rows blocks each (suc b) h =
     let next : suc b ≡ b + 1 = omega arith in
-    let place : (b + 1) * 256 ≡ b * 256 + 256 = omega arith in
-    rw (next, sum_by_more (λ x. x) blocks b 0 (omega arith), each b, place, take-add (b * 256) 256 rows, sum_by-append (λ x. cond (is_here x) 1 0) (take (b * 256) rows) (take 256 (drop (b * 256) rows)), sum_blocks rows blocks each b (omega arith)) refl
+    let place : (b + 1) * BLOCK ≡ b * BLOCK + BLOCK = omega arith in
+    rw (next, sum_by_more (λ x. x) blocks b 0 (omega arith), each b, place, take-add (b * BLOCK) BLOCK rows, sum_by-append (λ x. cond (is_here x) 1 0) (take (b * BLOCK) rows) (take BLOCK (drop (b * BLOCK) rows)), sum_blocks rows blocks each b (omega arith)) refl
 
 pub sum_all : (rows : List MapRow) (blocks : List ℕ) (resident out : ℕ) → IsMap rows blocks resident out → sum blocks ≡ resident_count rows
 sum_all rows blocks resident out m =
     let e = sum_blocks rows blocks m.each (length blocks) (omega arith) in
-    rw (take_all (length blocks) blocks (omega arith), take_all (length blocks * 256) rows (omega (arith, m.enough))) at e
+    rw (take_all (length blocks) blocks (omega arith), take_all (length blocks * BLOCK) rows (omega (arith, m.enough))) at e
 
 -- a block's rows, cut at the end of the map
-pub block_rows : (rows : List MapRow) (b end : ℕ) → end ≡ min (b * 256 + 256) (length rows) → take (end - b * 256) (drop (b * 256) rows) ≡ take 256 (drop (b * 256) rows)
+pub block_rows : (rows : List MapRow) (b end : ℕ) → end ≡ min (b * BLOCK + BLOCK) (length rows) → take (end - b * BLOCK) (drop (b * BLOCK) rows) ≡ take BLOCK (drop (b * BLOCK) rows)
 block_rows rows b end e =
-    let cut : end - b * 256 ≡ min 256 (length (drop (b * 256) rows)) = rw length-drop (omega arith) in
-    rw cut (take_min 256 (drop (b * 256) rows))
+    let cut : end - b * BLOCK ≡ min BLOCK (length (drop (b * BLOCK) rows)) = rw length-drop (omega arith) in
+    rw cut (take_min BLOCK (drop (b * BLOCK) rows))
 
-pub rest_within : (rows : List MapRow) (blocks : List ℕ) (b rest end : ℕ) → ((b : ℕ) → get_or blocks b 0 ≡ block_count rows b) → end ≡ min (b * 256 + 256) (length rows) → rest < get_or blocks b 0 → rest < resident_count (take (end - b * 256) (drop (b * 256) rows))
+pub rest_within : (rows : List MapRow) (blocks : List ℕ) (b rest end : ℕ) → ((b : ℕ) → get_or blocks b 0 ≡ block_count rows b) → end ≡ min (b * BLOCK + BLOCK) (length rows) → rest < get_or blocks b 0 → rest < resident_count (take (end - b * BLOCK) (drop (b * BLOCK) rows))
 rest_within rows blocks b rest end each e h = rw (block_rows rows b end e, ← each b) h
 
 next_entry : (p : ℕ) (row : MapRow) (rows : List MapRow) (i : ℕ) → get_or (resident_from (p + 1) rows) (resident_count (take i rows)) 0 ≡ p + 1 + i → (t : Bool) → is_here row ≡ t
@@ -135,19 +136,19 @@ pub record IsNth (rows : List MapRow) (k page : ℕ) : Type 0 where
   pub here : is_here (page_at rows page) ≡ true
   pub entry : page ≡ get_or (resident_pages rows) k 0
 
-pub nth_is : (rows : List MapRow) (blocks : List ℕ) (k b rest end at : ℕ) → ((b : ℕ) → get_or blocks b 0 ≡ block_count rows b) → end ≡ min (b * 256 + 256) (length rows) → b < length blocks → sum (take b blocks) + rest ≡ k → at < length (take (end - b * 256) (drop (b * 256) rows)) → is_here (page_at (take (end - b * 256) (drop (b * 256) rows)) at) ≡ true → resident_count (take at (take (end - b * 256) (drop (b * 256) rows))) ≡ rest → IsNth rows k (b * 256 + at)
+pub nth_is : (rows : List MapRow) (blocks : List ℕ) (k b rest end at : ℕ) → ((b : ℕ) → get_or blocks b 0 ≡ block_count rows b) → end ≡ min (b * BLOCK + BLOCK) (length rows) → b < length blocks → sum (take b blocks) + rest ≡ k → at < length (take (end - b * BLOCK) (drop (b * BLOCK) rows)) → is_here (page_at (take (end - b * BLOCK) (drop (b * BLOCK) rows)) at) ≡ true → resident_count (take at (take (end - b * BLOCK) (drop (b * BLOCK) rows))) ≡ rest → IsNth rows k (b * BLOCK + at)
 nth_is rows blocks k b rest end at each e in_blocks before there passes count =
     let cut = block_rows rows b end e in
-    let block = take 256 (drop (b * 256) rows) in
-    let page = b * 256 + at in
+    let block = take BLOCK (drop (b * BLOCK) rows) in
+    let page = b * BLOCK + at in
     let near : at < length block = rw cut at there in
-    let small : at < 256 = let m = rw length-take at near in omega arith in
+    let small : at < BLOCK = let m = rw length-take at near in omega arith in
     let in_range : page < length rows = let m = rw (length-take, length-drop) at near in omega arith in
-    let row : page_at block at ≡ page_at rows page = get_or-take 256 (drop (b * 256) rows) at Untouched small ∙ get_or-drop (b * 256) rows at Untouched in
+    let row : page_at block at ≡ page_at rows page = get_or-take BLOCK (drop (b * BLOCK) rows) at Untouched small ∙ get_or-drop (b * BLOCK) rows at Untouched in
     let here : is_here (page_at rows page) ≡ true = ap is_here (sym row) ∙ rw cut at passes in
-    let part : resident_count (take at (drop (b * 256) rows)) ≡ rest = rw (cut, take-take at 256 (drop (b * 256) rows) (omega arith)) at count in
+    let part : resident_count (take at (drop (b * BLOCK) rows)) ≡ rest = rw (cut, take-take at BLOCK (drop (b * BLOCK) rows) (omega arith)) at count in
     let front : resident_count (take page rows) ≡ k =
-    rw (take-add (b * 256) at rows, sum_by-append (λ x. cond (is_here x) 1 0) (take (b * 256) rows) (take at (drop (b * 256) rows)), ← sum_blocks rows blocks each b (omega arith), part) before in
+    rw (take-add (b * BLOCK) at rows, sum_by-append (λ x. cond (is_here x) 1 0) (take (b * BLOCK) rows) (take at (drop (b * BLOCK) rows)), ← sum_blocks rows blocks each b (omega arith), part) before in
     record {
       in_range = in_range;
       here = here;

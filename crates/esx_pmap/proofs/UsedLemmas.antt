@@ -7,6 +7,7 @@ use Rattle.std.proofs.lemmas.List.Sums.{sum_by-append, sum_by-take-le, count_by-
 use Rattle.esx_types.specs.declared.table.MapRow.{MapRow}
 use Rattle.esx_types.specs.declared.table.MapRow.TheVariants.{Untouched}
 use Rattle.esx_types.specs.Pages.{is_here, resident_from, resident_count}
+use Rattle.esx_pmap.specs.declared.map.TheConstants.{BLOCK}
 use Rattle.esx_pmap.specs.Blocks.{block_count}
 use Rattle.esx_pmap.proofs.GroupLemmas.{count_further}
 use Rattle.esx_pmap.proofs.MapLemmas.{IsNth, none_of}
@@ -27,9 +28,9 @@ used_front used n m =
 
 used_block : (used : List MapRow) (n b : ℕ) → block_count (used ++ replicate n Untouched) b ≡ block_count used b
 used_block used n b =
-    let all = count_further (b * 256) 256 (used ++ replicate n Untouched) in
-    let here = count_further (b * 256) 256 used in
-    omega (arith, all, here, used_front used n (b * 256), used_front used n (b * 256 + 256))
+    let all = count_further (b * BLOCK) BLOCK (used ++ replicate n Untouched) in
+    let here = count_further (b * BLOCK) BLOCK used in
+    omega (arith, all, here, used_front used n (b * BLOCK), used_front used n (b * BLOCK + BLOCK))
 
 pub each_used : (rows used : List MapRow) (blocks : List ℕ) (n : ℕ) → rows ≡ used ++ replicate n Untouched → ((b : ℕ) → get_or blocks b 0 ≡ block_count rows b) → (b : ℕ) → get_or blocks b 0 ≡ block_count used b
 each_used rows used blocks n e each b = each b ∙ (ap (λ all. block_count all b) e ∙ used_block used n b)
@@ -43,10 +44,10 @@ used_pages p [] n = no_pages p n
 used_pages p (row ∷ used) n = ap (λ (rest : List ℕ). if is_here row then p ∷ rest else rest) (used_pages (p + 1) used n)
 
 -- a block with a resident page begins among the rows that were used
-pub begins_within : (used : List MapRow) (blocks : List ℕ) (b rest : ℕ) → ((b : ℕ) → get_or blocks b 0 ≡ block_count used b) → rest < get_or blocks b 0 → b * 256 < length used
+pub begins_within : (used : List MapRow) (blocks : List ℕ) (b rest : ℕ) → ((b : ℕ) → get_or blocks b 0 ≡ block_count used b) → rest < get_or blocks b 0 → b * BLOCK < length used
 begins_within used blocks b rest each h =
-    let few = count_by-le-length is_here (take 256 (drop (b * 256) used)) in
-    let size : length (take 256 (drop (b * 256) used)) ≤ length used - b * 256 = rw (length-take, length-drop) (omega arith) in
+    let few = count_by-le-length is_here (take BLOCK (drop (b * BLOCK) used)) in
+    let size : length (take BLOCK (drop (b * BLOCK) used)) ≤ length used - b * BLOCK = rw (length-take, length-drop) (omega arith) in
     omega (arith, h, each b, few, size)
 
 pub nth_of_all : (rows used : List MapRow) (n k page : ℕ) → rows ≡ used ++ replicate n Untouched → IsNth used k page → IsNth rows k page

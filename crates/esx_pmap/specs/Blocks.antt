@@ -2,7 +2,8 @@
 use Rattle.std.specs.Prelude.{ℕ, ◌*◌, List, drop, take}
 use Rattle.esx_types.specs.declared.table.MapRow.{MapRow}
 use Rattle.esx_types.specs.Pages.{resident_count}
+use Rattle.esx_pmap.specs.declared.map.TheConstants.{BLOCK}
 
--- how many of a block of 256 pages are in a frame
+-- how many of a block of pages are in a frame
 abbrev pub block_count : List MapRow → ℕ → ℕ
-block_count rows b = resident_count (take 256 (drop (b * 256) rows))
+block_count rows b = resident_count (take BLOCK (drop (b * BLOCK) rows))

@@ -1,15 +1,16 @@
 -- What a page map keeps beside its rows.
-use Rattle.std.specs.Prelude.{◌≡◌, ℕ, ◌+◌, ◌/◌, ◌^◌, ◌<◌, ◌≤◌, List, length, slice_index, count_by}
+use Rattle.std.specs.Prelude.{◌≡◌, ℕ, ◌+◌, ◌-◌, ◌/◌, ◌^◌, ◌<◌, ◌≤◌, List, length, slice_index, count_by}
 use Rattle.esx_types.specs.declared.table.MapRow.{MapRow}
 use Rattle.esx_types.specs.Pages.{is_lent, resident_count, out_count, lent_count}
 use Rattle.esx_pmap.specs.declared.loans.Loan.{Loan}
+use Rattle.esx_pmap.specs.declared.map.TheConstants.{BLOCK}
 use Rattle.esx_pmap.specs.Blocks.{block_count}
 use Rattle.esx_pmap.specs.Loans.{AreLoans, lent_in, all_lent}
 
 -- a page's number fits, and the counts are those of the blocks and of all rows
 pub record IsMap (rows : List MapRow) (blocks : List ℕ) (resident out : ℕ) : Type 0 where
   pub fits : length rows < 2 ^ 32
-  pub enough : length blocks ≡ (length rows + 255) / 256
+  pub enough : length blocks ≡ (length rows + (BLOCK - 1)) / BLOCK
   pub each : (b : ℕ) → slice_index blocks b ≡ block_count rows b
   pub all : resident ≡ resident_count rows
   pub outside : out ≡ out_count rows

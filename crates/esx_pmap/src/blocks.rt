@@ -28,7 +28,7 @@ pub fn nth_block(blocks: &[u32], k: u32) -> (usize, u32)
 
 /// How many of a group's rows are of resident pages.
 fn here_count(rows: &[MapRow]) -> u32
-    requires { length rows.now ≤ 16 }
+    requires { length rows.now ≤ GROUP }
     ensures { result ≡ resident_count rows.now }
 {
     let mut count = 0;

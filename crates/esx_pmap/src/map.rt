@@ -124,9 +124,9 @@ impl PageMap {
         self.resident
     }
 
-    /// How many pages of a block of 256 are in a frame.
+    /// How many pages of a block are in a frame.
     pub fn block(&self, block: u32) -> u32
-        requires { block * 256 < length self.now }
+        requires { block * BLOCK < length self.now }
         ensures { result ≡ block_count self.now block }
     {
         self.blocks[block as usize]

@@ -10,28 +10,23 @@ use Rattle.clap.specs.Words.{Text as Word}
 use Rattle.esx_types.specs.declared.config.Config.{Config}
 use Rattle.esx_reading.specs.declared.fault.TextFault.{TextFault}
 use Rattle.esx_reading.specs.declared.fault.TextFault.TheVariants as text
-use Rattle.esx_scenario.specs.Plans.{Plan}
 use Rattle.esx_session.specs.declared.session.Entry.{Entry}
-use Rattle.esx_text.specs.declared.fault.ServeFault.{ServeFault}
+use Rattle.esx_text.specs.States.{SinkState, SourceState}
 use Rattle.esx_check.specs.Replays.{replay_text, write_faults}
 use Rattle.esx_check.specs.declared.fault.OutputFault.{OutputFault}
 use Rattle.esx_check.specs.declared.fault.OutputFault.TheVariants as output
-use Rattle.esx_program.specs.declared.running.RunFault.{RunFault}
 use Rattle.esx_program.specs.declared.words.Asked.{Asked}
 use Rattle.esx_program.specs.declared.words.Asked.TheVariants.{Console, Run as RunOf, Replay, Check}
 use Rattle.esx_program.specs.declared.Done.{Done}
 use Rattle.esx_program.specs.declared.Done.TheVariants.{Served, Ran, Replayed, Checked}
 use Rattle.esx_program.specs.declared.Failure.{Failure}
 use Rattle.esx_program.specs.declared.Failure.TheVariants.{Words, Text, Serve, Output, Run}
-use Rattle.esx_program.specs.Doing.{served_as, ran_as, replayed_as, Does, EndsCheck, EndsConsole, EndsReplay, EndsRun, IsSiteAsked, LacksSite}
+use Rattle.esx_program.specs.Doing.{Does, EndsCheck, LacksSite}
 use Rattle.esx_program.specs.Failing.{MayFail, WantsSession}
-use Rattle.esx_program.specs.Files.{HasScenario, HasSession, HasText, LacksCheck, LacksScenario, LacksSession, Opened}
+use Rattle.esx_program.specs.Files.{HasText, LacksCheck, LacksScenario, LacksSession, Opened}
 use Rattle.esx_program.specs.Given.{open_fault}
-use Rattle.esx_program.specs.Runs.{Plays, RunStops}
-use Rattle.esx_program.specs.Sessions.{GivenOut, ReplayEnds}
-use Rattle.esx_program.specs.States.{SinkState, SourceState}
+use Rattle.esx_program.specs.Sessions.{GivenOut, IsNotReplayed, IsReplayed, ReplayEnds}
 use Rattle.esx_program.specs.Status.{TellsCheck, TellsNoCheck, word_of_done}
-use Rattle.esx_program.specs.Streams.{IsServed}
 use Rattle.esx_program.specs.Words.{asked_of}
 use Rattle.esx_program.proofs.FileLemmas.{text_refused}
 use Rattle.esx_program.proofs.SessionLemmas.{faults_of}
@@ -156,37 +151,24 @@ module _ (read : Opened) (out out' : SinkState) (bytes : List ℕ) (here : HasTe
   file_checked (Ok done) ok fault = checked_done done ok
   file_checked (Err failure) ok fault = not_checked failure fault
 
--- the site that is asked for was served
-pub console_ends : (file : Option Opened) (site : Config) (unread left : SourceState) (out out' : SinkState) (r : Result ℕ ServeFault)
-    → IsSiteAsked file site → IsServed site r unread left out out' → EndsConsole file (served_as r) unread left out out'
-console_ends file site unread left out out' (Ok n) here served = (site, here, n, served)
-console_ends file site unread left out out' (Err e) here served = (site, here, served)
+-- a session was gone through again, or not to its end
+pub replayed : (site : Config) (entries : List Entry) (out out' : SinkState) (r : Result (Unit {0}) OutputFault)
+    → OnOk r (Appends out.contents out'.contents (replay_text site entries)) → out'.failures ≡ out.failures + write_faults r
+    → out'.flushes + write_faults r ≡ out.flushes + 1 → ((IsErrOf r output.Write → ⊥) → out'.waiting ≡ []) → OnOk r (IsReplayed site entries out out')
+replayed site entries out out' (Ok done) told failures flushes sent =
+    record { told = told; failures = omega (arith, failures); flushes = omega (arith, flushes); sent = sent (λ h. cc) }
+replayed site entries out out' (Err e) told failures flushes sent = tt
 
--- the scenario of a file was run
-pub run_ends : (read : Opened) (plan : Plan) (errors errors' out out' : SinkState) (r : Result (Unit {0}) RunFault)
-    → HasScenario read plan → OnOk r (Plays plan errors errors' out out') → IfErr r (λ e. RunStops e plan errors errors' out out')
-    → EndsRun read (ran_as r) errors errors' out out'
-run_ends read plan errors errors' out out' (Ok done) here ok fault = (plan, here, ok)
-run_ends read plan errors errors' out out' (Err e) here ok fault = (plan, here, fault)
-
--- the session of a file was gone through again
-pub replay_ends : (read : Opened) (site : Config) (entries : List Entry) (out out' : SinkState) (r : Result (Unit {0}) OutputFault)
-    → HasSession read site entries → OnOk r (Appends out.contents out'.contents (replay_text site entries))
+pub not_replayed : (site : Config) (entries : List Entry) (out out' : SinkState) (r : Result (Unit {0}) OutputFault)
     → IfErr r (λ e. (taken : Option (List ℕ)) × ReplayEnds e site entries out.contents taken × GivenOut e taken out'.contents)
     → out'.failures ≡ out.failures + write_faults r → out'.flushes + write_faults r ≡ out.flushes + 1 → ((IsErrOf r output.Write → ⊥) → out'.waiting ≡ [])
-    → EndsReplay read (replayed_as r) out out'
-replay_ends read site entries out out' (Ok done) here ok fault failures flushes sent =
-    (site, entries, here, record { told = ok; failures = omega (arith, failures); flushes = omega (arith, flushes); sent = sent (λ h. cc) })
-replay_ends read site entries out out' (Err e) here ok fault failures flushes sent = (
-  site,
-  entries,
-  here,
-  record {
-    taken = fault.0;
-    ends = fault.1;
-    given = fault.2;
-    failures = rw (faults_of e) at failures;
-    flushes = rw (faults_of e) at flushes;
-    sent = λ other. sent (λ h. other (cc));
-  },
-)
+    → IfErr r (λ e. IsNotReplayed e site entries out out')
+not_replayed site entries out out' (Ok done) stops failures flushes sent = tt
+not_replayed site entries out out' (Err e) stops failures flushes sent = record {
+  taken = stops.0;
+  ends = stops.1;
+  given = stops.2;
+  failures = rw (faults_of e) at failures;
+  flushes = rw (faults_of e) at flushes;
+  sent = λ other. sent (λ h. other (cc));
+}

@@ -1,16 +1,17 @@
 -- What a file that was opened and read comes to.
 use Rattle.std.proofs.Common.{◌≡◌, ◌⊎◌, inl, inr, ℕ, List, Result, Ok, Err, refl}
-use Rattle.std.specs.Prelude.{◌+◌, ◌^◌, ◌≤◌, length, IsUtf8}
+use Rattle.std.specs.Prelude.{◌+◌, ◌≤◌, length, IsUtf8}
 use Rattle.std.specs.Io.KnownBytes.{Consumes}
 use Rattle.std.specs.Result.{IfErr, IfOk, IsErrOf, OnOk}
 use Rattle.esx_reading.specs.declared.fault.TextFault.{TextFault}
 use Rattle.esx_reading.specs.declared.fault.TextFault.TheVariants.{NotToml, BadKey, BadLine, NotText, Differs, Read, Write, OutOfMemory}
+use Rattle.esx_reading.specs.declared.whole.TheConstants.{READS}
 use Rattle.esx_reading.specs.Whole.{GivesMore, GivesOn, GivesWhole, IsOfText}
 use Rattle.esx_scenario.specs.Scenarios.{IsRefused as IsNoPlan}
 use Rattle.esx_session.specs.Reading.{GoesPastOpening}
 use Rattle.esx_session.specs.Sessions.{HasOpening, IsRefused}
+use Rattle.esx_text.specs.States.{SourceState}
 use Rattle.esx_program.specs.Files.{FailsToRead, HasText, IsNoCheck, IsNoScenario, IsNoSession, IsNoText, IsTextRead, LacksCheck, LacksText, Opened, ReadsPieces}
-use Rattle.esx_program.specs.States.{SourceState}
 
 module _ (old new : SourceState) (pieces : ReadsPieces old new) where
   no_text_of : (e : TextFault) → IsOfText e
@@ -40,7 +41,7 @@ module _ (old new : SourceState) (pieces : ReadsPieces old new) where
   pub no_text : {T : Type 0} (r : Result T TextFault) → IfErr r IsOfText
       → (IsErrOf r NotText → (bytes : List ℕ) × GivesWhole old.remaining new.remaining bytes × (IsUtf8 bytes → ⊥) × (new.calls ≤ old.calls + length bytes + 1))
       → (IsErrOf r Read → (new.failures ≡ old.failures + 1)
-      ⊎ ((new.failures ≡ old.failures) × ((new.calls ≡ old.calls + 2 ^ 26) ⊎ GivesMore old.remaining new.remaining)))
+      ⊎ ((new.failures ≡ old.failures) × ((new.calls ≡ old.calls + READS) ⊎ GivesMore old.remaining new.remaining)))
       → (IsErrOf r Read → (bytes : List ℕ) × Consumes old.remaining new.remaining bytes × (new.calls ≤ old.calls + length bytes + 1))
       → (IsErrOf r OutOfMemory → GivesOn old.remaining new.remaining old.calls new.calls)
       → ((IsErrOf r Read → ⊥) → new.failures ≡ old.failures)

@@ -7,11 +7,15 @@ use Rattle.std.specs.Io.KnownBytes.{Appends, Keeps, append_known}
 use Rattle.esx_types.specs.Ends.{write_failures}
 use Rattle.esx_writing.specs.Writing.{Writes}
 use Rattle.std.proofs.lemmas.Grind.{common_steps}
+use Rattle.esx_types.specs.declared.config.Config.{Config}
 use Rattle.esx_model.specs.Console.{Session}
 use Rattle.esx_text.specs.declared.fault.ServeFault.{ServeFault}
 use Rattle.esx_text.specs.declared.fault.ServeFault.TheVariants.{Read, Write, OutOfMemory}
 use Rattle.esx_text.specs.Answers.{Answers, EndsEarly}
-use Rattle.esx_program.specs.Streams.{ComesOut, Sends}
+use Rattle.esx_text.specs.States.{LeavesStreams, SinkState, SourceState}
+use Rattle.esx_program.specs.declared.outgoing.TheConstants.{ROOM}
+use Rattle.esx_program.specs.Site.{at_opening}
+use Rattle.esx_program.specs.Streams.{ComesOut, IsServed, Sends}
 
 pub appends_nothing : (a : Option (List ℕ)) → Appends a a []
 appends_nothing None = tt
@@ -67,6 +71,10 @@ pub appends_known : (a : Option (List ℕ)) (waits : List ℕ) → Appends a (ap
 appends_known None waits = tt
 appends_known (Some xs) waits = refl
 
+first_none : (xs ys : List ℕ) → xs ++ ys ≡ [] → xs ≡ []
+first_none [] ys e = refl
+first_none (x ∷ xs) ys e = absurd (cc)
+
 pub second_none : (xs ys : List ℕ) → xs ++ ys ≡ [] → ys ≡ []
 second_none [] ys e = e
 second_none (x ∷ xs) ys e = absurd (cc)
@@ -81,16 +89,16 @@ pub took_some : {E : Type 0} (given n m k : ℕ) (r : Result ℕ E) → r ≡ Ok
 took_some given n m k r is some e = let f = rw is at e in grind (arith, common_steps)
 
 -- with room, none is taken only of none
-pub took_all : (given count held : ℕ) → held < 65536 → count ≡ min given (65536 - held) → ◌≡◌ {A = ℕ} (if nat_lt 0 given && (count == 0) then 1 else 0) 0
+pub took_all : (given count held : ℕ) → held < ROOM → count ≡ min given (ROOM - held) → ◌≡◌ {A = ℕ} (if nat_lt 0 given && (count == 0) then 1 else 0) 0
 took_all given count held room is = grind (arith, common_steps)
 
-pub comes_out_whole : (fault : ServeFault) (a : Option (List ℕ)) → ComesOut fault a a
+comes_out_whole : (fault : ServeFault) (a : Option (List ℕ)) → ComesOut fault a a
 comes_out_whole Read a = refl
 comes_out_whole Write a = ([], appends_nothing a)
 comes_out_whole OutOfMemory a = refl
 
 -- with nothing waiting at both ends of a run
-pub comes_out : (fault : ServeFault) (caller : ℕ) (session : Session) (unread left : Option (List ℕ)) (calls calls' : ℕ) (a b : Option (List ℕ)) (first last : List ℕ)
+comes_out : (fault : ServeFault) (caller : ℕ) (session : Session) (unread left : Option (List ℕ)) (calls calls' : ℕ) (a b : Option (List ℕ)) (first last : List ℕ)
     → first ≡ [] → ((fault ≡ Write → ⊥) → last ≡ [])
     → (after : Session) × EndsEarly fault caller session after unread left calls calls' (append_known a first) (append_known b last)
     → (after : Session) × (taken : Option (List ℕ)) × EndsEarly fault caller session after unread left calls calls' a taken × ComesOut fault taken b
@@ -101,17 +109,54 @@ comes_out Write caller session unread left calls calls' a b first last e f (afte
 comes_out OutOfMemory caller session unread left calls calls' a b first last e f (after, s) =
     (after, b, rw (none_wait a first e) at (rw (none_wait b last (f (λ h. cc))) at s), refl)
 
-pub fault_comes_out : (r : Result ℕ ServeFault) (caller : ℕ) (session : Session) (unread left : Option (List ℕ)) (calls calls' : ℕ) (a b : Option (List ℕ)) (first last : List ℕ)
+fault_comes_out : (r : Result ℕ ServeFault) (caller : ℕ) (session : Session) (unread left : Option (List ℕ)) (calls calls' : ℕ) (a b : Option (List ℕ)) (first last : List ℕ)
     → first ≡ [] → ((IsErrOf r Write → ⊥) → last ≡ [])
     → IfErr r (λ e. (after : Session) × EndsEarly e caller session after unread left calls calls' (append_known a first) (append_known b last))
     → IfErr r (λ e. (after : Session) × (taken : Option (List ℕ)) × EndsEarly e caller session after unread left calls calls' a taken × ComesOut e taken b)
 fault_comes_out (Ok n) caller session unread left calls calls' a b first last e f s = tt
 fault_comes_out (Err d) caller session unread left calls calls' a b first last e f s = comes_out d caller session unread left calls calls' a b first last e (λ other. f (λ h. other (cc))) s
 
-pub answers_come_out : (r : Result ℕ ServeFault) (caller : ℕ) (session : Session) (unread left : Option (List ℕ)) (a b : Option (List ℕ)) (first last : List ℕ)
+answers_come_out : (r : Result ℕ ServeFault) (caller : ℕ) (session : Session) (unread left : Option (List ℕ)) (a b : Option (List ℕ)) (first last : List ℕ)
     → first ≡ [] → ((IsErrOf r Write → ⊥) → last ≡ [])
     → IfOk r (λ n. (after : Session) × Answers caller n session after unread left (append_known a first) (append_known b last))
     → IfOk r (λ n. (after : Session) × Answers caller n session after unread left a b)
 answers_come_out (Ok n) caller session unread left a b first last e f (after, s) =
     (after, rw (none_wait a first e) at (rw (none_wait b last (f (λ h. cc))) at s))
 answers_come_out (Err d) caller session unread left a b first last e f s = tt
+
+-- a sink, and what waits before it
+abbrev buffered : SinkState → List ℕ → SinkState
+buffered out waits = record { contents = append_known out.contents waits; waiting = out.waiting ++ waits; failures = out.failures; flushes = out.flushes }
+
+-- a site was served through a buffer
+pub served_through : (r : Result ℕ ServeFault) (site : Config) (unread left : SourceState) (out out' : SinkState) (first last : List ℕ) → first ≡ []
+    → IfOk r (λ n. (after : Session) × Answers 0 n (at_opening site) after unread.remaining left.remaining (append_known out.contents first) (append_known out'.contents last))
+    → IfErr r (λ e. (after : Session) × EndsEarly e 0 (at_opening site) after unread.remaining left.remaining unread.calls left.calls
+    (append_known out.contents first) (append_known out'.contents last))
+    → LeavesStreams r unread left (buffered out first) (buffered out' last) → IsServed site r unread left out out'
+served_through r site unread left out out' first last none ok fault s =
+    let sent : (IsErrOf r Write → ⊥) → last ≡ [] = λ h. second_none out'.waiting last (s.sent h) in
+    record {
+      ok = answers_come_out r 0 (at_opening site) unread.remaining left.remaining out.contents out'.contents first last none sent ok;
+      fault = fault_comes_out r 0 (at_opening site) unread.remaining left.remaining unread.calls left.calls out.contents out'.contents first last none sent fault;
+      streams = record {
+        found = s.found;
+        not_found = s.not_found;
+        ends = s.ends;
+        reads = s.reads;
+        pieces = s.pieces;
+        each = s.each;
+        read = s.read;
+        no_read_fault = s.no_read_fault;
+        write = s.write;
+        flushes = s.flushes;
+        sent = λ h. first_none out'.waiting last (s.sent h);
+      };
+    }
+
+-- there was no memory for the buffer
+pub served_at_once : (e : ServeFault) (site : Config) (unread : SourceState) (out out' : SinkState)
+    → EndsEarly e 0 (at_opening site) (at_opening site) unread.remaining unread.remaining unread.calls unread.calls out.contents out'.contents
+    → LeavesStreams (Err e) unread unread out out' → IsServed site (Err e) unread unread out out'
+served_at_once e site unread out out' early s =
+    record { ok = tt; fault = (at_opening site, out'.contents, early, comes_out_whole e out'.contents); streams = s }

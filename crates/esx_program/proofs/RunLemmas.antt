@@ -18,13 +18,13 @@ use Rattle.esx_work.specs.Runs.{RunsOn}
 use Rattle.esx_work.specs.Sites.{IsRunOf}
 use Rattle.esx_writing.specs.Writing.{Writes, WritesFront, sink_faults}
 use Rattle.esx_session.specs.Sessions.{session_text, logged}
+use Rattle.esx_text.specs.States.{SinkState}
 use Rattle.esx_program.specs.declared.ends.Ending.{Ending}
 use Rattle.esx_program.specs.declared.ends.Name.{Name}
 use Rattle.esx_program.specs.declared.running.RunFault.{RunFault}
 use Rattle.esx_program.specs.declared.running.RunFault.TheVariants.{Refused, Write, OutOfMemory}
 use Rattle.esx_program.specs.Ends.{endings, ending_text, workers_named}
 use Rattle.esx_program.specs.Runs.{AreTold, IsPlayed, IsRefusedOpening, NotPlayed, Plays, RunStops, StopsTelling, fault_of, told_session, written_as}
-use Rattle.esx_program.specs.States.{SinkState}
 use Rattle.esx_program.proofs.OutgoingLemmas.{appends_known, none_wait, second_none, writes_kept}
 
 -- the session of a console, whose site and log are told

@@ -5,6 +5,7 @@ use Rattle.std.specs.Result.{IfErr, IfOk}
 use Rattle.std.specs.declared.io.Error.{Error}
 use Rattle.clap.specs.Words.{Text as Word}
 use Rattle.esx_reading.specs.declared.fault.TextFault.TheVariants as text
+use Rattle.esx_text.specs.States.{SinkState, SourceState}
 use Rattle.esx_program.specs.declared.words.Asked.{Asked}
 use Rattle.esx_program.specs.declared.Done.{Done}
 use Rattle.esx_program.specs.declared.Failure.{Failure}
@@ -12,7 +13,6 @@ use Rattle.esx_program.specs.declared.Failure.TheVariants.{Words, Text, Serve, O
 use Rattle.esx_program.specs.Doing.{Does, DoesOver}
 use Rattle.esx_program.specs.Failing.{MayFail}
 use Rattle.esx_program.specs.Files.{AreLeft, IsFile, IsLeft, IsSame, MayBeLeft, Opened}
-use Rattle.esx_program.specs.States.{SinkState, SourceState}
 use Rattle.esx_program.specs.Status.{word_of_done}
 use Rattle.esx_program.specs.Words.{AskAlike, MayBe, asked_of}
 use Rattle.esx_program.proofs.DoingLemmas.{does_fail, does_word}

@@ -5,15 +5,14 @@ use Rattle.std.specs.Vec.Iter.{into_iter_items}
 use Rattle.std.specs.declared.io.Error.{Error}
 use Rattle.clap.specs.Words.{Text as Word, takes}
 use Rattle.esx_types.specs.declared.config.Config.{Config}
+use Rattle.esx_types.specs.declared.config.TheConstants.{MAX_NODES}
 use Rattle.esx_reading.specs.declared.fault.TextFault.{TextFault}
 use Rattle.esx_reading.specs.declared.fault.TextFault.TheVariants as text
 use Rattle.esx_scenario.specs.Plans.{Plan}
 use Rattle.esx_session.specs.declared.session.Entry.{Entry}
-use Rattle.esx_text.specs.declared.fault.ServeFault.{ServeFault}
+use Rattle.esx_text.specs.States.{SourceState, SinkState}
 use Rattle.esx_check.specs.Checks.{ChecksText}
 use Rattle.esx_check.specs.declared.check.Checked.{Checked as Outcome}
-use Rattle.esx_check.specs.declared.fault.OutputFault.{OutputFault}
-use Rattle.esx_program.specs.declared.running.RunFault.{RunFault}
 use Rattle.esx_program.specs.declared.words.Asked.{Asked}
 use Rattle.esx_program.specs.declared.words.Asked.TheVariants as asked
 use Rattle.esx_program.specs.declared.Done.{Done}
@@ -25,13 +24,12 @@ use Rattle.esx_program.specs.Files.{Opened, IsFile, HasScenario, HasSession, Has
 use Rattle.esx_program.specs.Given.{Args}
 use Rattle.esx_program.specs.Runs.{Plays, RunStops}
 use Rattle.esx_program.specs.Sessions.{IsTold, IsNotTold, IsReplayed, IsNotReplayed}
-use Rattle.esx_program.specs.States.{SourceState, SinkState}
 use Rattle.esx_program.specs.Streams.{IsServed}
 use Rattle.esx_program.specs.Words.{AskAlike, asked_in, program_app, word_and_file}
 
 -- the program's own site
 abbrev pub own_site : Config
-own_site = record { frames = 20; page = 16; slots = 8; tau = 75; high = 6; soft = 4; hard = 2; low = 1; nodes = 16777216 }
+own_site = record { frames = 20; page = 16; slots = 8; tau = 75; high = 6; soft = 4; hard = 2; low = 1; nodes = MAX_NODES }
 
 -- the site of the scenario in a file, or the program's own where no file is named
 abbrev pub IsSiteAsked : Option Opened → Config → Type 0
@@ -42,19 +40,6 @@ IsSiteAsked (Some read) site = (plan : Plan) × HasScenario read plan × (site �
 abbrev pub LacksSite : Option Opened → TextFault → Type 0
 LacksSite None e = ⊥
 LacksSite (Some read) e = LacksScenario read e
-
--- how the program ends with a console, a run and a replay
-abbrev pub served_as : Result ℕ ServeFault → Result Done Failure
-served_as (Ok count) = Ok Served
-served_as (Err e) = Err (Serve e)
-
-abbrev pub ran_as : Result (Unit {0}) RunFault → Result Done Failure
-ran_as (Ok done) = Ok Ran
-ran_as (Err e) = Err (Run e)
-
-abbrev pub replayed_as : Result (Unit {0}) OutputFault → Result Done Failure
-replayed_as (Ok done) = Ok Replayed
-replayed_as (Err e) = Err (Output e)
 
 -- A console ends: all input was answered at that site, or it was served up to a fault. Or the file that is named has no site, and nothing was read or written.
 abbrev pub EndsConsole : Option Opened → Result Done Failure → SourceState → SourceState → SinkState → SinkState → Type 0

@@ -1,10 +1,11 @@
 -- Files as they were opened and read.
-use Rattle.std.specs.Prelude.{◌≡◌, ◌⊎◌, ℕ, ◌+◌, ◌^◌, ◌≤◌, List, length, Option, Some, None, Result, Ok, Err, IsUtf8}
+use Rattle.std.specs.Prelude.{◌≡◌, ◌⊎◌, ℕ, ◌+◌, ◌≤◌, List, length, Option, Some, None, Result, Ok, Err, IsUtf8}
 use Rattle.std.specs.IoError.{error_kind}
 use Rattle.std.specs.declared.io.Error.{Error}
 use Rattle.esx_types.specs.declared.config.Config.{Config}
 use Rattle.esx_reading.specs.declared.fault.TextFault.{TextFault}
 use Rattle.esx_reading.specs.declared.fault.TextFault.TheVariants.{NotToml, BadKey, BadLine, NotText, Read, OutOfMemory}
+use Rattle.esx_reading.specs.declared.whole.TheConstants.{READS}
 use Rattle.esx_reading.specs.Whole.{AskForPieces, GivesMore, GivesOn, GivesWhole}
 use Rattle.esx_scenario.specs.Plans.{Plan}
 use Rattle.esx_scenario.specs.Scenarios.{IsScenario, IsRefused as IsNoPlan}
@@ -13,14 +14,14 @@ use Rattle.esx_session.specs.declared.session.Request.{Request}
 use Rattle.esx_session.specs.Reading.{GoesPastOpening}
 use Rattle.esx_session.specs.Sessions.{HasOpening, IsRefused, Reads, ReadsScript}
 use Rattle.esx_text.specs.Answers.{ReadsOn}
+use Rattle.esx_text.specs.States.{SourceState}
 use Rattle.esx_program.specs.Given.{open_fault}
-use Rattle.esx_program.specs.States.{SourceState}
 use Rattle.esx_program.specs.Words.{asked_of}
 use Rattle.esx_program.specs.declared.words.Asked.{Asked}
 
--- there were at most 2^26 reads, of 65,536 bytes each
+-- there were at most `READS` reads, of `CHUNK` bytes each
 abbrev pub ReadsPieces : SourceState → SourceState → Type 0
-ReadsPieces old new = (new.calls ≤ old.calls + 2 ^ 26) × AskForPieces old.calls new.calls old.asked new.asked
+ReadsPieces old new = (new.calls ≤ old.calls + READS) × AskForPieces old.calls new.calls old.asked new.asked
 
 -- All bytes of a file were read, and no read failed. There was at most one read more than bytes, and one alone found the end.
 pub record IsRead (old new : SourceState) (bytes : List ℕ) : Type 0 where
@@ -34,10 +35,10 @@ pub record IsRead (old new : SourceState) (bytes : List ℕ) : Type 0 where
 abbrev pub IsTextRead : SourceState → SourceState → List ℕ → Type 0
 IsTextRead old new text = IsRead old new text × IsUtf8 text
 
--- A read failed, or none of 2^26 found the end, or there were more bytes than a file may have. No read found the end.
+-- A read failed, or none of `READS` found the end, or there were more bytes than a file may have. No read found the end.
 pub record FailsToRead (old new : SourceState) : Type 0 where
   pub cause : (new.failures ≡ old.failures + 1)
-      ⊎ ((new.failures ≡ old.failures) × ((new.calls ≡ old.calls + 2 ^ 26) ⊎ GivesMore old.remaining new.remaining))
+      ⊎ ((new.failures ≡ old.failures) × ((new.calls ≡ old.calls + READS) ⊎ GivesMore old.remaining new.remaining))
   pub not_found : new.empty_reads ≡ old.empty_reads
   pub each : ReadsOn old.remaining new.remaining old.calls new.calls
   pub pieces : ReadsPieces old new

@@ -12,8 +12,8 @@ use Rattle.esx_work.specs.Runs.{RunsOn}
 use Rattle.esx_work.specs.Sites.{IsRunOf}
 use Rattle.esx_writing.specs.Writing.{Writes, WritesFront, sink_faults}
 use Rattle.esx_session.specs.Sessions.{session_text, logged}
+use Rattle.esx_text.specs.States.{SinkState}
 use Rattle.esx_program.specs.Ends.{ends_text}
-use Rattle.esx_program.specs.States.{SinkState}
 use Rattle.esx_program.specs.declared.running.RunFault.{RunFault}
 use Rattle.esx_program.specs.declared.running.RunFault.TheVariants.{Refused, Write, OutOfMemory}
 use Rattle.esx_opening.specs.declared.opening.SiteFault.{SiteFault}

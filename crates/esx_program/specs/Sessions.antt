@@ -4,13 +4,13 @@ use Rattle.std.specs.Io.KnownBytes.{Appends}
 use Rattle.esx_types.specs.declared.config.Config.{Config}
 use Rattle.esx_writing.specs.Writing.{WritesFront}
 use Rattle.esx_session.specs.declared.session.Entry.{Entry}
+use Rattle.esx_text.specs.States.{SinkState}
 use Rattle.esx_check.specs.declared.check.Checked.{Checked}
 use Rattle.esx_check.specs.declared.check.Checked.TheVariants.{Same, Differs}
 use Rattle.esx_check.specs.declared.fault.OutputFault.{OutputFault}
 use Rattle.esx_check.specs.declared.fault.OutputFault.TheVariants as output
 use Rattle.esx_check.specs.Checks.{checked_text}
 use Rattle.esx_check.specs.Replays.{ReplayStops, replay_text}
-use Rattle.esx_program.specs.States.{SinkState}
 
 -- the line of what a check came to was written, nothing failed, and after one flush nothing waits
 pub record IsTold (checked : Checked) (out out' : SinkState) : Type 0 where

@@ -2,6 +2,7 @@
 use Rattle.std.specs.Prelude.{◌≡◌, ℕ, List, Result, Ok, Err, codes}
 use Rattle.esx_reading.specs.declared.fault.TextFault.TheVariants as text
 use Rattle.esx_text.specs.declared.fault.ServeFault.TheVariants.{Read, Write, OutOfMemory}
+use Rattle.esx_text.specs.States.{SinkState}
 use Rattle.esx_session.specs.Sessions.{HasOpening, IsRefused}
 use Rattle.esx_check.specs.Checks.{ChecksText}
 use Rattle.esx_check.specs.declared.check.Checked.{Checked as Outcome}
@@ -14,7 +15,6 @@ use Rattle.esx_program.specs.declared.Done.TheVariants.{Served, Ran, Replayed, C
 use Rattle.esx_program.specs.declared.Failure.{Failure}
 use Rattle.esx_program.specs.declared.Failure.TheVariants.{Words, Text, Serve, Output, Run}
 use Rattle.esx_program.specs.Sessions.{IsTold, IsNotTold, check_status}
-use Rattle.esx_program.specs.States.{SinkState}
 
 -- 1 where a file or an opening was refused, or it could not read or write; 2 where it was given wrong words; 3 where memory ran out
 abbrev pub status_of : Failure → ℕ

@@ -4,9 +4,9 @@ ghost use Rattle.std.specs.Prelude.{◌≡◌, ℕ, List, string_bytes, IfOk, If
 ghost use Rattle.esx_types.specs.Ranges.{IsConfig};
 ghost use Rattle.esx_scenario.specs.Scenarios.{IsScenario};
 ghost use Rattle.esx_session.specs.Sessions.{ReadsScript};
+ghost use Rattle.esx_text.specs.States.{source_state};
 ghost use Rattle.esx_program.specs.Files.{Opened, IsLeft, IsNoScenario, IsNoSession, IsNoText, IsTextRead, HasScenario, HasScript, HasText, LacksScenario, LacksSession, LacksText};
 ghost use Rattle.esx_program.specs.Given.{open_fault};
-ghost use Rattle.esx_program.specs.States.{source_state};
 
 use esx_reading::{TextFault, read_text};
 use esx_scenario::{Scenario, parse_scenario};

@@ -22,24 +22,26 @@ mod standard;
 mod streams;
 mod words;
 
-pub use commands::{Ended, Streams};
 use esx_check::{Checked, OutputFault};
 use esx_reading::TextFault;
 use esx_text::ServeFault;
-use esx_types::Config;
+use esx_types::{Config, MAX_NODES};
 pub use running::RunFault;
 pub use session::check_watched;
 use session::status_of_check;
 pub use site::serve_site;
 use standard::opened;
-pub use standard::run_over;
+pub use standard::run_counted;
 use std::alloc::{AllocGlobal, Global};
 use std::env::{self, Args, Env};
 use std::io::{self, Eprint, ErrorKind, Input, IsTerminal, Print, Read, Stderr, Write};
+use std::marker::Brand;
 use std::process::ExitCode;
 use std::rt::Files;
 use std::sync::Wait;
+use std::sync::ledger::Blank;
 use std::thread::Threads;
+pub use streams::{Ended, Streams};
 use thiserror::Error;
 pub use words::{Asked, WordsFault, asked_of_words};
 
@@ -53,7 +55,7 @@ pub const SITE: Config = Config {
     soft: 4,
     hard: 2,
     low: 1,
-    nodes: 16777216,
+    nodes: MAX_NODES,
 };
 
 /// Why the program ends otherwise than well.
@@ -173,7 +175,16 @@ pub fn run_words<
         (E.contents streams.errors) (E.contents result.streams.errors) (W.contents streams.writer) (W.contents result.streams.writer) }
 {
     match asked_of_words(rt.alloc(), words) {
-        Ok(asked) => run_over(rt, opened(rt, asked), to, streams),
+        Ok(asked) => run_counted::<_, _, _, _, _, _, Brand, Brand, Brand, Brand>(
+            rt,
+            opened(rt, asked),
+            to,
+            streams,
+            Blank::new(4),
+            Blank::new(4),
+            Blank::new(4),
+            Blank::new(4),
+        ),
         Err(fault) => Ended {
             ended: Err(failure_of_words(fault)),
             streams,

@@ -24,12 +24,13 @@ pub struct Waiting {
 
 impl Model for Waiting {
     ghost use Rattle.std.specs.Prelude.{List, ℕ, ◌≤◌, vec_len, vec_capacity};
+    ghost use Rattle.esx_program.specs.declared.outgoing.TheConstants.{ROOM};
 
     ghost Value = { List ℕ };
 
     ghost view = { λ w. w.bytes.items };
 
-    ghost invariant = { λ w. (vec_len w.bytes ≤ 65536) × (65536 ≤ vec_capacity w.bytes) };
+    ghost invariant = { λ w. (vec_len w.bytes ≤ ROOM) × (ROOM ≤ vec_capacity w.bytes) };
 }
 
 impl Waiting {
@@ -42,7 +43,7 @@ impl Waiting {
     }
 
     fn is_full(&self) -> bool
-        ensures { IsTrue result ↔ (65536 ≤ length self.now) }
+        ensures { IsTrue result ↔ (ROOM ≤ length self.now) }
     {
         self.bytes.len() == ROOM
     }
@@ -55,7 +56,7 @@ impl Waiting {
 
     /// Adds a front of the bytes, as long as there is room for. It takes no memory.
     fn add(&mut self, bytes: &[u8]) -> usize
-        ensures count { result ≡ min (length bytes.now) (65536 - length self.old) }
+        ensures count { result ≡ min (length bytes.now) (ROOM - length self.old) }
         ensures added { self.new ≡ self.old ++ take result bytes.now }
     {
         let count = bytes.len().min(ROOM - self.bytes.len());
@@ -95,8 +96,8 @@ fn send<W: Sink>(sink: &mut W, waiting: &mut Waiting) -> Result<(), SinkFailed>
 /// Writes what waits where there is no more room.
 fn make_room<W: Sink>(sink: &mut W, waiting: &mut Waiting) -> Result<(), SinkFailed>
     ensures bytes { Sends (W.contents sink.old) (W.contents sink.new) waiting.old waiting.new }
-    ensures room { OnOk result (length waiting.new < 65536) }
-    ensures still { length waiting.old < 65536 → (sink.new ≡ sink.old) × (waiting.new ≡ waiting.old) }
+    ensures room { OnOk result (length waiting.new < ROOM) }
+    ensures still { length waiting.old < ROOM → (sink.new ≡ sink.old) × (waiting.new ≡ waiting.old) }
     ensures failures { W.failures sink.new ≡ W.failures sink.old + call_failures result }
     ensures flushes { W.flushes sink.new ≡ W.flushes sink.old }
 {
@@ -159,7 +160,7 @@ impl<W: Sink + Drop, L: Ledger> Sink for Outgoing<W, L> {
         ensures flushes { W.flushes self.new.sink ≡ W.flushes self.old.sink }
 
         // While there is room the bytes wait, and nothing is written.
-        ensures waits { length self.old.waiting < 65536 → self.new.sink ≡ self.old.sink }
+        ensures waits { length self.old.waiting < ROOM → self.new.sink ≡ self.old.sink }
     {
         self.counts.count_done();
         make_room(&mut self.sink, &mut self.waiting)?;

@@ -8,9 +8,9 @@ ghost use Rattle.esx_opening.specs.Orders.{in_order};
 ghost use Rattle.esx_opening.specs.declared.opening.SiteFault.TheVariants as faults;
 ghost use Rattle.esx_workers.specs.declared.end.End.{End};
 ghost use Rattle.esx_writing.specs.Writing.{Writes, WritesFront, sink_faults};
+ghost use Rattle.esx_text.specs.States.{sink_state};
 ghost use Rattle.esx_program.specs.Ends.{ending_text, endings, workers_named};
 ghost use Rattle.esx_program.specs.Runs.{IsPlayed, IsRefusedOpening, NotPlayed, Plays, RunStops, StopsTelling, told_session, written_as};
-ghost use Rattle.esx_program.specs.States.{sink_state};
 
 use crate::ends::{Ending, endings_of, names_of, write_endings};
 use crate::gates::gates_of;

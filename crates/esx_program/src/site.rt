@@ -1,10 +1,10 @@
 //! One site, served from its opening on.
 
-ghost use Rattle.std.specs.Prelude.{◌≡◌, ◌+◌, ◌-◌, ◌^◌, ◌<◌, ◌≤◌, ◌⊎◌, [], IfOk, IfErr, OnOk, IsErrOf};
+ghost use Rattle.std.specs.Prelude.{◌≡◌, IfOk, IfErr};
 ghost use Rattle.esx_types.specs.Ranges.{IsConfig};
 ghost use Rattle.esx_model.specs.Console.{Session};
-ghost use Rattle.esx_reading.specs.Whole.{AskForPieces};
-ghost use Rattle.esx_text.specs.Answers.{Answers, EndsEarly, ReadsOn, write_faults};
+ghost use Rattle.esx_text.specs.Answers.{Answers, EndsEarly};
+ghost use Rattle.esx_text.specs.States.{LeavesStreams, sink_state, source_state};
 ghost use Rattle.esx_program.specs.Site.{at_opening};
 
 use esx_console::Console;
@@ -25,7 +25,7 @@ fn open_told(alloc: Global, config: Config) -> Result<Console<TextLog>, Refusal>
 
 /// Opens a site and serves the commands that are read, as caller 0. Gives the number of lines.
 ///
-/// A fault comes where an end failed, where the source gave no end in `2^26` reads, or where memory ran
+/// A fault comes where an end failed, where the source gave no end in `READS` reads, or where memory ran
 /// out; the answers to the lines before it were written.
 pub fn serve_site<R: Source, W: Sink>(
     alloc: Global,
@@ -38,22 +38,9 @@ pub fn serve_site<R: Source, W: Sink>(
         (R.remaining reader.old) (R.remaining reader.new) (W.contents writer.old) (W.contents writer.new)) }
     ensures fault { IfErr result (λ e. (after : Session) × EndsEarly e 0 (at_opening config) after
         (R.remaining reader.old) (R.remaining reader.new) (R.calls reader.old) (R.calls reader.new) (W.contents writer.old) (W.contents writer.new)) }
-
-    // As of `serve`.
-    ensures found { OnOk result (R.empty_reads reader.new ≡ R.empty_reads reader.old + 1) }
-    ensures not_found { IsErrOf result ServeFault.Read → R.empty_reads reader.new ≡ R.empty_reads reader.old }
-    ensures ends { R.empty_reads reader.new ≤ R.empty_reads reader.old + 1 }
-    ensures reads { R.calls reader.new ≤ R.calls reader.old + 2 ^ 26 }
-    ensures pieces { AskForPieces (R.calls reader.old) (R.calls reader.new) (R.asked reader.old) (R.asked reader.new) }
-    ensures each { ReadsOn (R.remaining reader.old) (R.remaining reader.new) (R.calls reader.old) (R.calls reader.new) }
-    ensures read { IsErrOf result ServeFault.Read
-        → (R.failures reader.new ≡ R.failures reader.old + 1)
-        ⊎ ((R.failures reader.new ≡ R.failures reader.old) × (R.calls reader.new ≡ R.calls reader.old + 2 ^ 26)) }
-    ensures no_read_fault { (IsErrOf result ServeFault.Read → ⊥) → R.failures reader.new ≡ R.failures reader.old }
-    ensures write { W.failures writer.new ≡ W.failures writer.old + write_faults result }
-    ensures flushes { let failed = R.failures reader.new - R.failures reader.old + write_faults result in
-        W.flushes writer.new + R.calls reader.old + failed ≡ W.flushes writer.old + R.calls reader.new + 1 }
-    ensures sent { (IsErrOf result ServeFault.Write → ⊥) → W.waiting writer.new ≡ [] }
+    ensures streams { LeavesStreams result
+        (source_state R.remaining R.calls R.failures R.empty_reads R.asked reader.old) (source_state R.remaining R.calls R.failures R.empty_reads R.asked reader.new)
+        (sink_state W.contents W.waiting W.failures W.flushes writer.old) (sink_state W.contents W.waiting W.failures W.flushes writer.new) }
 {
     match open_told(alloc, config) {
         Ok(mut console) => {

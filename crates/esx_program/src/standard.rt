@@ -7,13 +7,13 @@ ghost use Rattle.esx_program.specs.Files.{IsSame};
 ghost use Rattle.esx_program.specs.Status.{word_of_done};
 ghost use Rattle.esx_program.specs.Words.{asked_of, AskAlike};
 
-use crate::commands::{Ended, Streams, run_asked};
+use crate::commands::run_asked;
+use crate::streams::{Ended, Streams};
 use crate::words::Asked;
 use esx_types::{ReadSource, Source, WriteSink};
 use std::alloc::AllocGlobal;
 use std::fs::{self, OpenFile};
 use std::io::{self, Read, Write};
-use std::marker::Brand;
 use std::rt::Files;
 use std::sync::Wait;
 use std::sync::ledger::{Blank, Ledger};
@@ -73,7 +73,8 @@ fn with_source<F: Read + Drop, L: Ledger>(
     }
 }
 
-fn run_counted<
+/// Does what is asked for, of a file and over streams of the standard library, by counts of the calls of each.
+pub fn run_counted<
     R: AllocGlobal + Threads + Wait + Sync,
     P: Print + Sync,
     F: Read + Drop,
@@ -134,30 +135,4 @@ fn run_counted<
         writer: writer.into_writer(),
     };
     Ended { ended, streams }
-}
-
-/// Does what is asked for, of a file and over streams of the standard library.
-pub fn run_over<
-    R: AllocGlobal + Threads + Wait + Sync,
-    P: Print + Sync,
-    F: Read + Drop,
-    I: Read + Drop,
-    E: Write + Drop,
-    W: Write + Drop,
->(rt: &R, asked: Asked<io::Result<F>>, to: Option<&P>, streams: Streams<I, E, W>) -> Ended<I, E, W>
-    ensures word { IfOk result.ended (λ done. word_of_done done ≡ (asked_of asked).0) }
-    ensures failure { IfErr result.ended (MayFail (asked_of asked)) }
-    ensures does { DoesOver F.remaining asked result.ended (I.remaining streams.reader) (I.remaining result.streams.reader)
-        (E.contents streams.errors) (E.contents result.streams.errors) (W.contents streams.writer) (W.contents result.streams.writer) }
-{
-    run_counted::<_, _, _, _, _, _, Brand, Brand, Brand, Brand>(
-        rt,
-        asked,
-        to,
-        streams,
-        Blank::new(4),
-        Blank::new(4),
-        Blank::new(4),
-        Blank::new(4),
-    )
 }

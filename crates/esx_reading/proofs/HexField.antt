@@ -1,8 +1,10 @@
 -- What a field in hex can be.
-use Rattle.std.proofs.Common.{◌≡◌, ◌<◌, ◌+◌, ◌*◌, ◌/◌, ◌%◌, ℕ, zero, suc, List, [], ◌∷◌, ◌++◌, length, take, get_or, slice_index, refl, ap, sym, ◌∙◌, append_assoc, arith, lit<, Ok}
+use Rattle.std.proofs.Common.{◌≡◌, ◌<◌, ◌+◌, ◌*◌, ◌/◌, ◌%◌, ℕ, zero, suc, List, [], ◌∷◌, ◌++◌, length, take, get_or, slice_index, refl, ap, sym, ◌∙◌, append_assoc, arith, lit<, Ok, ◌≤◌, Option, Some, None}
+use Rattle.std.specs.Prelude.{IfSome}
 use Rattle.std.proofs.lemmas.Grind.{take_at_read}
 use Rattle.hex.specs.Hex.{encode_lower, encode_with, decode_of, lower_digits, IsBytes}
 use Rattle.hex.proofs.HexLemmas.{decode_of-encode_lower, length-encode_with}
+use Rattle.esx_reading.specs.declared.written.TheConstants.{MAX_DIGITS}
 use Rattle.esx_reading.specs.Written.{IsWritten}
 
 pub length_of_hex : (field bytes : List ℕ) → field ≡ encode_lower bytes → length field ≡ 2 * length bytes
@@ -68,3 +70,12 @@ pub no_pair : (digits bytes : List ℕ) (at : ℕ) → digits ≡ encode_lower b
 no_pair digits bytes at e lt =
     let within : at < length bytes = omega (arith, lt, length_of_hex digits bytes e) in
     rw e (pair_at bytes at within)
+
+-- bytes of digits that are few, and not none
+pub few_written : (text digits : List ℕ) (r : Option (List ℕ)) → digits ≡ text → (length text ≡ 0 → ⊥) → length text ≤ MAX_DIGITS
+    → IfSome r (λ bytes. IsBytes bytes × (digits ≡ encode_lower bytes)) → IfSome r (λ bytes. IsWritten bytes × (text ≡ encode_lower bytes))
+few_written text digits None same some few found = tt
+few_written text digits (Some bytes) same some few found =
+    let is = sym same ∙ found.1 in
+    let h = length_of_hex text bytes is in
+    (record { some = omega (arith, h, some); few = omega (arith, h, few); are_bytes = found.0 }, is)

@@ -4,5 +4,6 @@ pub mod HexField
 mod HexTable
 mod LaneLemmas
 pub mod NumberLemmas
+pub mod Results
 mod OneFieldLemmas
 mod SpaceLemmas

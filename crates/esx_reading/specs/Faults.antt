@@ -1,5 +1,5 @@
--- The numbers of text faults, and what a refusal of one line says.
-use Rattle.std.specs.Prelude.{ℕ, ◌≡◌}
+-- The numbers of text faults.
+use Rattle.std.specs.Prelude.{ℕ}
 use Rattle.esx_reading.specs.declared.fault.TextFault.{TextFault}
 use Rattle.esx_reading.specs.declared.fault.TextFault.TheVariants.{NotToml, BadKey, BadLine, NotText, Differs, Read, Write, OutOfMemory}
 
@@ -12,9 +12,3 @@ fault_number (Differs k) = 44
 fault_number Read = 45
 fault_number Write = 46
 fault_number OutOfMemory = 26
-
--- a refusal of one line: it is its first, and the reason holds; or memory ran out
-abbrev pub Refuses : TextFault → Type 0 → Type 0
-Refuses (BadLine n) P = (n ≡ 1) × P
-Refuses OutOfMemory P = Unit {0}
-Refuses _ P = ⊥

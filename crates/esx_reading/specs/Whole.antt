@@ -1,32 +1,33 @@
 -- What reading a file whole comes to.
-use Rattle.std.specs.Prelude.{◌≡◌, ℕ, List, Option, ◌≤◌, ◌<◌, ◌+◌, ◌*◌, ◌^◌, length}
+use Rattle.std.specs.Prelude.{◌≡◌, ℕ, List, Option, ◌≤◌, ◌<◌, ◌+◌, ◌*◌, length}
 use Rattle.std.specs.Io.KnownBytes.{Consumes, IsAtEnd}
 use Rattle.esx_reading.specs.declared.fault.TextFault.{TextFault}
 use Rattle.esx_reading.specs.declared.fault.TextFault.TheVariants.{NotText, Read, OutOfMemory}
+use Rattle.esx_reading.specs.declared.whole.TheConstants.{CHUNK, MAX_FILE, READS}
 
 -- the source gave these bytes and is at its end, and they are no more than a file may have
 pub record GivesWhole (old new : Option (List ℕ)) (bytes : List ℕ) : Type 0 where
   pub given : Consumes old new bytes
   pub end : IsAtEnd new
-  pub few : length bytes ≤ 2 ^ 26
+  pub few : length bytes ≤ MAX_FILE
 
 -- the source gave more bytes than a file may have, and no more behind the read that gave the first of them
 abbrev pub GivesMore : Option (List ℕ) → Option (List ℕ) → Type 0
-GivesMore old new = (bytes : List ℕ) × Consumes old new bytes × (2 ^ 26 < length bytes) × (length bytes ≤ 2 ^ 26 + 65536)
+GivesMore old new = (bytes : List ℕ) × Consumes old new bytes × (MAX_FILE < length bytes) × (length bytes ≤ MAX_FILE + CHUNK)
 
 -- The source gave no more bytes than a file may have, by reads of which each gave one at least: none found the end.
 -- They were fewer than a file may take.
 pub record GivesOn (old new : Option (List ℕ)) (before after : ℕ) : Type 0 where
   pub bytes : List ℕ
   pub given : Consumes old new bytes
-  pub few : length bytes ≤ 2 ^ 26
+  pub few : length bytes ≤ MAX_FILE
   pub each : after ≤ before + length bytes
-  pub fewer : after < before + 2 ^ 26
+  pub fewer : after < before + READS
 
--- The reads between two counts of them asked for 65,536 bytes each, in sum. Any of them may fail or find the end, and
+-- The reads between two counts of them asked for `CHUNK` bytes each, in sum. Any of them may fail or find the end, and
 -- none follows one that did, so that none can ask for less and a later one make up for it.
 abbrev pub AskForPieces : (before after asked_before asked_after : ℕ) → Type 0
-AskForPieces before after asked_before asked_after = asked_after + 65536 * before ≡ asked_before + 65536 * after
+AskForPieces before after asked_before asked_after = asked_after + CHUNK * before ≡ asked_before + CHUNK * after
 
 -- a fault of reading, or want of memory
 abbrev pub IsOfReading : TextFault → Type 0

@@ -11,5 +11,5 @@ mod written;
 
 pub use fault::TextFault;
 pub use fields::{Fields, number_of};
-pub use whole::{read_text, read_whole};
-pub use written::{small_written_bytes, written_bytes};
+pub use whole::{CHUNK, MAX_FILE, READS, read_text, read_whole};
+pub use written::{MAX_DIGITS, small_written_bytes, written_bytes};

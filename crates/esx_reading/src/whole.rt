@@ -1,6 +1,6 @@
 //! Files, read whole.
 
-ghost use Rattle.std.specs.Prelude.{◌≡◌, ◌+◌, ◌≤◌, ◌^◌, ◌⊎◌, ℕ, List, length, string_bytes, IfOk, IfErr, OnOk, OnErr, IsErrOf, IsUtf8};
+ghost use Rattle.std.specs.Prelude.{◌≡◌, ◌+◌, ◌≤◌, ◌⊎◌, ℕ, List, length, string_bytes, IfOk, IfErr, OnOk, OnErr, IsErrOf, IsUtf8};
 ghost use Rattle.std.specs.Io.KnownBytes.{Consumes};
 ghost use Rattle.esx_reading.specs.Whole.{AskForPieces, GivesWhole, GivesMore, GivesOn, IsOfReading, IsOfText};
 
@@ -9,13 +9,13 @@ use esx_types::Source;
 use std::alloc::Global;
 
 /// The most bytes that a file may have.
-const LONGEST: usize = 1 << 26;
+pub const MAX_FILE: usize = 1 << 26;
 
 /// How often a file is read from at most.
-const READS: u32 = 1 << 26;
+pub const READS: u32 = 1 << 26;
 
 /// How many bytes are asked for at once.
-const CHUNK: usize = 1 << 16;
+pub const CHUNK: usize = 1 << 16;
 
 /// Adds what a source gives, through a room for what is read, to no bytes.
 fn read_through<R: Source>(
@@ -23,15 +23,15 @@ fn read_through<R: Source>(
     source: &mut R,
     chunk: &mut [u8],
 ) -> Result<Vec<u8>, TextFault>
-    requires { length chunk.old ≡ 65536 }
+    requires { length chunk.old ≡ CHUNK }
     ensures ok { IfOk result (λ v. GivesWhole (R.remaining source.old) (R.remaining source.new) v.items) }
     ensures fault { IfErr result IsOfReading }
-    ensures reads { R.calls source.new ≤ R.calls source.old + 2 ^ 26 }
+    ensures reads { R.calls source.new ≤ R.calls source.old + READS }
     ensures pieces { AskForPieces (R.calls source.old) (R.calls source.new) (R.asked source.old) (R.asked source.new) }
     ensures read { IsErrOf result TextFault.Read
         → (R.failures source.new ≡ R.failures source.old + 1)
         ⊎ ((R.failures source.new ≡ R.failures source.old)
-        × ((R.calls source.new ≡ R.calls source.old + 2 ^ 26) ⊎ GivesMore (R.remaining source.old) (R.remaining source.new))) }
+        × ((R.calls source.new ≡ R.calls source.old + READS) ⊎ GivesMore (R.remaining source.old) (R.remaining source.new))) }
     ensures no_read_fault { (IsErrOf result TextFault.Read → ⊥) → R.failures source.new ≡ R.failures source.old }
 
     // One read gave nothing where the end was found, and none did elsewhere.
@@ -58,7 +58,7 @@ fn read_through<R: Source>(
         if given == 0 {
             return Ok(bytes);
         }
-        if given > LONGEST - bytes.len() {
+        if given > MAX_FILE - bytes.len() {
             return Err(TextFault::Read);
         }
         let (front, _) = chunk.split_at(given);
@@ -69,17 +69,17 @@ fn read_through<R: Source>(
 
 /// All bytes of a file.
 ///
-/// `Read` comes where the source failed, where it gave more than `2^26` bytes, or where it gave no end in
-/// `2^26` reads, and there is no other fault but want of memory.
+/// `Read` comes where the source failed, where it gave more than `MAX_FILE` bytes, or where it gave no end in
+/// `READS` reads, and there is no other fault but want of memory.
 pub fn read_whole<R: Source>(alloc: Global, source: &mut R) -> Result<Vec<u8>, TextFault>
     ensures ok { IfOk result (λ v. GivesWhole (R.remaining source.old) (R.remaining source.new) v.items) }
     ensures fault { IfErr result IsOfReading }
-    ensures reads { R.calls source.new ≤ R.calls source.old + 2 ^ 26 }
+    ensures reads { R.calls source.new ≤ R.calls source.old + READS }
     ensures pieces { AskForPieces (R.calls source.old) (R.calls source.new) (R.asked source.old) (R.asked source.new) }
     ensures read { IsErrOf result TextFault.Read
         → (R.failures source.new ≡ R.failures source.old + 1)
         ⊎ ((R.failures source.new ≡ R.failures source.old)
-        × ((R.calls source.new ≡ R.calls source.old + 2 ^ 26) ⊎ GivesMore (R.remaining source.old) (R.remaining source.new))) }
+        × ((R.calls source.new ≡ R.calls source.old + READS) ⊎ GivesMore (R.remaining source.old) (R.remaining source.new))) }
     ensures no_read_fault { (IsErrOf result TextFault.Read → ⊥) → R.failures source.new ≡ R.failures source.old }
 
     // One read gave nothing where the end was found, and none did elsewhere.
@@ -107,12 +107,12 @@ pub fn read_text<R: Source>(alloc: Global, source: &mut R) -> Result<String, Tex
         → (bytes : List ℕ) × GivesWhole (R.remaining source.old) (R.remaining source.new) bytes × (IsUtf8 bytes → ⊥)
         × (R.calls source.new ≤ R.calls source.old + length bytes + 1) }
     ensures fault { IfErr result IsOfText }
-    ensures reads { R.calls source.new ≤ R.calls source.old + 2 ^ 26 }
+    ensures reads { R.calls source.new ≤ R.calls source.old + READS }
     ensures pieces { AskForPieces (R.calls source.old) (R.calls source.new) (R.asked source.old) (R.asked source.new) }
     ensures read { IsErrOf result TextFault.Read
         → (R.failures source.new ≡ R.failures source.old + 1)
         ⊎ ((R.failures source.new ≡ R.failures source.old)
-        × ((R.calls source.new ≡ R.calls source.old + 2 ^ 26) ⊎ GivesMore (R.remaining source.old) (R.remaining source.new))) }
+        × ((R.calls source.new ≡ R.calls source.old + READS) ⊎ GivesMore (R.remaining source.old) (R.remaining source.new))) }
     ensures no_read_fault { (IsErrOf result TextFault.Read → ⊥) → R.failures source.new ≡ R.failures source.old }
 
     // One read gave nothing where the end was found, and none did elsewhere.

@@ -1,40 +1,76 @@
 //! Bytes as pairs of hex digits.
 
-ghost use Rattle.std.specs.Prelude.{◌≡◌, ◌∷◌, ◌<◌, ◌≤◌, ◌*◌, ◌%◌, [], ℕ, List, length, slice_index, IfSome, IfNone, IfOk, IfErr, IsErrOf};
+ghost use Rattle.std.specs.Prelude.{◌≡◌, ◌∷◌, ◌<◌, ◌≤◌, ◌*◌, ◌/◌, ◌%◌, [], ℕ, List, length, slice_index, IfSome, IfNone, IfOk, OnErr};
 ghost use Rattle.hex.specs.Hex.{encode_lower, lower_digits, IsBytes};
-ghost use Rattle.esx_reading.specs.Faults.{Refuses};
 ghost use Rattle.esx_reading.specs.Written.{IsWritten};
 
-use crate::fault::TextFault;
-use esx_types::{Bytes, FEW, SmallBytes};
-use std::alloc::Global;
+use esx_types::{Bytes, FEW, MAX_PAGE, SmallBytes};
+use std::alloc::{AllocError, Global};
 
-/// The value of each byte as a digit in hex, in lower case, and 255 where it is none.
-const DIGITS: [u8; 256] = [
-    255, 255, 255, 255, 255, 255, 255, 255, 255, 255, 255, 255, 255, 255, 255, 255, 255, 255, 255,
-    255, 255, 255, 255, 255, 255, 255, 255, 255, 255, 255, 255, 255, 255, 255, 255, 255, 255, 255,
-    255, 255, 255, 255, 255, 255, 255, 255, 255, 255, 0, 1, 2, 3, 4, 5, 6, 7, 8, 9, 255, 255, 255,
-    255, 255, 255, 255, 255, 255, 255, 255, 255, 255, 255, 255, 255, 255, 255, 255, 255, 255, 255,
-    255, 255, 255, 255, 255, 255, 255, 255, 255, 255, 255, 255, 255, 255, 255, 255, 255, 10, 11,
-    12, 13, 14, 15, 255, 255, 255, 255, 255, 255, 255, 255, 255, 255, 255, 255, 255, 255, 255, 255,
-    255, 255, 255, 255, 255, 255, 255, 255, 255, 255, 255, 255, 255, 255, 255, 255, 255, 255, 255,
-    255, 255, 255, 255, 255, 255, 255, 255, 255, 255, 255, 255, 255, 255, 255, 255, 255, 255, 255,
-    255, 255, 255, 255, 255, 255, 255, 255, 255, 255, 255, 255, 255, 255, 255, 255, 255, 255, 255,
-    255, 255, 255, 255, 255, 255, 255, 255, 255, 255, 255, 255, 255, 255, 255, 255, 255, 255, 255,
-    255, 255, 255, 255, 255, 255, 255, 255, 255, 255, 255, 255, 255, 255, 255, 255, 255, 255, 255,
-    255, 255, 255, 255, 255, 255, 255, 255, 255, 255, 255, 255, 255, 255, 255, 255, 255, 255, 255,
-    255, 255, 255, 255, 255, 255, 255, 255, 255, 255, 255, 255, 255, 255, 255, 255, 255, 255, 255,
-    255, 255, 255, 255,
+/// The most digits of bytes in hex: two for each byte of the largest page.
+pub const MAX_DIGITS: usize = 2 * MAX_PAGE as usize;
+
+/// Stands for a byte that is no digit.
+const NONE: u16 = 256;
+
+/// What each byte is worth as the first of two digits in hex, in lower case.
+const HIGH: [u16; 256] = [
+    NONE, NONE, NONE, NONE, NONE, NONE, NONE, NONE, NONE, NONE, NONE, NONE, NONE, NONE, NONE, NONE,
+    NONE, NONE, NONE, NONE, NONE, NONE, NONE, NONE, NONE, NONE, NONE, NONE, NONE, NONE, NONE, NONE,
+    NONE, NONE, NONE, NONE, NONE, NONE, NONE, NONE, NONE, NONE, NONE, NONE, NONE, NONE, NONE, NONE,
+    0, 16, 32, 48, 64, 80, 96, 112, 128, 144, NONE, NONE, NONE, NONE, NONE, NONE, NONE, NONE, NONE,
+    NONE, NONE, NONE, NONE, NONE, NONE, NONE, NONE, NONE, NONE, NONE, NONE, NONE, NONE, NONE, NONE,
+    NONE, NONE, NONE, NONE, NONE, NONE, NONE, NONE, NONE, NONE, NONE, NONE, NONE, NONE, 160, 176,
+    192, 208, 224, 240, NONE, NONE, NONE, NONE, NONE, NONE, NONE, NONE, NONE, NONE, NONE, NONE,
+    NONE, NONE, NONE, NONE, NONE, NONE, NONE, NONE, NONE, NONE, NONE, NONE, NONE, NONE, NONE, NONE,
+    NONE, NONE, NONE, NONE, NONE, NONE, NONE, NONE, NONE, NONE, NONE, NONE, NONE, NONE, NONE, NONE,
+    NONE, NONE, NONE, NONE, NONE, NONE, NONE, NONE, NONE, NONE, NONE, NONE, NONE, NONE, NONE, NONE,
+    NONE, NONE, NONE, NONE, NONE, NONE, NONE, NONE, NONE, NONE, NONE, NONE, NONE, NONE, NONE, NONE,
+    NONE, NONE, NONE, NONE, NONE, NONE, NONE, NONE, NONE, NONE, NONE, NONE, NONE, NONE, NONE, NONE,
+    NONE, NONE, NONE, NONE, NONE, NONE, NONE, NONE, NONE, NONE, NONE, NONE, NONE, NONE, NONE, NONE,
+    NONE, NONE, NONE, NONE, NONE, NONE, NONE, NONE, NONE, NONE, NONE, NONE, NONE, NONE, NONE, NONE,
+    NONE, NONE, NONE, NONE, NONE, NONE, NONE, NONE, NONE, NONE, NONE, NONE, NONE, NONE, NONE, NONE,
+    NONE, NONE, NONE, NONE, NONE, NONE, NONE, NONE, NONE, NONE, NONE, NONE, NONE,
 ];
 
-/// The value of a digit in hex, in lower case.
+/// What each byte is worth as the second of two digits.
+const LOW: [u16; 256] = [
+    NONE, NONE, NONE, NONE, NONE, NONE, NONE, NONE, NONE, NONE, NONE, NONE, NONE, NONE, NONE, NONE,
+    NONE, NONE, NONE, NONE, NONE, NONE, NONE, NONE, NONE, NONE, NONE, NONE, NONE, NONE, NONE, NONE,
+    NONE, NONE, NONE, NONE, NONE, NONE, NONE, NONE, NONE, NONE, NONE, NONE, NONE, NONE, NONE, NONE,
+    0, 1, 2, 3, 4, 5, 6, 7, 8, 9, NONE, NONE, NONE, NONE, NONE, NONE, NONE, NONE, NONE, NONE, NONE,
+    NONE, NONE, NONE, NONE, NONE, NONE, NONE, NONE, NONE, NONE, NONE, NONE, NONE, NONE, NONE, NONE,
+    NONE, NONE, NONE, NONE, NONE, NONE, NONE, NONE, NONE, NONE, NONE, NONE, 10, 11, 12, 13, 14, 15,
+    NONE, NONE, NONE, NONE, NONE, NONE, NONE, NONE, NONE, NONE, NONE, NONE, NONE, NONE, NONE, NONE,
+    NONE, NONE, NONE, NONE, NONE, NONE, NONE, NONE, NONE, NONE, NONE, NONE, NONE, NONE, NONE, NONE,
+    NONE, NONE, NONE, NONE, NONE, NONE, NONE, NONE, NONE, NONE, NONE, NONE, NONE, NONE, NONE, NONE,
+    NONE, NONE, NONE, NONE, NONE, NONE, NONE, NONE, NONE, NONE, NONE, NONE, NONE, NONE, NONE, NONE,
+    NONE, NONE, NONE, NONE, NONE, NONE, NONE, NONE, NONE, NONE, NONE, NONE, NONE, NONE, NONE, NONE,
+    NONE, NONE, NONE, NONE, NONE, NONE, NONE, NONE, NONE, NONE, NONE, NONE, NONE, NONE, NONE, NONE,
+    NONE, NONE, NONE, NONE, NONE, NONE, NONE, NONE, NONE, NONE, NONE, NONE, NONE, NONE, NONE, NONE,
+    NONE, NONE, NONE, NONE, NONE, NONE, NONE, NONE, NONE, NONE, NONE, NONE, NONE, NONE, NONE, NONE,
+    NONE, NONE, NONE, NONE, NONE, NONE, NONE, NONE, NONE, NONE, NONE, NONE, NONE, NONE, NONE, NONE,
+    NONE, NONE, NONE, NONE, NONE, NONE, NONE, NONE, NONE,
+];
+
+/// What a byte is worth as the first of two digits; `NONE` where it is no digit.
 #[inline(always)]
-fn digit_of(byte: u8) -> Option<u8>
-    ensures some { IfSome result (λ v. (v < 16) × (byte ≡ slice_index lower_digits v)) }
-    ensures none { IfNone result ((v : ℕ) → v < 16 → byte ≡ slice_index lower_digits v → ⊥) }
+fn high_of(byte: u8) -> u16
+    ensures small { result ≤ NONE }
+    ensures some { result < NONE → (result % 16 ≡ 0) × (byte ≡ slice_index lower_digits (result / 16)) }
+    ensures none { result ≡ NONE → (v : ℕ) → v < 16 → byte ≡ slice_index lower_digits v → ⊥ }
 {
-    let value = DIGITS[byte as usize];
-    if value < 16 { Some(value) } else { None }
+    HIGH[byte as usize]
+}
+
+/// What a byte is worth as the second of two digits; `NONE` where it is no digit.
+#[inline(always)]
+fn low_of(byte: u8) -> u16
+    ensures small { result ≤ NONE }
+    ensures some { result < NONE → (result < 16) × (byte ≡ slice_index lower_digits result) }
+    ensures none { result ≡ NONE → (v : ℕ) → v < 16 → byte ≡ slice_index lower_digits v → ⊥ }
+{
+    LOW[byte as usize]
 }
 
 /// The byte of two digits.
@@ -44,50 +80,46 @@ fn byte_of(high: u8, low: u8) -> Option<u8>
     ensures some { IfSome result (λ byte. encode_lower (byte ∷ []) ≡ high ∷ low ∷ []) }
     ensures none { IfNone result ((byte : ℕ) → byte < 256 → encode_lower (byte ∷ []) ≡ high ∷ low ∷ [] → ⊥) }
 {
-    let Some(front) = digit_of(high) else {
+    let byte = high_of(high) + low_of(low);
+    if byte >= NONE {
         return None;
-    };
-    let Some(back) = digit_of(low) else {
-        return None;
-    };
-    Some(front * 16 + back)
+    }
+    Some(byte as u8)
 }
 
-/// The bytes of digits, two digits a byte. `BadLine(1)` where they are those of no bytes.
-fn bytes_of(alloc: Global, digits: &[u8]) -> Result<Vec<u8>, TextFault>
+/// The bytes of digits, two digits a byte, if they are those of some.
+fn bytes_of(alloc: Global, digits: &[u8]) -> Result<Option<Vec<u8>>, AllocError>
     requires { length digits.now % 2 ≡ 0 }
-    ensures found { IfOk result (λ v. IsBytes v.items × (digits.now ≡ encode_lower v.items)) }
-    ensures only { IfErr result (λ e. Refuses e ((bytes : List ℕ) → IsBytes bytes → digits.now ≡ encode_lower bytes → ⊥)) }
+    ensures found { IfOk result (λ found. IfSome found (λ v. IsBytes v.items × (digits.now ≡ encode_lower v.items))) }
+    ensures only { IfOk result (λ found. IfNone found ((bytes : List ℕ) → IsBytes bytes → digits.now ≡ encode_lower bytes → ⊥)) }
 {
     let count = digits.len() / 2;
-    let Ok(mut bytes) = Vec::with_capacity(alloc, count) else {
-        return Err(TextFault::OutOfMemory);
-    };
+    let mut bytes = Vec::with_capacity(alloc, count)?;
     for at in 0..count {
         let Some(byte) = byte_of(digits[2 * at], digits[2 * at + 1]) else {
-            return Err(TextFault::BadLine(1));
+            return Ok(None);
         };
         bytes.push_reserved(byte);
     }
-    Ok(bytes)
+    Ok(Some(bytes))
 }
 
-/// The bytes of a field in hex, 1 to 4,096 of them. `BadLine(1)` where it has no such bytes. Memory is taken only
-/// for a field that is as long as some bytes.
-pub fn written_bytes(alloc: Global, field: &str) -> Result<Bytes, TextFault>
-    ensures found { IfOk result (λ bytes. IsWritten bytes × (field.now ≡ encode_lower bytes)) }
-    ensures only { IfErr result (λ e. Refuses e ((bytes : List ℕ) → IsWritten bytes → field.now ≡ encode_lower bytes → ⊥)) }
-    ensures memory { IsErrOf result TextFault.OutOfMemory → (0 < length field.now) × (length field.now ≤ 8192) × (length field.now % 2 ≡ 0) }
+/// The bytes of a field in hex, 1 to `MAX_PAGE` of them, if it has such bytes. Memory is taken only for a field that is
+/// as long as some bytes.
+pub fn written_bytes(alloc: Global, field: &str) -> Result<Option<Bytes>, AllocError>
+    ensures found { IfOk result (λ found. IfSome found (λ bytes. IsWritten bytes × (field.now ≡ encode_lower bytes))) }
+    ensures only { IfOk result (λ found. IfNone found ((bytes : List ℕ) → IsWritten bytes → field.now ≡ encode_lower bytes → ⊥)) }
+    ensures memory { OnErr result ((0 < length field.now) × (length field.now ≤ MAX_DIGITS) × (length field.now % 2 ≡ 0)) }
 {
-    if field.is_empty() || field.len() > 8192 {
-        return Err(TextFault::BadLine(1));
+    if field.is_empty() || field.len() > MAX_DIGITS {
+        return Ok(None);
     }
     if field.len() % 2 != 0 {
-        return Err(TextFault::BadLine(1));
+        return Ok(None);
     }
-    match bytes_of(alloc, field.as_bytes()) {
-        Ok(bytes) => Ok(Bytes::from_vec(bytes)),
-        Err(fault) => Err(fault),
+    match bytes_of(alloc, field.as_bytes())? {
+        Some(bytes) => Ok(Some(Bytes::from_vec(bytes))),
+        None => Ok(None),
     }
 }
 
@@ -110,36 +142,29 @@ fn few_bytes_of(digits: &[u8]) -> Option<SmallBytes>
 }
 
 /// The same bytes as `written_bytes` has, of a field that is longer than `FEW` bytes.
-fn many_written_bytes(alloc: Global, field: &str) -> Result<SmallBytes, TextFault>
+fn many_written_bytes(alloc: Global, field: &str) -> Result<Option<SmallBytes>, AllocError>
     requires { 2 * FEW < length field.now }
-    ensures found { IfOk result (λ bytes. IsWritten bytes × (field.now ≡ encode_lower bytes)) }
-    ensures only { IfErr result (λ e. Refuses e ((bytes : List ℕ) → IsWritten bytes → field.now ≡ encode_lower bytes → ⊥)) }
-    ensures memory { IsErrOf result TextFault.OutOfMemory → (length field.now ≤ 8192) × (length field.now % 2 ≡ 0) }
+    ensures found { IfOk result (λ found. IfSome found (λ bytes. IsWritten bytes × (field.now ≡ encode_lower bytes))) }
+    ensures only { IfOk result (λ found. IfNone found ((bytes : List ℕ) → IsWritten bytes → field.now ≡ encode_lower bytes → ⊥)) }
+    ensures memory { OnErr result ((length field.now ≤ MAX_DIGITS) × (length field.now % 2 ≡ 0)) }
 {
-    let bytes = match written_bytes(alloc, field) {
-        Ok(bytes) => bytes,
-        Err(fault) => return Err(fault),
-    };
-    match SmallBytes::from_bytes(alloc, bytes) {
-        Ok(bytes) => Ok(bytes),
-        Err(_) => Err(TextFault::OutOfMemory),
+    match written_bytes(alloc, field)? {
+        Some(bytes) => Ok(Some(SmallBytes::from_bytes(alloc, bytes)?)),
+        None => Ok(None),
     }
 }
 
 /// The same bytes as `written_bytes` has. Up to `FEW` of them take no memory.
-pub fn small_written_bytes(alloc: Global, field: &str) -> Result<SmallBytes, TextFault>
-    ensures found { IfOk result (λ bytes. IsWritten bytes × (field.now ≡ encode_lower bytes)) }
-    ensures only { IfErr result (λ e. Refuses e ((bytes : List ℕ) → IsWritten bytes → field.now ≡ encode_lower bytes → ⊥)) }
-    ensures memory { IsErrOf result TextFault.OutOfMemory → (2 * FEW < length field.now) × (length field.now ≤ 8192) × (length field.now % 2 ≡ 0) }
+pub fn small_written_bytes(alloc: Global, field: &str) -> Result<Option<SmallBytes>, AllocError>
+    ensures found { IfOk result (λ found. IfSome found (λ bytes. IsWritten bytes × (field.now ≡ encode_lower bytes))) }
+    ensures only { IfOk result (λ found. IfNone found ((bytes : List ℕ) → IsWritten bytes → field.now ≡ encode_lower bytes → ⊥)) }
+    ensures memory { OnErr result ((2 * FEW < length field.now) × (length field.now ≤ MAX_DIGITS) × (length field.now % 2 ≡ 0)) }
 {
     if field.len() > 2 * FEW {
         return many_written_bytes(alloc, field);
     }
     if field.is_empty() || field.len() % 2 != 0 {
-        return Err(TextFault::BadLine(1));
+        return Ok(None);
     }
-    match few_bytes_of(field.as_bytes()) {
-        Some(bytes) => Ok(bytes),
-        None => Err(TextFault::BadLine(1)),
-    }
+    Ok(few_bytes_of(field.as_bytes()))
 }

@@ -2,6 +2,7 @@
 use Rattle.std.proofs.Common.{◌≡◌, ℕ, ◌≤◌, List, Option, Some, None, get_or, refl, arith}
 use Rattle.std.specs.List.{AllByRecursion}
 use Rattle.std.proofs.lemmas.List.{length-set}
+use Rattle.esx_types.specs.declared.config.TheConstants.{MAX_SAMPLE}
 use Rattle.esx_model.specs.declared.book.PeriodRow.{PeriodRow}
 use Rattle.esx_model.specs.declared.book.VmRow.{VmRow}
 use Rattle.esx_model.specs.declared.tables.Tables.{Tables}
@@ -15,16 +16,16 @@ use Rattle.esx_tables.specs.Sizes.{mark_count, part_marks, vm_marks, marks_held}
 use Rattle.esx_records.proofs.Totals.{total, back, each_within, bounded_back}
 use Rattle.esx_records.proofs.Pages.{all_set, all_get}
 
--- each machine's open period has 100 pages at most
+-- each machine's open period has `MAX_SAMPLE` pages at most
 abbrev pub HaveFewMarks : Tables → Type 0
-HaveFewMarks t = AllByRecursion (λ row. vm_marks row ≤ 100) t.vms
+HaveFewMarks t = AllByRecursion (λ row. vm_marks row ≤ MAX_SAMPLE) t.vms
 
 -- how many marks a trade leaves in a change at most
 abbrev pub part_most : VmPart → ℕ
 part_most (PageAt page row) = 0
 part_most (Facts facts) = 0
 part_most (Target target) = 0
-part_most (Period period) = 100
+part_most (Period period) = MAX_SAMPLE
 part_most (Done done) = 0
 part_most (Touched mark) = 1
 part_most (Averages m) = 0
@@ -32,7 +33,7 @@ part_most (OverheadTop frame) = 0
 
 abbrev pub marks_most : Change → ℕ
 marks_most (OfVm n part) = part_most part
-marks_most (VmAt n row) = 100
+marks_most (VmAt n row) = MAX_SAMPLE
 marks_most (FrameAt f row) = 0
 marks_most (BytesAt f offset bytes) = 0
 marks_most (SlotAt i row) = 0
@@ -49,7 +50,7 @@ pub turned_same : (v : VmRow) (o : Option PeriodRow) (mark : ℕ) → v.period �
 turned_same v None mark e = rw e refl
 turned_same v (Some p) mark e = rw e (length-set p.marks mark (mark_turned (get_or p.marks mark no_mark)))
 
-part_few : (o : Option VmRow) (part : VmPart) → vm_marks o ≤ 100 → part_marks part ≤ 100 → (vm_marks (vm_traded o part).0 ≤ 100) × (part_marks (vm_traded o part).1 ≤ part_most part)
+part_few : (o : Option VmRow) (part : VmPart) → vm_marks o ≤ MAX_SAMPLE → part_marks part ≤ MAX_SAMPLE → (vm_marks (vm_traded o part).0 ≤ MAX_SAMPLE) × (part_marks (vm_traded o part).1 ≤ part_most part)
 part_few None (PageAt page row) few some = (few, omega arith)
 part_few None (Facts facts) few some = (few, omega arith)
 part_few None (Target target) few some = (few, omega arith)
@@ -67,14 +68,14 @@ part_few (Some v) (Touched mark) few some = (let same = turned_same v v.period m
 part_few (Some v) (Averages m) few some = (few, omega arith)
 part_few (Some v) (OverheadTop frame) few some = (few, omega arith)
 
-one_few : (t : Tables) (change : Change) → HaveFewMarks t → marks_held change ≤ 100 → HaveFewMarks (traded t change).0 × (marks_held (traded t change).1 ≤ marks_most change)
+one_few : (t : Tables) (change : Change) → HaveFewMarks t → marks_held change ≤ MAX_SAMPLE → HaveFewMarks (traded t change).0 × (marks_held (traded t change).1 ≤ marks_most change)
 unfolding traded
 one_few t (OfVm n part) few some =
-    let P : Option VmRow → Type 0 = λ row. vm_marks row ≤ 100 in
+    let P : Option VmRow → Type 0 = λ row. vm_marks row ≤ MAX_SAMPLE in
     let one = part_few (get_or t.vms n None) part (all_get P t.vms n None few (omega arith)) some in
     (all_set P t.vms n (vm_traded (get_or t.vms n None) part).0 few one.0, one.1)
 one_few t (VmAt n row) few some =
-    let P : Option VmRow → Type 0 = λ row. vm_marks row ≤ 100 in
+    let P : Option VmRow → Type 0 = λ row. vm_marks row ≤ MAX_SAMPLE in
     (all_set P t.vms n row few some, all_get P t.vms n row few some)
 one_few t (FrameAt f row) few some = (few, omega arith)
 one_few t (BytesAt f offset bytes) few some = (few, omega arith)
@@ -84,5 +85,5 @@ one_few t (ListingAt f listing) few some = (few, omega arith)
 one_few t (FrameWithSlot f i) few some = (few, omega arith)
 one_few t (TaxIs tau) few some = (few, omega arith)
 
-pub marks_back : (t : Tables) (changes : List Change) → HaveFewMarks t → total marks_held changes ≤ 100 → total marks_held (back t changes) ≤ total marks_most changes
-marks_back t changes few some = bounded_back HaveFewMarks (λ change. marks_held change ≤ 100) marks_held marks_most one_few t changes few (each_within marks_held 100 changes some)
+pub marks_back : (t : Tables) (changes : List Change) → HaveFewMarks t → total marks_held changes ≤ MAX_SAMPLE → total marks_held (back t changes) ≤ total marks_most changes
+marks_back t changes few some = bounded_back HaveFewMarks (λ change. marks_held change ≤ MAX_SAMPLE) marks_held marks_most one_few t changes few (each_within marks_held MAX_SAMPLE changes some)

@@ -1,6 +1,6 @@
 -- Changes that are small in both forms, whatever the tables.
 use Rattle.std.proofs.Common.{◌≡◌, ℕ, ◌+◌, ◌≤◌, Bool, true, false, List, [], ◌∷◌, length, refl, ap, arith, cond, Option, Some, None, Ok, Err}
-use Rattle.esx_types.specs.declared.config.TheConstants.{VM_NUMBERS}
+use Rattle.esx_types.specs.declared.config.TheConstants.{MAX_SAMPLE, VM_NUMBERS}
 use Rattle.esx_lists.specs.Counts.{one}
 use Rattle.esx_types.specs.declared.config.Config.{Config}
 use Rattle.esx_types.specs.declared.table.FrameRow.{FrameRow}
@@ -25,12 +25,12 @@ pub record IsModest (c : Config) (most : ℕ) (changes : List Change) : Type 0 w
   pub bytes : total bytes_held changes ≤ c.page
   pub pages : total (bytes_most c) changes ≤ c.page
   pub rows : total (one_if is_row) changes ≤ 10
-  pub marks : total marks_held changes ≤ 100
-  pub turned : total marks_most changes ≤ 100
+  pub marks : total marks_held changes ≤ MAX_SAMPLE
+  pub turned : total marks_most changes ≤ MAX_SAMPLE
   pub targets : total (one_if is_target) changes ≤ VM_NUMBERS
   pub machines : total places_held changes ≤ most
 
-is_small : (c : Config) (most : ℕ) (changes : List Change) → total bytes_held changes ≤ c.page → total (one_if is_row) changes ≤ 10 → total marks_held changes ≤ 100
+is_small : (c : Config) (most : ℕ) (changes : List Change) → total bytes_held changes ≤ c.page → total (one_if is_row) changes ≤ 10 → total marks_held changes ≤ MAX_SAMPLE
     → total (one_if is_target) changes ≤ VM_NUMBERS → total places_held changes ≤ most → IsSmall c most changes
 is_small c most changes bytes rows marks targets machines =
     let b = total_is bytes_held changes in
@@ -64,8 +64,8 @@ pub record IsLight (c : Config) (rows : ℕ) (changes : List Change) : Type 0 wh
   pub pages : total (bytes_most c) changes ≡ 0
   pub whole : total whole_rows changes ≡ 0
   pub rows_most : total (one_if is_row) changes ≤ rows
-  pub marks : total marks_held changes ≤ 100
-  pub turned : total marks_most changes ≤ 100
+  pub marks : total marks_held changes ≤ MAX_SAMPLE
+  pub turned : total marks_most changes ≤ MAX_SAMPLE
   pub targets : total (one_if is_target) changes ≡ 0
   pub machines : total places_held changes ≡ 0
 

@@ -2,7 +2,7 @@
 use Rattle.std.proofs.Common.{◌≡◌, zero, suc, ℕ, ◌≤◌, Bool, true, false, List, [], ◌∷◌, length, map, get_or, refl, arith, cond, Option, Some, None}
 use Rattle.std.specs.List.{flat_map, range_with_len, AllByRecursion}
 use Rattle.esx_types.specs.declared.config.Config.{Config}
-use Rattle.esx_types.specs.declared.config.TheConstants.{VM_NUMBERS}
+use Rattle.esx_types.specs.declared.config.TheConstants.{MAX_SAMPLE, VM_NUMBERS}
 use Rattle.esx_types.specs.declared.table.FrameRow.{FrameRow}
 use Rattle.esx_types.specs.declared.table.FrameRow.TheVariants as frames
 use Rattle.esx_model.specs.declared.scene.Place.{Place}
@@ -27,7 +27,7 @@ use Rattle.esx_refinement.proofs.refines.Rebalancing.{has_ratios}
 use Rattle.esx_records.proofs.Pages.{HavePages, IsPageAtMost, IsSlotAtMost, all_of}
 use Rattle.esx_records.proofs.Marks.{HaveFewMarks}
 
--- pages in frames and in slots are whole pages, periods have 100 pages at most, and there are 32 places of machines
+-- pages in frames and in slots are whole pages, periods have `MAX_SAMPLE` pages at most, and there are `VM_NUMBERS` places of machines
 pub record AreStocked (c : Config) (t : Tables) : Type 0 where
   pub pages : HavePages c t
   pub few : HaveFewMarks t
@@ -97,17 +97,17 @@ all_mapped P f each (x ∷ xs) = (each x, all_mapped P f each xs)
 
 -- Marks.
 
-few_of : (o : Option PeriodRow) → ((p : PeriodRow) → o ≡ Some p → IsOpen p) → mark_count o ≤ 100
+few_of : (o : Option PeriodRow) → ((p : PeriodRow) → o ≡ Some p → IsOpen p) → mark_count o ≤ MAX_SAMPLE
 few_of None still = omega arith
 few_of (Some p) still = (still p refl).most
 
-vm_few : (o : Option VmRow) → ((v : VmRow) → o ≡ Some v → (p : PeriodRow) → v.period ≡ Some p → IsOpen p) → vm_marks o ≤ 100
+vm_few : (o : Option VmRow) → ((v : VmRow) → o ≡ Some v → (p : PeriodRow) → v.period ≡ Some p → IsOpen p) → vm_marks o ≤ MAX_SAMPLE
 vm_few None still = omega arith
 vm_few (Some v) still = few_of v.period (still v refl)
 
 few_marks : (t : Tables) → ArePeriodsOpen t → HaveFewMarks t
 few_marks t still =
-    let P : Option VmRow → Type 0 = λ row. vm_marks row ≤ 100 in
+    let P : Option VmRow → Type 0 = λ row. vm_marks row ≤ MAX_SAMPLE in
     all_of P t.vms None (λ n. vm_few (row_at t n) (still n))
 
 pub stocked : (c : Config) (s : Site) → IsSound c s → AreStocked c (tables_of c s)

@@ -2,12 +2,13 @@
 use Rattle.std.proofs.Common.{◌≡◌, ℕ, ◌≤◌, List, ap, ◌∙◌, arith}
 use Rattle.esx_types.specs.Ranges.{IsConfig}
 use Rattle.esx_types.specs.declared.config.Config.{Config}
+use Rattle.esx_types.specs.declared.config.TheConstants.{MAX_PAGE}
 use Rattle.esx_tables.specs.declared.change.Change.{Change}
 use Rattle.esx_tables.specs.declared.record.RecordSize.{RecordSize}
 use Rattle.esx_tables.specs.Sizes.{size_of, fitting, capped}
 use Rattle.esx_records.specs.Small.{IsSmall}
 
-fits : (n : ℕ) → n ≤ 4096 → fitting n ≡ n
+fits : (n : ℕ) → n ≤ MAX_PAGE → fitting n ≡ n
 fits n h = omega (arith, h)
 
 pub told : (c : Config) (most : ℕ) (changes : List Change) → IsConfig c → IsSmall c most changes → capped (size_of changes) ≡ size_of changes

@@ -2,7 +2,7 @@
 use Rattle.std.specs.Prelude.{ℕ, ◌≤◌, List, [], ◌∷◌, length, Option}
 use Rattle.std.specs.List.{flat_map}
 use Rattle.esx_types.specs.declared.config.Config.{Config}
-use Rattle.esx_types.specs.declared.config.TheConstants.{VM_NUMBERS}
+use Rattle.esx_types.specs.declared.config.TheConstants.{MAX_SAMPLE, VM_NUMBERS}
 use Rattle.esx_events.specs.declared.event.Event.{Event}
 use Rattle.esx_events.specs.declared.event.Event.TheVariants.{Admit, Start, Read, Write, Ask, Lend, TakeBack, Sample, Rebalance, Scan, SwapOut, Replace, SetShares, SetTax, Stop, DropPage, Gone}
 use Rattle.esx_model.specs.declared.book.VmRow.{VmRow}
@@ -46,10 +46,10 @@ machines_moved (SetTax tau) = 0
 machines_moved (Stop n) = 0
 machines_moved (DropPage n page) = 0
 
--- One page of bytes, 10 rows, 100 sample marks and a target of each machine at most; and at most so many machines, each with its page map.
+-- One page of bytes, 10 rows, `MAX_SAMPLE` sample marks and a target of each machine at most; and at most so many machines, each with its page map.
 pub record IsSmall (c : Config) (most : ℕ) (changes : List Change) : Type 0 where
   pub bytes : (size_of changes).bytes ≤ c.page
   pub rows : (size_of changes).rows ≤ 10
-  pub marks : (size_of changes).marks ≤ 100
+  pub marks : (size_of changes).marks ≤ MAX_SAMPLE
   pub targets : (size_of changes).targets ≤ VM_NUMBERS
   pub machines : length (places_in changes) ≤ most

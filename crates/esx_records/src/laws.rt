@@ -17,8 +17,9 @@ ghost use Rattle.esx_records.specs.Small.{places_in, machines_moved, IsSmall};
 ghost use Rattle.esx_records.specs.Forms.{after_flips, IsIn};
 ghost use Rattle.esx_records.specs.Moves.{bytes_in, marks_in};
 
-/// The record of an event holds one page of bytes at most, 10 rows, 100 sample marks and 32 targets; and no
-/// machine with its page map, but for one in an admission and where a machine gives back an overhead frame.
+/// The record of an event holds one page of bytes at most, 10 rows, `MAX_SAMPLE` sample marks and a target of
+/// each machine; and no machine with its page map, but for one in an admission and where a machine gives back
+/// an overhead frame.
 pub fn records_are_small()
     ensures { (old new : Kept) (event : Event) (r : Back) → IsKept old → Exchanges old new event r
         → (k : ℕ) → IsSmall old.config (machines_moved event) (after_flips k r new old).changes }

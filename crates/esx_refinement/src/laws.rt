@@ -98,7 +98,7 @@ pub fn access_refines()
     ensures write { (c : Config) (s : Site) (level : Level) (n page at : ℕ) (new : List ℕ) → IsSound c s → Refines c s (write_plan c (tables_of c s) level n page at new) (write c s level n page at new) }
 {}
 
-/// Each open period in the tables of a sound site has accesses left, and 1 to 100 pages.
+/// Each open period in the tables of a sound site has accesses left, and 1 to `MAX_SAMPLE` pages.
 pub fn periods_are_open()
     ensures { (c : Config) (s : Site) → IsSound c s → ArePeriodsOpen (tables_of c s) }
 {}

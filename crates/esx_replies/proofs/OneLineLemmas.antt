@@ -27,6 +27,7 @@ use Rattle.esx_events.specs.declared.call.PageState.{PageState}
 use Rattle.esx_events.specs.declared.call.PageState.TheVariants as pages
 use Rattle.esx_events.specs.declared.call.Help.{Help}
 use Rattle.esx_events.specs.declared.call.Help.TheVariants as helps
+use Rattle.esx_events.specs.declared.name.TheConstants.{MAX_NAME}
 use Rattle.esx_writing.specs.Writing.{right_in, left_in}
 use Rattle.esx_replies.specs.Texts.{level_text, state_text, running_text, refusal_text, sum_text, stand_text, marked_text, pruned_text, activity_text, looked_text, page_text, help_text}
 use Rattle.esx_replies.specs.Replies.{answer_text, tried_text, said_text, table_head, row_text, marks_head, mark_text, sides_head, before_text, after_text, numbered_text, tried_texts}
@@ -112,7 +113,7 @@ plain_bytes (b ∷ bs) h =
     rw (name_byte b p.0) (plain_bytes bs p.1)
 
 pub plain_name : (name : List ℕ) → IsName name → is_plain name ≡ true
-plain_name name h = plain_bytes name (and_parts (starts_lower name && nat_le (length name) 32) (list_all is_name_byte name) h).1
+plain_name name h = plain_bytes name (and_parts (starts_lower name && nat_le (length name) MAX_NAME) (list_all is_name_byte name) h).1
 
 -- a line goes on behind a number, hex, a column or a word
 past_decimal : (n : ℕ) (t : List ℕ) → is_line (decimal n ++ t) ≡ is_line t

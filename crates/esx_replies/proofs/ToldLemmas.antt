@@ -31,6 +31,7 @@ use Rattle.esx_events.specs.declared.call.PageState.{PageState}
 use Rattle.esx_events.specs.declared.call.PageState.TheVariants as pages
 use Rattle.esx_events.specs.declared.call.Help.{Help}
 use Rattle.esx_events.specs.declared.call.Help.TheVariants as helps
+use Rattle.esx_events.specs.declared.name.TheConstants.{MAX_NAME}
 use Rattle.esx_writing.specs.Writing.{right_in, left_in}
 use Rattle.esx_replies.specs.Texts.{level_text, state_text, running_text, refusal_text, sum_text, marked_text, looked_text, page_text, help_text}
 use Rattle.esx_replies.specs.Replies.{answer_text, tried_text, said_text, reply_text, table_head, row_text, table_text, marks_head, mark_text, marks_text, sides_head, before_text, after_text, sides_text, numbered_text, tried_texts, accepted}
@@ -126,7 +127,7 @@ told_bytes (b ∷ bs) h =
     and_from (is_told b) (list_all is_told bs) (name_told b p.0) (told_bytes bs p.1)
 
 told_name : (name : List ℕ) → IsName name → list_all is_told name ≡ true
-told_name name h = told_bytes name (and_parts (starts_lower name && nat_le (length name) 32) (list_all is_name_byte name) h).1
+told_name name h = told_bytes name (and_parts (starts_lower name && nat_le (length name) MAX_NAME) (list_all is_name_byte name) h).1
 
 past_decimal : (d n : ℕ) (t : List ℕ) → tells d (decimal n ++ t) ≡ tells (last_or d (decimal n)) t
 past_decimal d n t = past_told d (decimal n) t (told_decimal n)

@@ -14,6 +14,7 @@ use Rattle.esx_reading.specs.declared.fault.TextFault.TheVariants.{BadKey, OutOf
 use Rattle.esx_types.specs.declared.config.Config.{Config}
 use Rattle.esx_scenario.specs.declared.plan.Guest.{Guest}
 use Rattle.esx_scenario.specs.declared.plan.TraceLine.{TraceLine}
+use Rattle.esx_scenario.specs.declared.guests.TheConstants.{MOST_LINES}
 use Rattle.esx_scenario.specs.Keys.{Tried, Gives, Names, ◌>>=◌, below, at_key}
 use Rattle.esx_scenario.specs.Lines.{line_of}
 use Rattle.esx_scenario.specs.Guests.{count_items, lines_from, trace_in, guest_at, guests_from, guests_at, are_tables, new_number}
@@ -121,10 +122,10 @@ pub no_trace : (size pages : ℕ) (o : Option Data) → o ≡ None → trace_in 
 unfolding trace_in
 no_trace size pages o e = rw e refl
 
-pub trace_array : (size pages : ℕ) (d : Data) (ds : Items) (fits : Bool) → Some ds ≡ as_array d → nat_le (count_items ds) 65536 ≡ fits
+pub trace_array : (size pages : ℕ) (d : Data) (ds : Items) (fits : Bool) → Some ds ≡ as_array d → nat_le (count_items ds) MOST_LINES ≡ fits
     → trace_in size pages (Some d) ≡ (if fits then lines_from size pages [] ds else None)
 unfolding trace_in
-trace_array size pages (array xs) ds fits e c = let same = same_Some ds xs e in let found : nat_le (count_items xs) 65536 ≡ fits = ap (λ l. nat_le (count_items l) 65536) (sym same) ∙ c in rw (found, same) refl
+trace_array size pages (array xs) ds fits e c = let same = same_Some ds xs e in let found : nat_le (count_items xs) MOST_LINES ≡ fits = ap (λ l. nat_le (count_items l) MOST_LINES) (sym same) ∙ c in rw (found, same) refl
 trace_array size pages (string s) ds fits e c = absurd (cc)
 trace_array size pages (integer z) ds fits e c = absurd (cc)
 trace_array size pages (float x) ds fits e c = absurd (cc)

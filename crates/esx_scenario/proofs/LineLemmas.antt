@@ -1,9 +1,10 @@
 -- Lines of a trace, field by field.
-use Rattle.std.proofs.Common.{◌≡◌, ◌≢◌, ◌<◌, ◌^◌, ℕ, List, [], ◌∷◌, length, Bool, true, false, Option, Some, None, Result, Ok, Err, refl, codes, decimal, arith, nat_le, nat_lt, le-leb}
-use Rattle.std.specs.Prelude.{◌&&◌}
+use Rattle.std.proofs.Common.{◌≡◌, ◌≢◌, ◌<◌, ◌^◌, ℕ, List, [], ◌∷◌, length, Bool, true, false, Option, Some, None, Result, Ok, Err, refl, sym, codes, decimal, arith, nat_le, nat_lt, le-leb}
+use Rattle.std.specs.Prelude.{◌&&◌, IfOk, IfSome, IfNone}
 use Rattle.std.specs.Str.{bytes_eq}
 use Rattle.std.proofs.lemmas.Bool.{and_parts, lt-ltb}
 use Rattle.std.specs.Str.Parse.{digits_value}
+use Rattle.esx_types.specs.declared.config.TheConstants.{MAX_PAGE}
 use Rattle.esx_reading.specs.Fields.{fields}
 use Rattle.std.proofs.lemmas.Slice.Eq.{bytes_eq-Decides}
 use Rattle.std.proofs.lemmas.Fmt.{decimal_is_IsNumeral}
@@ -11,9 +12,6 @@ use borrow.Author.Tests.{ltb-true, leb-true}
 use Rattle.hex.specs.Hex.{encode_lower, decode_of}
 use Rattle.hex.proofs.HexLemmas.{decode_of-ok}
 use Rattle.hex.specs.declared.error.FromHexError.{FromHexError}
-use Rattle.esx_reading.specs.declared.fault.TextFault.{TextFault}
-use Rattle.esx_reading.specs.declared.fault.TextFault.TheVariants.{BadLine, OutOfMemory}
-use Rattle.esx_reading.specs.Faults.{Refuses}
 use Rattle.esx_reading.specs.Written.{IsWritten}
 use Rattle.esx_reading.proofs.HexField.{decodes}
 use Rattle.esx_scenario.specs.declared.plan.TraceLine.{TraceLine}
@@ -57,31 +55,36 @@ number_missing text nothing =
     nothing n (ltb-true n (2 ^ 32) p.1) ((bytes_eq-Decides text (decimal n)).0 p.0)) in
     rw f refl
 
-pub bytes_found : (text bytes : List ℕ) → IsWritten bytes → text ≡ encode_lower bytes → bytes_in text ≡ Some bytes
+bytes_found : (text bytes : List ℕ) → IsWritten bytes → text ≡ encode_lower bytes → bytes_in text ≡ Some bytes
 unfolding bytes_in
 bytes_found text bytes w e =
-    rw (decodes text bytes w e, e, same_bytes (encode_lower bytes), le-leb 1 (length bytes) w.some, le-leb (length bytes) 4096 w.few) refl
+    rw (decodes text bytes w e, e, same_bytes (encode_lower bytes), le-leb 1 (length bytes) w.some, le-leb (length bytes) MAX_PAGE w.few) refl
 
 lower_case_none : (text : List ℕ) (r : Result (List ℕ) FromHexError) → decode_of text ≡ r → ((bytes : List ℕ) → IsWritten bytes → text ≡ encode_lower bytes → ⊥) → lower_case text r ≡ None
 lower_case_none text (Err e) d nothing = refl
 lower_case_none text (Ok bytes) d nothing =
-    let f : (bytes_eq text (encode_lower bytes) && (nat_le 1 (length bytes) && nat_le (length bytes) 4096)) ≡ false =
+    let f : (bytes_eq text (encode_lower bytes) && (nat_le 1 (length bytes) && nat_le (length bytes) MAX_PAGE)) ≡ false =
     not_true _ (λ t.
     let p = and_parts (bytes_eq text (encode_lower bytes)) _ t in
-    let q = and_parts (nat_le 1 (length bytes)) (nat_le (length bytes) 4096) p.1 in
-    nothing bytes (record { some = leb-true 1 (length bytes) q.0; few = leb-true (length bytes) 4096 q.1; are_bytes = (decode_of-ok text bytes d).3 })
+    let q = and_parts (nat_le 1 (length bytes)) (nat_le (length bytes) MAX_PAGE) p.1 in
+    nothing bytes (record { some = leb-true 1 (length bytes) q.0; few = leb-true (length bytes) MAX_PAGE q.1; are_bytes = (decode_of-ok text bytes d).3 })
     ((bytes_eq-Decides text (encode_lower bytes)).0 p.0)) in
     rw f refl
 
-pub bytes_missing : (text : List ℕ) → ((bytes : List ℕ) → IsWritten bytes → text ≡ encode_lower bytes → ⊥) → bytes_in text ≡ None
+bytes_missing : (text : List ℕ) → ((bytes : List ℕ) → IsWritten bytes → text ≡ encode_lower bytes → ⊥) → bytes_in text ≡ None
 unfolding bytes_in
 bytes_missing text nothing = lower_case_none text (decode_of text) refl nothing
 
--- a refusal that is no want of memory
-pub refuses_all : (e : TextFault) (P : Type 0) → e ≢ OutOfMemory → Refuses e P → P
-refuses_all (BadLine n) P ne r = r.1
-refuses_all OutOfMemory P ne r = absurd (ne refl)
-refuses_all _ P ne r = absurd r
+-- the bytes that a field was read as, or that it has none
+read_as : (text : List ℕ) (found : Option (List ℕ)) → IfSome found (λ bytes. IsWritten bytes × (text ≡ encode_lower bytes))
+    → IfNone found ((bytes : List ℕ) → IsWritten bytes → text ≡ encode_lower bytes → ⊥) → found ≡ bytes_in text
+read_as text (Some bytes) found only = sym (bytes_found text bytes found.0 found.1)
+read_as text None found only = sym (bytes_missing text only)
+
+pub bytes_read : {E : Type 0} (text : List ℕ) (r : Result (Option (List ℕ)) E) → IfOk r (λ found. IfSome found (λ bytes. IsWritten bytes × (text ≡ encode_lower bytes)))
+    → IfOk r (λ found. IfNone found ((bytes : List ℕ) → IsWritten bytes → text ≡ encode_lower bytes → ⊥)) → IfOk r (λ found. found ≡ bytes_in text)
+bytes_read text (Ok read) found only = read_as text read found only
+bytes_read text (Err e) found only = tt
 
 pub read_is : (fields : List (List ℕ)) (page at len : List ℕ) → fields ≡ page ∷ at ∷ len ∷ []
     → read_in fields ≡ (number_in page >>= λ page. number_in at >>= λ at. number_in len >>= λ len. Some (Read page at len))

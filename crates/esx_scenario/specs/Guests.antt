@@ -2,10 +2,11 @@
 use Rattle.std.specs.Prelude.{ℕ, ◌+◌, ◌-◌, ◌&&◌, ◌++◌, ◌∷◌, [], Bool, true, nat_le, List, length, codes, decimal, Option, Some, None, is_some, Ok, Err, if◌then◌else◌}
 use Rattle.toml.specs.Data.{Data, array, table, string, Items, no_items, item, Members, get_member, as_table}
 use Rattle.esx_types.specs.declared.config.Config.{Config}
-use Rattle.esx_types.specs.declared.config.TheConstants.{VM_NUMBERS}
+use Rattle.esx_types.specs.declared.config.TheConstants.{MAX_OVERHEAD, MAX_PAGES, MAX_SHARES, VM_NUMBERS}
 use Rattle.esx_types.specs.declared.vm.VmSpec.{VmSpec}
 use Rattle.esx_scenario.specs.declared.plan.Guest.{Guest}
 use Rattle.esx_scenario.specs.declared.plan.TraceLine.{TraceLine}
+use Rattle.esx_scenario.specs.declared.guests.TheConstants.{MOST_LINES}
 use Rattle.esx_scenario.specs.Plans.{has_number}
 use Rattle.esx_scenario.specs.Lines.{line_of, ◌>>=◌ as then_some}
 use Rattle.esx_scenario.specs.Keys.{Tried, ◌>>=◌, below, at_key, required}
@@ -23,7 +24,7 @@ lines_from size pages lines (item _ ds) = None
 -- the trace of the value at `trace`
 unfoldable pub trace_in : ℕ → ℕ → Option Data → Option (List TraceLine)
 trace_in size pages None = Some []
-trace_in size pages (Some (array ds)) = if nat_le (count_items ds) 65536 then lines_from size pages [] ds else None
+trace_in size pages (Some (array ds)) = if nat_le (count_items ds) MOST_LINES then lines_from size pages [] ds else None
 trace_in size pages (Some _) = None
 
 -- the number, if none of the earlier machines has it
@@ -37,10 +38,10 @@ number_at earlier t = do
 
 abbrev pub spec_in : Members → Tried VmSpec
 spec_in t = do
-  min ← required t (codes "min") 1 65536
-  max ← required t (codes "max") min 65536
-  overhead ← required t (codes "overhead") 1 1048576
-  shares ← required t (codes "shares") 1 1048576
+  min ← required t (codes "min") 1 MAX_PAGES
+  max ← required t (codes "max") min MAX_PAGES
+  overhead ← required t (codes "overhead") 1 MAX_OVERHEAD
+  shares ← required t (codes "shares") 1 MAX_SHARES
   balloon ← required t (codes "balloon") 0 (max - min)
   Ok (record { min = min; max = max; overhead = overhead; shares = shares; balloon_max = balloon })
 

@@ -4,6 +4,7 @@ use Rattle.std.specs.Str.{bytes_eq}
 use Rattle.std.specs.Str.Parse.{digits_value}
 use Rattle.hex.specs.Hex.{encode_lower, decode_of}
 use Rattle.hex.specs.declared.error.FromHexError.{FromHexError}
+use Rattle.esx_types.specs.declared.config.TheConstants.{MAX_PAGE}
 use Rattle.esx_reading.specs.Fields.{fields}
 use Rattle.esx_scenario.specs.declared.plan.TraceLine.{TraceLine}
 use Rattle.esx_scenario.specs.declared.plan.TraceLine.TheVariants.{Read, Write, Ask, Lend, TakeBack}
@@ -34,9 +35,9 @@ None >>= f = None
 unfoldable pub number_in : List ℕ → Option ℕ
 number_in text = let n = digits_value 10 text in if bytes_eq text (decimal n) && nat_lt n (2 ^ 32) then Some n else None
 
--- the bytes that were decoded, if there are 1 to 4,096 and they are written so in lower case
+-- the bytes that were decoded, if there are 1 to `MAX_PAGE` and they are written so in lower case
 abbrev pub lower_case : List ℕ → Result (List ℕ) FromHexError → Option (List ℕ)
-lower_case text (Ok bytes) = if bytes_eq text (encode_lower bytes) && (nat_le 1 (length bytes) && nat_le (length bytes) 4096) then Some bytes else None
+lower_case text (Ok bytes) = if bytes_eq text (encode_lower bytes) && (nat_le 1 (length bytes) && nat_le (length bytes) MAX_PAGE) then Some bytes else None
 lower_case text (Err e) = None
 
 -- the bytes that are written so in hex

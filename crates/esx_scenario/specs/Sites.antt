@@ -2,23 +2,25 @@
 use Rattle.std.specs.Prelude.{ℕ, ◌≡◌, ◌≤◌, ◌%◌, ◌==◌, ◌^◌, ◌-◌, codes, Option, Some, None, Ok, Err, if◌then◌else◌}
 use Rattle.toml.specs.Data.{Data, table, Members}
 use Rattle.esx_types.specs.declared.config.Config.{Config}
+use Rattle.esx_types.specs.declared.config.TheConstants.{MAX_FRAMES, MAX_HIGH, MAX_LENGTH, MAX_NODES, MAX_PAGE, MAX_SAMPLE, MAX_SLOTS, MAX_TAU, MIN_FRAMES, MIN_PAGE}
 use Rattle.esx_scenario.specs.declared.plan.Settings.{Settings}
 use Rattle.esx_scenario.specs.declared.site.Levels.{Levels}
+use Rattle.esx_scenario.specs.declared.plan.TheConstants.{MAX_TURNS}
 use Rattle.esx_scenario.specs.Keys.{Tried, ◌>>=◌, below, required, optional}
 
--- the number, if it is a multiple of 16
+-- the number, if it is a multiple of `MIN_PAGE`
 unfoldable pub whole_page : ℕ → Tried ℕ
-whole_page n = if n % 16 == 0 then Ok n else Err (codes "page")
+whole_page n = if n % MIN_PAGE == 0 then Ok n else Err (codes "page")
 
 abbrev pub page_in : Members → Tried ℕ
 page_in t = do
-  page ← required t (codes "page") 16 4096
+  page ← required t (codes "page") MIN_PAGE MAX_PAGE
   whole_page page
 
 -- each level's percentage is at most that of the level before it
 abbrev pub levels_in : Members → Tried Levels
 levels_in t = do
-  high ← optional t (codes "high") 1 50 6
+  high ← optional t (codes "high") 1 MAX_HIGH 6
   soft ← optional t (codes "soft") 1 high 4
   hard ← optional t (codes "hard") 1 soft 2
   low ← optional t (codes "low") 1 hard 1
@@ -26,12 +28,12 @@ levels_in t = do
 
 abbrev pub site_in : Members → Tried Config
 site_in t = do
-  frames ← required t (codes "frames") 8 1048576
+  frames ← required t (codes "frames") MIN_FRAMES MAX_FRAMES
   page ← page_in t
-  slots ← required t (codes "slots") 0 1048576
-  tau ← optional t (codes "tau") 0 99 75
+  slots ← required t (codes "slots") 0 MAX_SLOTS
+  tau ← optional t (codes "tau") 0 MAX_TAU 75
   levels ← levels_in t
-  nodes ← optional t (codes "nodes") 1 16777216 16777216
+  nodes ← optional t (codes "nodes") 1 MAX_NODES MAX_NODES
   Ok (record {
     frames = frames;
     page = page;
@@ -52,9 +54,9 @@ site_at (Some t) = below (codes "machine.") (site_in t)
 abbrev pub settings_in : Members → Tried Settings
 settings_in t = do
   seed ← optional t (codes "seed") 0 (2 ^ 63 - 1) 1
-  turns ← optional t (codes "turns") 1 1000000 1000
-  sample ← optional t (codes "sample") 1 100 100
-  length ← optional t (codes "length") 1 1048576 1000
+  turns ← optional t (codes "turns") 1 MAX_TURNS 1000
+  sample ← optional t (codes "sample") 1 MAX_SAMPLE 100
+  length ← optional t (codes "length") 1 MAX_LENGTH 1000
   Ok (record { seed = seed; turns = turns; sample = sample; length = length })
 
 -- the settings of the value at `run`
@@ -65,13 +67,13 @@ settings_at (Some _) = Err (codes "run")
 
 -- the ranges of a page size and of the levels
 pub record IsPage (page : ℕ) : Type 0 where
-  pub least : 16 ≤ page
-  pub most : page ≤ 4096
-  pub whole : page % 16 ≡ 0
+  pub least : MIN_PAGE ≤ page
+  pub most : page ≤ MAX_PAGE
+  pub whole : page % MIN_PAGE ≡ 0
 
 pub record AreLevels (l : Levels) : Type 0 where
   pub least_low : 1 ≤ l.low
   pub low_hard : l.low ≤ l.hard
   pub hard_soft : l.hard ≤ l.soft
   pub soft_high : l.soft ≤ l.high
-  pub most_high : l.high ≤ 50
+  pub most_high : l.high ≤ MAX_HIGH

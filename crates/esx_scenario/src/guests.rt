@@ -14,7 +14,7 @@ use crate::keys::{bad_key, member, required_number};
 use crate::line::line_of_text;
 use crate::plan::{Guest, TraceLine};
 use esx_reading::TextFault;
-use esx_types::{Config, Rows, VM_NUMBERS, VmId, VmSpec};
+use esx_types::{Config, MAX_OVERHEAD, MAX_PAGES, MAX_SHARES, Rows, VM_NUMBERS, VmId, VmSpec};
 use std::alloc::{AllocError, Global};
 use toml::{Table, Value};
 
@@ -22,7 +22,7 @@ use toml::{Table, Value};
 const MOST_GUESTS: usize = VM_NUMBERS;
 
 /// The most lines of a trace.
-const MOST_LINES: usize = 65536;
+pub const MOST_LINES: usize = 65536;
 
 /// Whether a machine has the number.
 fn has_guest(guests: &[Guest], number: u8) -> bool
@@ -48,10 +48,10 @@ fn spec_of(table: &Table) -> Result<VmSpec, &'static str>
     ensures exact { Tries (spec_in (table_view table.now)) result }
     ensures good { IfOk result IsGood }
 {
-    let min = required_number(table, "min", 1, 65536)?;
-    let max = required_number(table, "max", min, 65536)?;
-    let overhead = required_number(table, "overhead", 1, 1048576)?;
-    let shares = required_number(table, "shares", 1, 1048576)?;
+    let min = required_number(table, "min", 1, MAX_PAGES as u64)?;
+    let max = required_number(table, "max", min, MAX_PAGES as u64)?;
+    let overhead = required_number(table, "overhead", 1, MAX_OVERHEAD as u64)?;
+    let shares = required_number(table, "shares", 1, MAX_SHARES as u64)?;
     let balloon = required_number(table, "balloon", 0, max - min)?;
     Ok(VmSpec {
         min: min as u32,
@@ -93,7 +93,7 @@ fn trace_of(
     value: Option<&Value>,
 ) -> Result<Option<Rows<TraceLine>>, AllocError>
     ensures exact { IfOk result (λ found. found ≡ trace_in size pages (option_map (λ v. view v.now) value.entry)) }
-    ensures within { IfOk result (λ found. IfSome found (λ lines. All (IsWithin size pages) lines × (length lines ≤ 65536))) }
+    ensures within { IfOk result (λ found. IfSome found (λ lines. All (IsWithin size pages) lines × (length lines ≤ MOST_LINES))) }
 {
     let Some(value) = value else {
         return Ok(Some(Rows::new(alloc)));

@@ -10,5 +10,6 @@ mod plan;
 mod site;
 mod strange;
 
+pub use guests::MOST_LINES;
 pub use parse::parse_scenario;
-pub use plan::{Guest, Scenario, Settings, TraceLine};
+pub use plan::{Guest, MAX_TURNS, Scenario, Settings, TraceLine};

@@ -4,7 +4,7 @@ ghost use Rattle.std.specs.Prelude.{◌≡◌, ◌∷◌, [], ℕ, List, IfOk, I
 ghost use Rattle.esx_scenario.specs.Lines.{IsWithin, ask_in, bytes_in, is_within, lend_in, line_in, line_of, number_in, read_in, take_back_in, write_in};
 
 use crate::plan::TraceLine;
-use esx_reading::{Fields, TextFault, number_of, written_bytes};
+use esx_reading::{Fields, number_of, written_bytes};
 use esx_types::Bytes;
 use std::alloc::{AllocError, Global};
 
@@ -20,17 +20,11 @@ fn number_of_field(field: &str) -> Option<u32>
     }
 }
 
-/// The bytes of a field, 1 to 4,096 of them.
+/// The bytes of a field, 1 to `MAX_PAGE` of them.
 fn bytes_of_field(alloc: Global, field: &str) -> Result<Option<Bytes>, AllocError>
     ensures { IfOk result (λ found. found ≡ bytes_in field.now) }
 {
-    match written_bytes(alloc, field) {
-        Ok(bytes) => Ok(Some(bytes)),
-        Err(fault) => match fault {
-            TextFault::OutOfMemory => Err(AllocError),
-            _ => Ok(None),
-        },
-    }
+    written_bytes(alloc, field)
 }
 
 /// The only field that is left.

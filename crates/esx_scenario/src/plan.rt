@@ -7,11 +7,14 @@ ghost use Rattle.esx_scenario.specs.Plans.{Plan, IsPlan};
 use esx_types::{Bytes, Config, Rows, VmId, VmSpec};
 use std::marker::Model;
 
+/// The most turns of a worker.
+pub const MAX_TURNS: u32 = 1000000;
+
 /// What the workers of a run are told.
 ///
-/// `seed`, below 2^63, is what their random words begin with; `turns` is the most turns of each, 1 to 1,000,000;
-/// `sample` is how many words the policy worker draws for a sample, 1 to 100; `length` is the length of its sample
-/// periods, 1 to 2^20.
+/// `seed`, below 2^63, is what their random words begin with; `turns` is the most turns of each, 1 to `MAX_TURNS`;
+/// `sample` is how many words the policy worker draws for a sample, 1 to `MAX_SAMPLE`; `length` is the length of
+/// its sample periods, 1 to `MAX_LENGTH`.
 #[derive(Clone, Copy, Debug, PartialEq, Eq)]
 pub struct Settings {
     pub seed: u64,
@@ -40,9 +43,9 @@ pub struct Guest {
     pub trace: Rows<TraceLine>,
 }
 
-/// A scenario whose numbers are in their ranges: the site and the settings; up to 32 virtual machines, in the
-/// order of the text, with numbers of their own and good wishes; traces of up to 65,536 lines, each within
-/// its machine's pages and within the site's page size.
+/// A scenario whose numbers are in their ranges: the site and the settings; up to `VM_NUMBERS` virtual machines,
+/// in the order of the text, with numbers of their own and good wishes; traces of up to `MOST_LINES` lines, each
+/// within its machine's pages and within the site's page size.
 #[derive(Debug, Drop)]
 pub struct Scenario {
     config: Config,

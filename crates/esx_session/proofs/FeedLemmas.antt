@@ -12,6 +12,7 @@ use Rattle.esx_reading.proofs.FieldLemmas.{no_match}
 use Rattle.esx_events.specs.Names.{IsName, is_lower, is_name_byte, starts_lower}
 use Rattle.esx_events.specs.declared.event.Event.{Event}
 use Rattle.esx_events.specs.declared.call.Call.{Call}
+use Rattle.esx_events.specs.declared.name.TheConstants.{MAX_NAME}
 use Rattle.esx_reading.specs.Fields.{joined}
 use Rattle.esx_words.specs.declared.verbs.Verb.{Verb}
 use Rattle.esx_words.specs.declared.verbs.Verb.TheVariants as verbs
@@ -101,7 +102,7 @@ name_bytes [] h = tt
 name_bytes (b ∷ bs) h = let p = and_parts (is_name_byte b) (list_all is_name_byte bs) h in (name_byte b p.0, name_bytes bs p.1)
 
 name_stays : (name : List ℕ) → IsName name → AllStay name
-name_stays name h = name_bytes name (and_parts (starts_lower name && nat_le (length name) 32) (list_all is_name_byte name) h).1
+name_stays name h = name_bytes name (and_parts (starts_lower name && nat_le (length name) MAX_NAME) (list_all is_name_byte name) h).1
 
 value_stays : (kind : Kind) (x : Value kind) → IsValue kind x → AllStay (value_word kind x)
 value_stays Machine n r = decimal_stays n

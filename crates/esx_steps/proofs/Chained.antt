@@ -2,7 +2,7 @@
 use Rattle.std.proofs.Common.{◌≡◌, ℕ, ◌≤◌, ◌<◌, length, get_or, set, arith, sym, ap, ◌∙◌, refl, Option, Some, None, option_map}
 use Rattle.std.proofs.lemmas.List.{get_or-set_same, length-set}
 use Rattle.esx_types.specs.declared.config.Config.{Config}
-use Rattle.esx_types.specs.declared.config.TheConstants.{VM_NUMBERS}
+use Rattle.esx_types.specs.declared.config.TheConstants.{MAX_SAMPLE, VM_NUMBERS}
 use Rattle.esx_formulas.specs.declared.activity.Period.{Period}
 use Rattle.esx_model.specs.declared.scene.Place.{Place}
 use Rattle.esx_model.specs.declared.scene.Vm.{Vm}
@@ -29,7 +29,7 @@ vm_after s n page q h =
     ∙ ap (option_map (with_place page q)) (get_or-set_same s.vms n a None h) ∙ map_map (with_place page q) (popped page) (vm_at s n)
 
 fit_by : (n page : ℕ) (q : Place) (o : Option Vm) → ((v : Vm) → o ≡ Some v → HasNumbers v) → (w : Vm) (p : Period) → option_map (λ v. with_place page q (popped page v)) o ≡ Some w → w.period ≡ Some p
-    → (1 ≤ length p.pages) × (length p.pages ≤ 100)
+    → (1 ≤ length p.pages) × (length p.pages ≤ MAX_SAMPLE)
 fit_by n page q None h w p e seen = absurd cc
 fit_by n page q (Some v) h w p e seen =
     let known = h v refl in
@@ -37,6 +37,6 @@ fit_by n page q (Some v) h w p e seen =
     (known.pages p same, known.most_pages p same)
 
 pub counts_fit : (c : Config) (s : Site) (n page : ℕ) (q : Place) → IsSound c s → n < VM_NUMBERS → (w : Vm) (p : Period)
-    → vm_at (placed (with_change s n (popped page)) n page q) n ≡ Some w → w.period ≡ Some p → (1 ≤ length p.pages) × (length p.pages ≤ 100)
+    → vm_at (placed (with_change s n (popped page)) n page q) n ≡ Some w → w.period ≡ Some p → (1 ≤ length p.pages) × (length p.pages ≤ MAX_SAMPLE)
 counts_fit c s n page q sound low w p there seen =
     fit_by n page q (vm_at s n) (λ v is. numbers c v (sound.each n v is)) w p (sym (vm_after s n page q (omega (arith, low, sound.vms))) ∙ there) seen

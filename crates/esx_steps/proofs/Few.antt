@@ -1,7 +1,8 @@
--- A sound site has no more pages than 32 machines may have.
+-- A sound site has no more pages than all machines may have.
 use Rattle.std.proofs.Common.{suc, ◌≡◌, true, subst, ℕ, ◌*◌, ◌^◌, ◌<◌, ◌≤◌, List, [], ◌∷◌, length, get_or, refl, sym, ap, ◌∙◌, arith, Option, Some, None, sum_by}
 use Rattle.std.proofs.lemmas.List.Sums.{count_by-le-length, sum_by-cons}
 use Rattle.esx_types.specs.declared.config.Config.{Config}
+use Rattle.esx_types.specs.declared.config.TheConstants.{MAX_PAGES}
 use Rattle.esx_model.specs.declared.scene.Vm.{Vm}
 use Rattle.esx_model.specs.declared.scene.Site.{Site}
 use Rattle.esx_model.specs.declared.look.Look.{Look}
@@ -11,11 +12,11 @@ use Rattle.esx_model.specs.event.Sharing.{look, after_look}
 use Rattle.esx_model.specs.sound.Sound.{IsSound}
 use Rattle.esx_model.proofs.Callers.{look_sound}
 
-few_of : (f : ℕ) (o : Option Vm) → ((v : Vm) → o ≡ Some v → length v.places ≤ 65536) → pages_of f o ≤ 65536
+few_of : (f : ℕ) (o : Option Vm) → ((v : Vm) → o ≡ Some v → length v.places ≤ MAX_PAGES) → pages_of f o ≤ MAX_PAGES
 few_of f None h = omega arith
 few_of f (Some v) h = (let most = h v refl in let few = count_by-le-length (is_here_at f) v.places in omega arith)
 
-few_in : (f : ℕ) (vms : List (Option Vm)) → ((n : ℕ) (v : Vm) → get_or vms n None ≡ Some v → length v.places ≤ 65536) → sum_by (pages_of f) vms ≤ length vms * 65536
+few_in : (f : ℕ) (vms : List (Option Vm)) → ((n : ℕ) (v : Vm) → get_or vms n None ≡ Some v → length v.places ≤ MAX_PAGES) → sum_by (pages_of f) vms ≤ length vms * MAX_PAGES
 few_in f [] h = omega arith
 few_in f (o ∷ os) h =
     let one = few_of f o (h 0) in
@@ -23,7 +24,7 @@ few_in f (o ∷ os) h =
     let total = sum_by-cons (pages_of f) o os in
     omega arith
 
-few_of_sound : (c : Config) (s : Site) → IsSound c s → (n : ℕ) (v : Vm) → get_or s.vms n None ≡ Some v → length v.places ≤ 65536
+few_of_sound : (c : Config) (s : Site) → IsSound c s → (n : ℕ) (v : Vm) → get_or s.vms n None ≡ Some v → length v.places ≤ MAX_PAGES
 few_of_sound c s sound n v there = let fine = sound.each n v there in let most = fine.good.most_max in let all = fine.pages in omega arith
 
 pub few_pages : (c : Config) (s : Site) (f : ℕ) → IsSound c s → pages_at f s < 2 ^ 32

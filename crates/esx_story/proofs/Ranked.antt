@@ -6,8 +6,10 @@ use Rattle.std.proofs.lemmas.List.Sums.{sum_by-cons}
 use Rattle.std.proofs.lemmas.Bool.Decides.{nat_tests}
 use Rattle.std.proofs.Math.Nat.{mul-pos}
 use Rattle.esx_types.specs.declared.config.Config.{Config}
+use Rattle.esx_types.specs.declared.config.TheConstants.{MAX_TAU}
 use Rattle.esx_events.specs.declared.call.Help.TheVariants as helps
 use Rattle.esx_formulas.specs.declared.targets.Row.{Row}
+use Rattle.esx_formulas.specs.declared.activity.TheConstants.{WHOLE}
 use Rattle.esx_formulas.specs.Ratio.{Claim, claim, ComesNoLater}
 use Rattle.esx_formulas.specs.Targets.{comes_no_later, sooner, first_claim}
 use Rattle.esx_formulas.proofs.Claims.{comes_from_test, comes_from_no_test, test_from_comes}
@@ -230,10 +232,10 @@ fine_later : (n : ℕ) (xs : List Claim) → AreFine (n + 1) xs → AreFine n xs
 fine_later n xs fine = record { from = all_map (λ (a : Claim). n + 1 ≤ a.vm) (λ (a : Claim). n ≤ a.vm) (λ a h. omega (arith, h)) xs fine.from; whole = fine.whole; rising = fine.rising }
 
 -- a ratio of some pages
-whole_claim : (row : Row) (pages : ℕ) → row.tau ≤ 99 → row.active ≤ 65536 → 0 < pages → 0 < (claim row pages).under
+whole_claim : (row : Row) (pages : ℕ) → row.tau ≤ MAX_TAU → row.active ≤ WHOLE → 0 < pages → 0 < (claim row pages).under
 whole_claim row pages low share some = mul-pos some (price_above_none row.tau row.active low share)
 
-fine_one : (n : ℕ) (row : Row) (rows : List Row) (b : Bool) → row.tau ≤ 99 → row.vm ≡ n → row.active ≤ 65536 → nat_lt row.floor row.pages ≡ b → AreFine (n + 1) (above_of rows)
+fine_one : (n : ℕ) (row : Row) (rows : List Row) (b : Bool) → row.tau ≤ MAX_TAU → row.vm ≡ n → row.active ≤ WHOLE → nat_lt row.floor row.pages ≡ b → AreFine (n + 1) (above_of rows)
     → AreFine n (map claimed (cond b (row ∷ filter is_above rows) (filter is_above rows)))
 fine_one n row rows false low number share e fine = fine_later n (above_of rows) fine
 fine_one n row rows true low number share e fine =
@@ -245,7 +247,7 @@ fine_one n row rows true low number share e fine =
       rising = (all_map (λ (a : Claim). n + 1 ≤ a.vm) (λ (a : Claim). row.vm < a.vm) (λ a h. omega (arith, h, number)) (above_of rows) fine.from, fine.rising);
     }
 
-fine_from : (c : Config) (tau n : ℕ) (vms : List (Option Vm)) → tau ≤ 99 → ((k : ℕ) (v : Vm) → get_or vms k None ≡ Some v → IsVm c v) → AreFine n (above_of (rows_from tau target_of n vms))
+fine_from : (c : Config) (tau n : ℕ) (vms : List (Option Vm)) → tau ≤ MAX_TAU → ((k : ℕ) (v : Vm) → get_or vms k None ≡ Some v → IsVm c v) → AreFine n (above_of (rows_from tau target_of n vms))
 fine_from c tau n [] low each = record { from = tt; whole = tt; rising = tt }
 fine_from c tau n (None ∷ vms) low each = fine_later n (above_of (rows_from tau target_of (n + 1) vms)) (fine_from c tau (n + 1) vms low (λ k v h. each (suc k) v h))
 fine_from c tau n (Some v ∷ vms) low each =

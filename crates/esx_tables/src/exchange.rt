@@ -5,6 +5,8 @@ ghost use Rattle.esx_types.specs.Slots.{held_bytes, is_empty, slot_at};
 ghost use Rattle.esx_formulas.specs.Key.{content_key};
 ghost use Rattle.esx_tables.specs.Machines.{vm_traded};
 ghost use Rattle.esx_tables.specs.Changes.{slots_traded, traded, exchanged, in_order};
+ghost use Rattle.esx_tables.specs.declared.change.Change.TheVariants.{FrameAt, ListingAt, FrameWithSlot, OfVm};
+ghost use Rattle.esx_tables.specs.declared.change.VmPart.TheVariants.{PageAt};
 
 use crate::change::{Change, VmPart};
 use crate::record::Record;
@@ -12,7 +14,7 @@ use crate::tables::SiteTables;
 use crate::vm_table::VmTable;
 use esx_frames::FrameTable;
 use esx_swap::Slots;
-use esx_types::SlotRow;
+use esx_types::{FrameRow, Listing, MapRow, SlotRow, VmId};
 
 impl SiteTables {
     /// Makes a change, and leaves in it what leads back. Where there is no such place nothing changes.
@@ -22,18 +24,16 @@ impl SiteTables {
         ensures change { change.new ≡ (traded self.old change.old).1 }
     {
         match change {
-            Change::FrameAt { frame, row } => self.frames.trade(*frame, row),
+            Change::FrameAt { frame, row } => self.trade_frame(*frame, row),
             Change::MarkAt { frame, mark } => self.frames.trade_mark(*frame, mark),
             Change::BytesAt {
                 frame,
                 offset,
                 bytes,
             } => self.frames.trade_bytes(*frame, *offset, bytes),
-            Change::ListingAt { frame, listing } => self.listings.trade(*frame, listing),
+            Change::ListingAt { frame, listing } => self.trade_listing(*frame, listing),
             Change::SlotAt { slot, row } => self.slots.trade(*slot, row),
-            Change::FrameWithSlot { frame, slot } => {
-                trade_slots(&mut self.frames, &mut self.slots, *frame, *slot)
-            }
+            Change::FrameWithSlot { frame, slot } => self.trade_frame_with_slot(*frame, *slot),
             Change::OfVm { vm, part } => {
                 let at = usize::from(vm.number());
                 if at < self.vms.len() {
@@ -42,6 +42,46 @@ impl SiteTables {
             }
             Change::VmAt { vm, row } => self.vms.trade(usize::from(vm.number()), row),
             Change::TaxIs { tau } => std::mem::swap(&mut self.tau, tau),
+        }
+    }
+
+    /// Trades the row of a frame. Where there is no such frame nothing changes.
+    #[tactic(auto, unfolding(crate::specs::Changes::traded))]
+    pub fn trade_frame(&mut self, frame: u32, row: &mut FrameRow)
+        ensures tables { self.new ≡ (traded self.old (FrameAt frame row.old)).0 }
+        ensures row { FrameAt frame row.new ≡ (traded self.old (FrameAt frame row.old)).1 }
+    {
+        self.frames.trade(frame, row);
+    }
+
+    /// Trades what a frame stands under. Where there is no such frame nothing changes.
+    #[tactic(auto, unfolding(crate::specs::Changes::traded))]
+    pub fn trade_listing(&mut self, frame: u32, listing: &mut Listing)
+        ensures tables { self.new ≡ (traded self.old (ListingAt frame listing.old)).0 }
+        ensures listing { ListingAt frame listing.new ≡ (traded self.old (ListingAt frame listing.old)).1 }
+    {
+        self.listings.trade(frame, listing);
+    }
+
+    /// Trades the page of a private frame, or none, for that of a slot, or none. Where there is no such frame or slot
+    /// nothing changes.
+    #[tactic(auto, unfolding(crate::specs::Changes::traded))]
+    pub fn trade_frame_with_slot(&mut self, frame: u32, slot: u32)
+        ensures tables { self.new ≡ (traded self.old (FrameWithSlot frame slot)).0 }
+        ensures change { FrameWithSlot frame slot ≡ (traded self.old (FrameWithSlot frame slot)).1 }
+    {
+        trade_slots(&mut self.frames, &mut self.slots, frame, slot);
+    }
+
+    /// Trades where a page of a machine is. Where there is no such page nothing changes.
+    #[tactic(auto, unfolding(crate::specs::Changes::traded))]
+    pub fn trade_page(&mut self, vm: VmId, page: u32, row: &mut MapRow)
+        ensures tables { self.new ≡ (traded self.old (OfVm vm (PageAt page row.old))).0 }
+        ensures row { OfVm vm (PageAt page row.new) ≡ (traded self.old (OfVm vm (PageAt page row.old))).1 }
+    {
+        let at = usize::from(vm.number());
+        if at < self.vms.len() {
+            trade_page(self.vms.row_mut(at), page, row);
         }
     }
 
@@ -96,6 +136,15 @@ fn trade_part(vm: &mut Option<VmTable>, part: &mut VmPart)
 {
     if let Some(vm) = vm {
         vm.trade(part);
+    }
+}
+
+fn trade_page(vm: &mut Option<VmTable>, page: u32, row: &mut MapRow)
+    ensures vm { vm.new ≡ (vm_traded vm.old (PageAt page row.old)).0 }
+    ensures row { PageAt page row.new ≡ (vm_traded vm.old (PageAt page row.old)).1 }
+{
+    if let Some(vm) = vm {
+        vm.trade_page(page, row);
     }
 }
 

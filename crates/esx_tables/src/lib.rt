@@ -14,6 +14,6 @@ mod vm_table;
 pub use change::{Change, Facts, VmPart};
 pub use esx_average::Averages;
 pub use esx_frames::{Counts, Mark};
-pub use record::{Record, RecordSize};
+pub use record::{Record, RecordSize, frame_bytes};
 pub use tables::SiteTables;
 pub use vm_table::VmTable;

@@ -8,7 +8,7 @@ ghost use Rattle.esx_tables.specs.Summaries.{may_name, MayNameMore, IsSummary};
 
 use esx_events::Boxed;
 use esx_model::{Mark, PeriodRow};
-use esx_types::Rows;
+use esx_types::{MAX_SAMPLE, Rows};
 use std::marker::Model;
 use std::mem;
 
@@ -19,6 +19,8 @@ const WORDS: usize = BITS as usize / 64;
 
 /// Of more marks no summary is made, so that an access makes one in a fixed time; no event opens a period with as many.
 const MOST: usize = 128;
+
+const _: () = prove!(MAX_SAMPLE < MOST);
 
 /// What marks tell at once: bit `page % BITS` is set for each page that one of them names, and so many of
 /// them are touched.

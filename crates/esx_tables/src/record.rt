@@ -1,6 +1,6 @@
 //! Records: what leads back, and how much it holds.
 
-ghost use Rattle.std.specs.Prelude.{◌≡◌, length};
+ghost use Rattle.std.specs.Prelude.{◌≡◌, [], ◌∷◌, length};
 ghost use Rattle.esx_types.specs.Frames.{bytes_of};
 ghost use Rattle.esx_types.specs.Slots.{held_bytes};
 ghost use Rattle.esx_tables.specs.Sizes.{bytes_held, is_row, marks_held, is_target, mark_count, size_of, capped};
@@ -50,6 +50,14 @@ impl Record {
         self.changes.as_slice()
     }
 
+    /// Its changes, in the same order, without a copy.
+    pub fn into_changes(self) -> Vec<Change>
+        ensures { result.items ≡ self }
+    {
+        let Record { changes } = self;
+        changes
+    }
+
     /// How much it holds.
     pub fn size(&self) -> RecordSize
         ensures { result ≡ capped (size_of self.now) }
@@ -77,6 +85,18 @@ fn size_of(changes: &[Change]) -> RecordSize
 }
 
 impl Change {
+    /// How much it holds.
+    pub fn size(&self) -> RecordSize
+        ensures { result ≡ capped (size_of (self.now ∷ [])) }
+    {
+        RecordSize {
+            bytes: self.bytes() as u64,
+            rows: u64::from(self.is_row()),
+            marks: self.marks() as u64,
+            targets: u64::from(self.is_target()),
+        }
+    }
+
     /// How many bytes of pages it holds.
     fn bytes(&self) -> usize
         ensures { result ≡ bytes_held self.now }
@@ -134,7 +154,8 @@ impl Change {
     }
 }
 
-fn frame_bytes(row: &FrameRow) -> usize
+/// How many bytes of a page a frame's row holds.
+pub fn frame_bytes(row: &FrameRow) -> usize
     ensures { result ≡ length (bytes_of row.now) }
 {
     match row {

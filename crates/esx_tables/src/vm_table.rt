@@ -1,6 +1,7 @@
 //! A virtual machine's row, with room for every overhead frame that it will take.
 
 ghost use Rattle.std.specs.Prelude.{◌≡◌, ◌<◌, ◌≤◌, IfOk, false, length, slice_index, vec_len, vec_capacity};
+ghost use Rattle.esx_types.specs.declared.config.TheConstants.{MAX_OVERHEAD};
 ghost use Rattle.esx_types.specs.Ranges.{IsGood};
 ghost use Rattle.esx_types.specs.Pages.{page_at, resident_count, resident_pages};
 ghost use Rattle.esx_lists.specs.Trades.{top_traded};
@@ -8,6 +9,7 @@ ghost use Rattle.esx_model.specs.event.Admission.{admitted};
 ghost use Rattle.esx_model.specs.Tables.{vm_table, standing_of};
 ghost use Rattle.esx_tables.specs.Machines.{facts_of, part_traded};
 ghost use Rattle.esx_tables.specs.Bounds.{AreSizes};
+ghost use Rattle.esx_tables.specs.declared.change.VmPart.TheVariants.{PageAt};
 ghost use Rattle.esx_tables.specs.Fields.{fields_with, facts_in};
 ghost use Rattle.esx_tables.specs.Sampled.{samples, touched_marks};
 
@@ -119,7 +121,7 @@ impl VmTable {
     pub fn overhead(&self) -> &[u32]
         ensures value { result.now ≡ self.now.overhead }
         ensures room { length self.now.overhead ≤ self.now.spec.overhead }
-        ensures most { self.now.spec.overhead ≤ 1048576 }
+        ensures most { self.now.spec.overhead ≤ MAX_OVERHEAD }
     {
         self.fields.overhead.as_slice()
     }
@@ -186,6 +188,14 @@ impl VmTable {
         ensures { self.new ≡ self.old }
     {
         self.fields.period.tell();
+    }
+
+    /// Trades where a page is. Where there is no such page nothing changes.
+    pub fn trade_page(&mut self, page: u32, row: &mut MapRow)
+        ensures vm { self.new ≡ (part_traded self.old (PageAt page row.old)).0 }
+        ensures row { PageAt page row.new ≡ (part_traded self.old (PageAt page row.old)).1 }
+    {
+        self.fields.pages.trade(page, row);
     }
 
     /// Trades a part of the row. Where there is no such part nothing changes.

@@ -8,6 +8,7 @@ use Rattle.esx_events.specs.declared.call.Reply.{Reply}
 use Rattle.esx_model.specs.Console.{Session, next_reply, lined}
 use Rattle.esx_writing.specs.Writing.{WritesFront}
 use Rattle.esx_replies.specs.Replies.{reply_text}
+use Rattle.esx_text.specs.declared.answer.TheConstants.{LONGEST}
 use Rattle.esx_text.specs.Lines.{IsSilent, Keeps}
 use Rattle.esx_text.specs.Answers.{IsAsked, IsAnswered, MayWantMemory}
 use Rattle.esx_text.specs.Answers.IsAnswered.{asked}
@@ -39,7 +40,7 @@ pub silent_as_kept : (kept : List ℕ) (long : Bool) (line : List ℕ) → Keeps
 silent_as_kept kept true line k = k.1
 silent_as_kept kept false line k = (λ s. rw k at s, λ s. rw k s)
 
-pub long_line : (kept : List ℕ) (long : Bool) (line : List ℕ) → long ≡ true → Keeps kept long line → 16384 < length line
+pub long_line : (kept : List ℕ) (long : Bool) (line : List ℕ) → long ≡ true → Keeps kept long line → LONGEST < length line
 long_line kept long line is k = let k' = rw is at k in k'.0
 
 pub long_unasked : (kept : List ℕ) (long : Bool) (line : List ℕ) (call : Call) → long ≡ true → Keeps kept long line → IsAsked line call → ⊥

@@ -6,10 +6,11 @@ use Rattle.std.proofs.lemmas.List.Elements.{All-push, All-nil, All-append}
 use Rattle.std.specs.List.{flat_map}
 use Rattle.std.proofs.Common.{drop, length-drop, length-take}
 use Rattle.std.proofs.lemmas.List.{take-append-drop}
+use Rattle.esx_text.specs.declared.line.TheConstants.{ROOM}
 use Rattle.esx_text.specs.Lines.{HasNoFeed, EndsIn, line_of, IsSilent, Keeps, IsHeld}
 
 -- with less room than that
-pub held_full : (front piece : List ℕ) (long : Bool) (more : List ℕ) (room : ℕ) → room + length front ≡ 16385 → room < length more
+pub held_full : (front piece : List ℕ) (long : Bool) (more : List ℕ) (room : ℕ) → room + length front ≡ ROOM → room < length more
     → IsHeld front long piece → IsHeld (front ++ take room more) true (piece ++ more)
 held_full front piece true more room e lt h =
     let none : room ≡ 0 = omega (arith, e, h.3) in

@@ -8,7 +8,8 @@ use Rattle.esx_model.specs.Console.{Session}
 use Rattle.esx_text.specs.declared.fault.ServeFault.{ServeFault}
 use Rattle.esx_text.specs.declared.fault.ServeFault.TheVariants.{Read, Write, OutOfMemory}
 use Rattle.esx_text.specs.Lines.{HasNoFeed, line_of, lines, Held}
-use Rattle.esx_text.specs.Answers.{Progress, Answers, WantsMemory, Stops, Faults, EndsEarly, Ends, Reaches, ends_found, read_faults}
+use Rattle.esx_text.specs.Answers.{Progress, Answers, WantsMemory, Stops, Faults, EndsEarly, Ends, Reaches, ends_found, fault_writes, read_faults}
+use Rattle.esx_text.specs.States.{LeavesStreams, SinkState, SourceState}
 use Rattle.esx_writing.proofs.WritingLemmas.{appends_nothing}
 use Rattle.esx_text.proofs.ProgressLemmas.{consumes_nothing}
 
@@ -260,3 +261,34 @@ pub found_no_end : (served : Result (Option ℕ) ServeFault) (empty empty' : ℕ
     → IsErrOf served Read ⊎ (served ≡ Ok None) → (IsErrOf served Read → empty' ≡ empty) → IfOk served (λ found. empty' ≡ empty + ends_found found) → empty' ≡ empty
 found_no_end served empty empty' (inl why) none found = none why
 found_no_end served empty empty' (inr why) none found = let f = rw why at found in omega (arith, f)
+
+-- a run that gave up before the first read
+pub streams_at_once : (e : ServeFault) (unread : SourceState) (out out' : SinkState) → (e ≡ Read → ⊥) → out'.failures ≡ out.failures + fault_writes e
+    → out'.flushes + fault_writes e ≡ out.flushes + 1 → ((e ≡ Write → ⊥) → out'.waiting ≡ []) → LeavesStreams (Err e) unread unread out out'
+streams_at_once Read unread out out' read write flushes sent = absurd (read refl)
+streams_at_once Write unread out out' read write flushes sent = record {
+  found = tt;
+  not_found = λ h. refl;
+  ends = omega arith;
+  reads = omega arith;
+  pieces = omega arith;
+  each = record { input = []; read = consumes_nothing unread.remaining; each = omega arith };
+  read = λ h. absurd (cc);
+  no_read_fault = λ h. refl;
+  write = write;
+  flushes = omega (arith, flushes);
+  sent = λ h. absurd (h (cc));
+}
+streams_at_once OutOfMemory unread out out' read write flushes sent = record {
+  found = tt;
+  not_found = λ h. refl;
+  ends = omega arith;
+  reads = omega arith;
+  pieces = omega arith;
+  each = record { input = []; read = consumes_nothing unread.remaining; each = omega arith };
+  read = λ h. absurd (cc);
+  no_read_fault = λ h. refl;
+  write = write;
+  flushes = omega (arith, flushes);
+  sent = λ h. sent (λ is. cc);
+}

@@ -6,6 +6,7 @@ use Rattle.esx_words.specs.Commands.{verb, Spells}
 use Rattle.esx_words.proofs.VerbLemmas.{verb_at, named, all_verbs, is_found}
 use Rattle.esx_words.proofs.EventLemmas.{first_of}
 use Rattle.esx_words.proofs.CommandLemmas.{fields_of_command}
+use Rattle.esx_text.specs.declared.answer.TheConstants.{LONGEST}
 use Rattle.esx_text.specs.Lines.{IsSilent}
 use Rattle.esx_text.specs.Answers.{session_line}
 
@@ -31,5 +32,5 @@ session_is_loud line e s = loud_session (rw e at s)
 pub session_spells_none : (line : List ℕ) → line ≡ session_line → (call : Call) → Spells line call → ⊥
 session_spells_none line e call is = session_is_no_call call (rw e at is)
 
-pub long_is_no_session : (line : List ℕ) → 16384 < length line → line ≡ session_line → ⊥
+pub long_is_no_session : (line : List ℕ) → LONGEST < length line → line ≡ session_line → ⊥
 long_is_no_session line l e = let k = rw e at l in omega (arith, k)

@@ -5,6 +5,7 @@ use Rattle.esx_events.specs.declared.call.Call.{Call}
 use Rattle.esx_model.specs.Console.{Session, next_reply, lined}
 use Rattle.esx_text.specs.declared.fault.ServeFault.{ServeFault}
 use Rattle.esx_text.specs.declared.fault.ServeFault.TheVariants.{Read, Write, OutOfMemory}
+use Rattle.esx_text.specs.declared.answer.TheConstants.{LONGEST}
 use Rattle.esx_words.specs.Commands.{Spells, MayTakeMemory}
 use Rattle.esx_replies.specs.Replies.{reply_text}
 use Rattle.esx_session.specs.Sessions.{session_text, logged}
@@ -13,12 +14,12 @@ use Rattle.esx_writing.specs.Writing.{WritesFront}
 
 -- the line is a command's, and not too long
 pub record IsAsked (line : List ℕ) (call : Call) : Type 0 where
-  pub short : length line ≤ 16384
+  pub short : length line ≤ LONGEST
   pub command : Spells line call
 
 -- Memory may be taken for the line, which is not too long: it is a command's, or begins as one for whose words it is taken.
 pub record MayWantMemory (line : List ℕ) : Type 0 where
-  pub short : length line ≤ 16384
+  pub short : length line ≤ LONGEST
   pub wants : ((call : Call) × IsAsked line call) ⊎ MayTakeMemory line
 
 -- the line that asks for the session so far

@@ -8,4 +8,5 @@ pub use Rattle.esx_writing.specs.Writing
 pub use Rattle.esx_session.specs.Sessions
 pub mod Lines
 pub mod Answers
+pub mod States
 pub mod Laws

@@ -7,27 +7,21 @@ use esx_types::VmId;
 /// How many lines are looked at before the first of them is answered.
 const LINES: u32 = 16;
 
-/// Where a site has more frames than this, an access mostly waits for memory.
+/// Where a site uses more frames than this, an access mostly waits for memory.
 const NEAR: u32 = 1 << 16;
 
 /// What was looked at. It is a hint: no answer rests on it.
 #[derive(Drop)]
 pub struct Ahead {
-    // Do accesses wait for memory at this site?
-    waits: bool,
-    // How many lines were looked at and are not answered yet.
+    // How many of the next lines are passed over: they were looked at, or what they read is near.
     lines: u32,
     // What was read, so that nobody leaves the reads out.
     seen: u8,
 }
 
 impl Ahead {
-    pub fn new<L: Log>(console: &Console<L>) -> Ahead {
-        Ahead {
-            waits: NEAR < console.site().frames,
-            lines: 0,
-            seen: 0,
-        }
+    pub fn new() -> Ahead {
+        Ahead { lines: 0, seen: 0 }
     }
 
     /// The first line of a text is to be answered. Where it is an access that was not looked at, it is looked at now, and
@@ -35,7 +29,9 @@ impl Ahead {
     pub fn look<L: Log>(&mut self, console: &Console<L>, text: &[u8]) {
         if self.lines > 0 {
             self.lines -= 1;
-        } else if self.waits && operands(text).is_some() {
+        } else if !waits(console) {
+            self.lines = LINES;
+        } else if operands(text).is_some() {
             self.lines = self.look_on(console, text).saturating_sub(1);
         }
     }
@@ -54,6 +50,12 @@ impl Ahead {
         }
         LINES
     }
+}
+
+/// Does an access of this site mostly wait for memory?
+fn waits<L: Log>(console: &Console<L>) -> bool {
+    let (free, _) = console.gauge();
+    console.site().frames.saturating_sub(free) > NEAR
 }
 
 /// The machine and the page that a line names, where it is an access.

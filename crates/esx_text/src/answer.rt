@@ -16,7 +16,7 @@ use esx_writing::{AnswerBuffer, Piece, write_pieces};
 use std::alloc::{AllocError, Global};
 
 /// The longest line of a command, in bytes.
-const LONGEST: usize = 16384;
+pub const LONGEST: usize = 16384;
 
 /// The call that a line asks for, if it does.
 fn call_of_line(alloc: Global, line: &[u8]) -> Result<Option<Call>, AllocError>

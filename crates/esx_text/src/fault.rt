@@ -5,7 +5,7 @@ use thiserror::Error;
 /// Why serving ended before the end of the input.
 #[derive(Debug, Drop, Error, PartialEq, Eq)]
 pub enum ServeFault {
-    /// The source failed, or gave no end in `2^26` reads.
+    /// The source failed, or gave no end in `READS` reads.
     #[error("read fault")]
     Read,
     /// The sink failed, or took no bytes.

@@ -9,6 +9,7 @@ mod line;
 mod service;
 mod telling;
 
+pub use answer::LONGEST;
 pub use esx_reading::TextFault;
 pub use esx_replies::print_reply;
 pub use esx_words::{parse_command, print_command};

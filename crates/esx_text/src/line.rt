@@ -3,12 +3,13 @@
 ghost use Rattle.std.specs.Prelude.{◌≡◌, ◌++◌, ◌∷◌, [], if◌then◌else◌, ℕ, List, IfOk, MatchOption};
 ghost use Rattle.esx_text.specs.Lines.{Holds, HasNoFeed, line_of};
 
+use crate::answer::LONGEST;
 use memchr::memchr;
 use std::alloc::{AllocError, Global};
 use std::marker::Model;
 
 /// How many bytes are held of a line: those of the longest line, and a carriage return.
-const ROOM: usize = 16385;
+const ROOM: usize = LONGEST + 1;
 
 /// The bytes before the first line feed, and those behind it.
 pub fn split_line(bytes: &[u8]) -> Option<(&[u8], &[u8])>
@@ -53,13 +54,14 @@ pub struct LineBuffer {
 
 impl Model for LineBuffer {
     ghost use Rattle.std.specs.Prelude.{◌≤◌, vec_len, vec_capacity};
+    ghost use Rattle.esx_text.specs.declared.line.TheConstants.{ROOM};
     ghost use Rattle.esx_text.specs.Lines.{Held};
 
     ghost Value = { Held };
 
     ghost view = { λ l. record { front = l.bytes.items; long = l.long } };
 
-    ghost invariant = { λ l. (vec_len l.bytes ≤ 16385) × (16385 ≤ vec_capacity l.bytes) };
+    ghost invariant = { λ l. (vec_len l.bytes ≤ ROOM) × (ROOM ≤ vec_capacity l.bytes) };
 }
 
 impl LineBuffer {

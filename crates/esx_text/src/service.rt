@@ -1,28 +1,24 @@
 //! The loop that serves a console line by line.
 
-ghost use Rattle.std.specs.Prelude.{◌≡◌, ◌+◌, ◌-◌, ◌<◌, ◌≤◌, ◌^◌, ◌++◌, ◌∷◌, [], ℕ, List, Option, Ok, None, Some, IfOk, IfErr, OnOk, IsErrOf, ◌⊎◌, length};
+ghost use Rattle.std.specs.Prelude.{◌≡◌, ◌+◌, ◌<◌, ◌≤◌, ◌^◌, ◌++◌, ◌∷◌, [], ℕ, List, Option, Ok, Err, None, Some, IfOk, IfErr, OnOk, IsErrOf, ◌⊎◌, length};
 ghost use Rattle.std.specs.Io.KnownBytes.{Keeps, Consumes, IsAtEnd};
 ghost use Rattle.esx_types.specs.Ends.{call_successes};
 ghost use Rattle.esx_model.specs.Console.{Session};
 ghost use Rattle.esx_reading.specs.Whole.{AskForPieces};
 ghost use Rattle.esx_text.specs.Lines.{Holds, HasNoFeed};
 ghost use Rattle.esx_text.specs.Answers.{Progress, Answers, Stops, StopsLast, Faults, EndsEarly, Reaches, ReadsOn, Ends, ends_found, fault_writes, read_faults, write_faults};
+ghost use Rattle.esx_text.specs.States.{LeavesStreams, SourceState, sink_state, source_state};
 
 use crate::ahead::Ahead;
 use crate::answer::{Asked, answer_line};
 use crate::fault::ServeFault;
 use crate::line::{LineBuffer, either, split_line, without_return};
-use esx_console::{Console, Log};
+use esx_console::Console;
+use esx_reading::{CHUNK, READS};
 use esx_told::Tells;
 use esx_types::{Sink, SinkFailed, Source};
 use esx_writing::AnswerBuffer;
 use std::alloc::{AllocError, Global};
-
-/// How many bytes are read at once.
-const CHUNK: usize = 65536;
-
-/// How many reads are made at most.
-const READS: u32 = 1 << 26;
 
 /// What is kept from one read to the next: the line that may go on, the room for an answer, the number of
 /// lines so far, and what was looked at ahead of them.
@@ -35,7 +31,7 @@ struct Work {
 }
 
 impl Work {
-    fn new<L: Log>(alloc: Global, console: &Console<L>) -> Result<Work, AllocError>
+    fn new(alloc: Global) -> Result<Work, AllocError>
         ensures empty { IfOk result (λ work. work.answer ≡ []) }
         ensures none { IfOk result (λ work. work.count ≡ 0) }
         ensures start { IfOk result (λ work. Holds work.line []) }
@@ -44,7 +40,7 @@ impl Work {
             line: LineBuffer::new(alloc)?,
             answer: AnswerBuffer::new(alloc)?,
             count: 0,
-            ahead: Ahead::new(console),
+            ahead: Ahead::new(),
         })
     }
 }
@@ -190,6 +186,8 @@ pub fn give_up<W: Sink>(writer: &mut W) -> ServeFault
     ensures write { W.failures writer.new ≡ W.failures writer.old + fault_writes result }
     ensures flushes { W.flushes writer.new + fault_writes result ≡ W.flushes writer.old + 1 }
     ensures sent { (result ≡ ServeFault.Write → ⊥) → W.waiting writer.new ≡ [] }
+    ensures streams { (unread : SourceState) → LeavesStreams (Err result) unread unread
+        (sink_state W.contents W.waiting W.failures W.flushes writer.old) (sink_state W.contents W.waiting W.failures W.flushes writer.new) }
 {
     match send(writer) {
         Ok(()) => ServeFault::OutOfMemory,
@@ -211,12 +209,12 @@ fn serve_reads<L: Tells, R: Source, W: Sink>(
     requires empty { work.old.answer ≡ [] }
     requires none { work.old.count ≡ 0 }
     requires start { Holds work.old.line [] }
-    requires room { length chunk.old ≡ 65536 }
+    requires room { length chunk.old ≡ CHUNK }
     ensures served { Reaches result caller console.old console.new
         (R.remaining reader.old) (R.remaining reader.new) (W.contents writer.old) (W.contents writer.new) }
-    ensures reads { R.calls reader.new ≤ R.calls reader.old + 2 ^ 26 }
+    ensures reads { R.calls reader.new ≤ R.calls reader.old + READS }
     ensures pieces { AskForPieces (R.calls reader.old) (R.calls reader.new) (R.asked reader.old) (R.asked reader.new) }
-    ensures endless { result ≡ Ok None → R.calls reader.new ≡ R.calls reader.old + 2 ^ 26 }
+    ensures endless { result ≡ Ok None → R.calls reader.new ≡ R.calls reader.old + READS }
     ensures found { IfOk result (λ count. R.empty_reads reader.new ≡ R.empty_reads reader.old + ends_found count) }
     ensures not_found { IsErrOf result ServeFault.Read → R.empty_reads reader.new ≡ R.empty_reads reader.old }
     ensures ends { R.empty_reads reader.new ≤ R.empty_reads reader.old + 1 }
@@ -275,7 +273,7 @@ fn finish<W: Sink>(
 ///
 /// A carriage return directly before a line feed is no part of the line. An empty line, and one that
 /// begins with `#`, is answered by nothing; `session` by the session so far; any other that is no command, or
-/// has more than 16,384 bytes, by `? line N`. All memory but that of the calls is taken before the first read.
+/// has more than `LONGEST` bytes, by `? line N`. All memory but that of the calls is taken before the first read.
 pub fn serve<L: Tells, R: Source, W: Sink>(
     alloc: Global,
     console: &mut Console<L>,
@@ -291,31 +289,12 @@ pub fn serve<L: Tells, R: Source, W: Sink>(
     ensures fault { IfErr result (λ e. EndsEarly e caller console.old console.new
         (R.remaining reader.old) (R.remaining reader.new) (R.calls reader.old) (R.calls reader.new) (W.contents writer.old) (W.contents writer.new)) }
 
-    // One read gives nothing where the end is found, and none does where reading is at fault.
-    ensures found { OnOk result (R.empty_reads reader.new ≡ R.empty_reads reader.old + 1) }
-    ensures not_found { IsErrOf result ServeFault.Read → R.empty_reads reader.new ≡ R.empty_reads reader.old }
-    ensures ends { R.empty_reads reader.new ≤ R.empty_reads reader.old + 1 }
-
-    // The source fails once where reading is at fault, or gives no end, and never elsewhere. There is at most one
-    // read more than bytes that come.
-    ensures reads { R.calls reader.new ≤ R.calls reader.old + 2 ^ 26 }
-    ensures pieces { AskForPieces (R.calls reader.old) (R.calls reader.new) (R.asked reader.old) (R.asked reader.new) }
-    ensures each { ReadsOn (R.remaining reader.old) (R.remaining reader.new) (R.calls reader.old) (R.calls reader.new) }
-    ensures read { IsErrOf result ServeFault.Read
-        → (R.failures reader.new ≡ R.failures reader.old + 1)
-        ⊎ ((R.failures reader.new ≡ R.failures reader.old) × (R.calls reader.new ≡ R.calls reader.old + 2 ^ 26)) }
-    ensures no_read_fault { (IsErrOf result ServeFault.Read → ⊥) → R.failures reader.new ≡ R.failures reader.old }
-
-    // The sink fails once where writing is at fault, and never elsewhere.
-    ensures write { W.failures writer.new ≡ W.failures writer.old + write_faults result }
-
-    // A flush goes before each read, and one more at the end where neither end failed. Since any call may
-    // fail, the counts also tell the order: nothing is written between a flush and the read behind it.
-    ensures flushes { let failed = R.failures reader.new - R.failures reader.old + write_faults result in
-        W.flushes writer.new + R.calls reader.old + failed ≡ W.flushes writer.old + R.calls reader.new + 1 }
-    ensures sent { (IsErrOf result ServeFault.Write → ⊥) → W.waiting writer.new ≡ [] }
+    // How many reads and flushes there are, and when either end fails.
+    ensures streams { LeavesStreams result
+        (source_state R.remaining R.calls R.failures R.empty_reads R.asked reader.old) (source_state R.remaining R.calls R.failures R.empty_reads R.asked reader.new)
+        (sink_state W.contents W.waiting W.failures W.flushes writer.old) (sink_state W.contents W.waiting W.failures W.flushes writer.new) }
 {
-    let Ok(mut work) = Work::new(alloc, console) else {
+    let Ok(mut work) = Work::new(alloc) else {
         return Err(give_up(writer));
     };
     let Ok(mut chunk) = vec![in alloc; 0u8; CHUNK] else {

@@ -8,8 +8,9 @@ use Rattle.esx_words.specs.Commands.{spelling}
 use Rattle.esx_replies.specs.Replies.{reply_text}
 use Rattle.esx_session.specs.Sessions.{quoted}
 use Rattle.esx_session.specs.Printing.{line_text}
+use Rattle.esx_writing.specs.declared.buffer.TheConstants.{DIGITS}
 
-pub short_decimal : (n : ℕ) → n < 2 ^ 64 → length (decimal n) ≤ 20
+pub short_decimal : (n : ℕ) → n < 2 ^ 64 → length (decimal n) ≤ DIGITS
 short_decimal n small = length-decimal-le 20 n (omega arith) (omega (arith, small)) small
 
 -- a line whose call is spelled, and whose reply stands behind one sign
@@ -44,9 +45,9 @@ count_le [] = omega arith
 count_le (line ∷ log) = omega (arith, count_le log, line_has_some line, length-append (line_text line) (flat_map line_text log))
 
 -- over an empty buffer a number is short
-pub few_digits : (new held : List ℕ) (n caller : ℕ) → new ≡ held ++ decimal n → held ≡ [] → n ≡ caller → caller < 2 ^ 16 → length new ≤ 20
+pub few_digits : (new held : List ℕ) (n caller : ℕ) → new ≡ held ++ decimal n → held ≡ [] → n ≡ caller → caller < 2 ^ 16 → length new ≤ DIGITS
 few_digits new held n caller e none is small = rw (e, none, is) (short_decimal caller (omega (arith, small)))
 
 -- one byte and a text more
-pub fits_byte : (new held : List ℕ) (b : ℕ) → new ≡ held ++ b ∷ [] → length held ≤ 20 → length new ≤ 21
+pub fits_byte : (new held : List ℕ) (b : ℕ) → new ≡ held ++ b ∷ [] → length held ≤ DIGITS → length new ≤ 21
 fits_byte new held b e few = rw e (omega (arith, few, length-append held (b ∷ [])))

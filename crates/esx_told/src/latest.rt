@@ -19,6 +19,17 @@ pub enum Latest {
 
 impl Latest {
     ghost use Rattle.esx_told.specs.Told.{settled};
+    ghost use Rattle.esx_told.specs.declared.latest.Latest.TheVariants.{Said};
+
+    /// The reply of the last line stands from here on. Where the line before was told so too, only the place is written.
+    pub fn say(&mut self, place: usize)
+        ensures { self.new ≡ Said place }
+    {
+        match self {
+            Latest::Said { at } => *at = place,
+            other => *other = Latest::Said { at: place },
+        }
+    }
 
     /// The same, where the text is made.
     pub fn settled(self) -> Latest

@@ -1,6 +1,6 @@
 //! The text of a line whose call is spelled already.
 
-ghost use Rattle.std.specs.Prelude.{◌≡◌, ◌+◌, ◌≤◌, ◌++◌, ◌∷◌, [], IfSome, IfNone, MatchOption, decimal, drop, length, true};
+ghost use Rattle.std.specs.Prelude.{◌≡◌, ◌+◌, ◌≤◌, ◌++◌, ◌∷◌, [], ℕ, List, IfSome, IfNone, OnOk, decimal, drop, length, true};
 ghost use Rattle.esx_replies.specs.Replies.{reply_text};
 ghost use Rattle.esx_session.specs.Sessions.{quoted};
 ghost use Rattle.esx_session.specs.Printing.{line_text};
@@ -10,31 +10,39 @@ use esx_events::{Line, Reply};
 use esx_replies::{is_brief, put_reply};
 use esx_session::ReplySign;
 use esx_types::MemorySink;
-use esx_writing::{AnswerBuffer, append_held};
-use std::alloc::Global;
+use esx_writing::{AnswerBuffer, ROOM, append_held};
+use std::alloc::{AllocError, Global};
 use std::marker::Brand;
 use std::sync::ledger::{Blank, Ledger};
 
-/// The longest spelling that is held, beside the caller, a space and a line feed.
-const MOST: usize = 16384 - 22;
+/// The longest spelling that is held; a longer one goes to the text at once.
+const MOST: usize = 512;
 
 /// How long the sign before a reply is.
 const SIGN: usize = 2;
 
-/// Holds who called and the call's spelling, and tells how long they are. Holds nothing where they are too long.
-fn push_call(held: &mut AnswerBuffer, caller: u16, spelled: &[u8]) -> Option<usize>
+/// Adds who called and the call's spelling to a text, an end of them held. Where memory runs out, a front of them may be
+/// added.
+fn push_call(
+    text: &mut Vec<u8>,
+    held: &mut AnswerBuffer,
+    caller: u16,
+    spelled: &[u8],
+) -> Result<(), AllocError>
     requires { held.old ≡ [] }
-    ensures { MatchOption result (held.new ≡ []) (λ n. (held.new ≡ decimal caller ++ 32 ∷ (spelled.now ++ 10 ∷ [])) × (n ≡ length held.new)) }
+    ensures whole { OnOk result (text.new.items ++ held.new ≡ text.old.items ++ (decimal caller ++ 32 ∷ (spelled.now ++ 10 ∷ []))) }
+    ensures front { (more : List ℕ) × (text.new.items ≡ text.old.items ++ more) }
 {
-    if spelled.len() > MOST {
-        return None;
-    }
-    let room = held.room();
     held.push_number(u64::from(caller));
     held.push(b" ");
-    held.push(spelled);
+    if spelled.len() > MOST {
+        append_held(text, held)?;
+        text.extend_from_slice(spelled)?;
+    } else {
+        held.push(spelled);
+    }
     held.push(b"\n");
-    Some(room - held.room())
+    Ok(())
 }
 
 /// Holds a reply as a session has it, and tells whether all of it is held, by a count of the writes.
@@ -53,27 +61,33 @@ fn hold_reply<L: Ledger>(
     put_reply::<ReplySign, MemorySink<L>>(&mut rest, held, reply).is_ok() && rest.bytes.is_empty()
 }
 
-/// Holds a line whose call is spelled and whose reply is known to be one line, and tells where the reply stands.
-/// Of other lines, and where there is no room, what is held means nothing.
-fn hold_line(alloc: Global, held: &mut AnswerBuffer, line: &Line, spelled: &[u8]) -> Option<usize>
+/// Adds a line whose call is spelled and whose reply is known to be one line, and tells where the reply stands. Of other
+/// lines, and where there is no room, a front may be added or held.
+fn push_line(
+    text: &mut Vec<u8>,
+    held: &mut AnswerBuffer,
+    line: &Line,
+    spelled: &[u8],
+) -> Option<usize>
     requires empty { held.old ≡ [] }
     requires spelled { Spells spelled.now line.now.call }
-    ensures { IfSome result (λ at. (held.new ≡ line_text line.now) × (at ≤ length held.new) × (drop at held.new ≡ reply_text line.now.reply)) }
+    ensures some { IfSome result (λ at. (text.new.items ≡ text.old.items ++ line_text line.now) × (at ≤ length text.new.items) × (drop at text.new.items ≡ reply_text line.now.reply)) }
+    ensures front { (more : List ℕ) × (text.new.items ≡ text.old.items ++ more) }
 {
     if spelled.is_empty() || !is_brief(&line.reply.said) {
         return None;
     }
-    let head = push_call(held, line.caller, spelled)?;
-    let _room = held.room();
-    let at = head + SIGN;
-    if hold_reply::<Brand>(alloc, held, &line.reply, Blank::new(4)) {
-        Some(at)
-    } else {
-        None
+    push_call(text, held, line.caller, spelled).ok()?;
+    let at = text.len() + (ROOM - held.room()) + SIGN;
+    if !hold_reply::<Brand>(*text.allocator(), held, &line.reply, Blank::new(4)) {
+        return None;
     }
+    append_held(text, held).ok()?;
+    Some(at)
 }
 
-/// Adds a line to a text where it is held whole, and tells where its reply stands. Elsewhere the text stays.
+/// Adds a line to a text where its call is spelled, its reply is known to be one line and there is memory, and tells where
+/// the reply stands. Elsewhere the text stays.
 pub fn add_spelled(
     text: &mut Vec<u8>,
     held: &mut AnswerBuffer,
@@ -87,14 +101,10 @@ pub fn add_spelled(
     ensures empty { held.new ≡ [] }
 {
     let start = text.len();
-    match hold_line(*text.allocator(), held, line, spelled) {
-        Some(at) => {
-            append_held(text, held).ok()?;
-            Some(start + at)
-        }
-        None => {
-            held.clear();
-            None
-        }
+    let added = push_line(text, held, line, spelled);
+    held.clear();
+    if added.is_none() {
+        text.truncate(start);
     }
+    added
 }

@@ -54,7 +54,7 @@ impl TextLog {
     }
 
     /// How many lines there are.
-    pub(crate) fn count(&self) -> usize
+    pub fn count(&self) -> usize
         ensures { result ≡ length (lines_of self.now) }
     {
         self.count
@@ -93,7 +93,7 @@ impl Log for TextLog {
         match add_spelled(&mut self.text, &mut self.held, &line, spelled) {
             Some(at) => {
                 self.listed = Listed::longer(replace(&mut self.listed, Listed::none()), &line);
-                self.latest = Latest::Said { at };
+                self.latest.say(at);
             }
             None => self.latest = Latest::Kept { line },
         }

@@ -12,7 +12,10 @@ pub mod small;
 pub mod table;
 pub mod vm;
 
-pub use config::{BadSpec, CALLERS, Config, MAX_FRAMES, MAX_NODES, MAX_SLOTS, VM_NUMBERS};
+pub use config::{
+    BadSpec, CALLERS, Config, MAX_FRAMES, MAX_HIGH, MAX_LENGTH, MAX_NODES, MAX_OVERHEAD, MAX_PAGE,
+    MAX_PAGES, MAX_SAMPLE, MAX_SHARES, MAX_SLOTS, MAX_TAU, MIN_FRAMES, MIN_PAGE, VM_NUMBERS,
+};
 pub use counts::Counts;
 pub use ends::{
     MemorySink, MemorySource, ReadSource, Sink, SinkFailed, Source, SourceFailed, WriteSink,

@@ -1,15 +1,12 @@
 -- What stands before an operand that takes memory.
-use Rattle.std.proofs.Common.{◌≡◌, ◌<◌, ◌≤◌, ◌%◌, inl, inr, ℕ, List, [], ◌∷◌, ◌++◌, length, decimal, codes, arith, refl, ◌∙◌, false}
+use Rattle.std.proofs.Common.{◌≡◌, inl, inr, ℕ, List, [], ◌∷◌, ◌++◌, decimal, codes, refl, ◌∙◌, false}
 use Rattle.std.specs.Prelude.{map, Option, None, Some, MatchOption}
 use Rattle.std.specs.Borrow.{Bor}
 use Rattle.std.specs.List.{AllByRecursion}
 use Rattle.std.proofs.Math.Dec.{eqb}
 use Rattle.std.proofs.lemmas.Bool.Decides.{Decides-eqb, not_from_Decides}
 use Rattle.std.proofs.lemmas.List.Elements.{All-weaker}
-use Rattle.hex.specs.Hex.{encode_lower}
 use Rattle.esx_events.specs.declared.event.Event.{Event}
-use Rattle.esx_reading.specs.Written.{IsWritten}
-use Rattle.esx_reading.proofs.HexField.{length_of_hex}
 use Rattle.esx_words.specs.Kinds.{MayBeNumbers}
 use Rattle.esx_words.specs.Commands.{event_text, IsEventInRange, HasNoSemicolon, BeginsWith, ListTakesMemory}
 use Rattle.esx_words.proofs.SampleLemmas.{AreWords}

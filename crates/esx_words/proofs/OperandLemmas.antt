@@ -6,10 +6,11 @@ use Rattle.hex.specs.Hex.{encode_lower}
 use Rattle.esx_types.specs.declared.config.TheConstants.{VM_NUMBERS}
 use Rattle.esx_events.specs.Names.{IsName}
 use Rattle.esx_reading.specs.Written.{IsWritten}
+use Rattle.esx_words.specs.declared.operands.TheConstants.{MAX_WORDS}
 use Rattle.esx_words.specs.Kinds.{Kinds, Values, value_words, AreValues}
 use Rattle.esx_words.specs.Kinds.Kind.{Machine, Number, Word, Hex, Name}
 use Rattle.esx_words.specs.Kinds.Kinds.{End, Then, Words}
-use Rattle.std.specs.Prelude.{Option, Some, None, Result, Ok, Err, IfOk, IfSome, IfNone, OnErr}
+use Rattle.std.specs.Prelude.{Option, Some, None, Result, IfOk, IfSome, IfNone}
 use Rattle.std.proofs.lemmas.Result.{IfOk-weaker}
 use Rattle.std.proofs.lemmas.Option.{IfSome_then}
 
@@ -24,11 +25,6 @@ none_more (Some x) P Q f h = tt
 -- why nothing was found, in other words
 pub found_none : {X E : Type 0} (r : Result (Option X) E) (P Q : Type 0) → (P → Q) → IfOk r (λ found. IfNone found P) → IfOk r (λ found. IfNone found Q)
 found_none r P Q f h = IfOk-weaker r _ _ (λ found. none_more found P Q f) h
-
--- want of memory, and what is known then
-pub on_err : {T E P : Type 0} (r : Result T E) → P → OnErr r P
-on_err (Ok x) p = tt
-on_err (Err e) p = p
 
 -- what was found, in other words
 pub found_more : {X E : Type 0} (r : Result (Option X) E) (P Q : X → Type 0) → ((x : X) → P x → Q x)
@@ -71,7 +67,7 @@ pub no_name : (rest : List (List ℕ)) → ((name : List ℕ) → IsName name �
     → HasNo (Then Name End) rest
 no_name rest h (name, tt) (r0, u) e = h name r0 e
 
-pub no_sampled : (rest : List (List ℕ)) → ((vm n : ℕ) (words : List ℕ) → vm < VM_NUMBERS → n < 2 ^ 32 → length words ≤ 200
+pub no_sampled : (rest : List (List ℕ)) → ((vm n : ℕ) (words : List ℕ) → vm < VM_NUMBERS → n < 2 ^ 32 → length words ≤ MAX_WORDS
     → AllByRecursion (λ w. w < 2 ^ 64) words → rest ≡ decimal vm ∷ decimal n ∷ map decimal words → ⊥)
     → HasNo (Then Machine (Then Number Words)) rest
 no_sampled rest h (vm, (n, words)) (a, (b, (few, are))) e = h vm n words a b few are e

@@ -4,6 +4,7 @@ use Rattle.std.specs.Prelude.{flat_map}
 use Rattle.std.specs.List.{AllByRecursion}
 use Rattle.esx_events.specs.Lists.{IsTriable}
 use Rattle.esx_events.specs.declared.event.Event.{Event}
+use Rattle.esx_events.specs.declared.events.TheConstants.{MAX_EVENTS}
 use Rattle.esx_reading.proofs.FieldLemmas.{others_of}
 use Rattle.esx_words.specs.Commands.{event_text, IsEventInRange, SpellsEvent, list_text, AreListed}
 use Rattle.esx_words.proofs.EventLemmas.{first_of}
@@ -83,7 +84,7 @@ left_of (x ∷ xs) (y ∷ n ∷ ys) rest p are e =
     let l = left_of xs (n ∷ ys) rest p.1 (record { some = omega arith; range = are.range.1 }) (others_of _ _ _ _ behind) in
     record { others = l.others; listed = l.listed; same = l.same; count = omega (arith, l.count) }
 
-pub triable_more : (events : List Event) (event : Event) (n : ℕ) → length events ≡ n → n < 64 → IsTriable (events ++ event ∷ [])
+pub triable_more : (events : List Event) (event : Event) (n : ℕ) → length events ≡ n → n < MAX_EVENTS → IsTriable (events ++ event ∷ [])
 triable_more events event n e lt =
     let long : length (events ++ event ∷ []) ≡ length events + 1 = length-append events (event ∷ []) in
     (omega (arith, long), omega (arith, long, e, lt))

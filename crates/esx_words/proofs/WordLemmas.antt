@@ -13,6 +13,7 @@ use Rattle.std.proofs.lemmas.Fmt.{digits_decimal}
 use Rattle.hex.specs.Hex.{encode_lower, encode_with, lower_digits}
 use Rattle.esx_events.specs.Names.{IsName, is_lower, is_name_byte, starts_lower}
 use Rattle.esx_events.specs.declared.event.Event.{Event}
+use Rattle.esx_events.specs.declared.name.TheConstants.{MAX_NAME}
 use Rattle.esx_reading.specs.Fields.{joined}
 use Rattle.esx_reading.proofs.FieldLemmas.{IsField, no_match, no_space_in_decimal, no_space_in_hex}
 use Rattle.esx_words.specs.declared.verbs.Verb.{Verb}
@@ -98,7 +99,7 @@ name_bytes (b ∷ bs) h = let p = and_parts (is_name_byte b) (list_all is_name_b
 
 name_is_word : (name : List ℕ) → IsName name → IsWord name
 name_is_word name h =
-    known_word name (name_bytes name (and_parts (starts_lower name && nat_le (length name) 32) (list_all is_name_byte name) h).1)
+    known_word name (name_bytes name (and_parts (starts_lower name && nat_le (length name) MAX_NAME) (list_all is_name_byte name) h).1)
 
 value_is_word : (kind : Kind) (x : Value kind) → IsValue kind x → IsWord (value_word kind x)
 value_is_word Machine n r = decimal_is_word n (omega (arith, r))

@@ -3,7 +3,9 @@ use Rattle.std.specs.Prelude.{ℕ, List, [], ◌∷◌, ◌≡◌, ◌<◌, ◌�
 use Rattle.std.specs.List.{AllByRecursion}
 use Rattle.hex.specs.Hex.{encode_lower}
 use Rattle.esx_types.specs.declared.config.TheConstants.{VM_NUMBERS}
+use Rattle.esx_words.specs.declared.operands.TheConstants.{MAX_WORDS}
 use Rattle.esx_events.specs.Names.{IsName}
+use Rattle.esx_reading.specs.declared.written.TheConstants.{MAX_DIGITS}
 use Rattle.esx_reading.specs.Written.{IsWritten}
 
 -- kinds of one word
@@ -37,7 +39,7 @@ IsValue Kind.Word n = n < 2 ^ 64
 IsValue Kind.Hex bytes = IsWritten bytes
 IsValue Kind.Name name = IsName name
 
--- kinds in their order; `Words` are up to 200 numbers that end the line
+-- kinds in their order; `Words` are up to `MAX_WORDS` numbers that end the line
 pub data Kinds : Type 0 where
   End : Kinds
   Then : Kind → Kinds → Kinds
@@ -56,7 +58,7 @@ value_words Kinds.Words ws = map decimal ws
 abbrev pub AreValues : (kinds : Kinds) → Values kinds → Type 0
 AreValues Kinds.End tt = Unit {0}
 AreValues (Kinds.Then kind kinds) (x, xs) = IsValue kind x × AreValues kinds xs
-AreValues Kinds.Words ws = (length ws ≤ 200) × AllByRecursion (λ w. w < 2 ^ 64) ws
+AreValues Kinds.Words ws = (length ws ≤ MAX_WORDS) × AllByRecursion (λ w. w < 2 ^ 64) ws
 
 -- the first word is that of a value of this kind, and what stands behind it is so
 abbrev pub ValueThen : Kind → (List (List ℕ) → Type 0) → List (List ℕ) → Type 0
@@ -74,6 +76,6 @@ TakeMemory (Kinds.Then Kind.Machine kinds) words = ValueThen Kind.Machine (λ ot
 TakeMemory (Kinds.Then Kind.Number kinds) words = ValueThen Kind.Number (λ others. TakeMemory kinds others) words
 TakeMemory (Kinds.Then Kind.Word kinds) words = ValueThen Kind.Word (λ others. TakeMemory kinds others) words
 TakeMemory (Kinds.Then Kind.Hex kinds) words =
-    (digits : List ℕ) × (words ≡ digits ∷ []) × (0 < length digits) × (length digits ≤ 8192) × (length digits % 2 ≡ 0)
+    (digits : List ℕ) × (words ≡ digits ∷ []) × (0 < length digits) × (length digits ≤ MAX_DIGITS) × (length digits % 2 ≡ 0)
 TakeMemory (Kinds.Then Kind.Name kinds) words = (name : List ℕ) × IsName name × (words ≡ name ∷ [])
 TakeMemory Kinds.Words words = MayBeNumbers words

@@ -46,7 +46,7 @@ fn first_event<'a>(
     }
 }
 
-/// 1 to 64 events, if the text is that of so many.
+/// 1 to `MAX_EVENTS` events, if the text is that of so many.
 fn events_of(alloc: Global, text: &str) -> Result<Option<Vec<Event>>, AllocError>
     ensures found { IfOk result (λ found. IfSome found (λ events. IsTriable events.items × AllByRecursion IsEventInRange events.items × (text.now ≡ list_text events.items))) }
     ensures only { IfOk result (λ found. IfNone found ((events : List Event) → IsTriable events → AllByRecursion IsEventInRange events

@@ -1,6 +1,6 @@
 //! All that is left of a line, read as values of some kinds.
 
-ghost use Rattle.std.specs.Prelude.{◌≡◌, ◌∷◌, [], ◌<◌, ◌≤◌, ◌^◌, ◌%◌, decimal, ℕ, List, IfSome, IfNone, IfOk, OnErr, length, map};
+ghost use Rattle.std.specs.Prelude.{◌≡◌, ◌∷◌, [], ◌<◌, ◌≤◌, ◌^◌, decimal, ℕ, List, IfSome, IfNone, IfOk, OnErr, length, map};
 ghost use Rattle.std.specs.List.{AllByRecursion};
 ghost use Rattle.hex.specs.Hex.{encode_lower};
 ghost use Rattle.esx_types.specs.declared.config.TheConstants.{VM_NUMBERS};
@@ -11,7 +11,7 @@ ghost use Rattle.esx_words.specs.Commands.{event_kinds};
 ghost use Rattle.esx_words.specs.declared.verbs.EventVerb.TheVariants as events;
 
 use esx_events::{Boxed, Name};
-use esx_reading::{Fields, TextFault, small_written_bytes};
+use esx_reading::{Fields, small_written_bytes};
 use esx_types::{Rows, SmallBytes, VmId, VmSpec};
 use std::alloc::{AllocError, Global};
 
@@ -134,20 +134,6 @@ fn digits<'a>(fields: &mut Fields<'a>) -> Option<(VmId, u32, u32, &'a str)>
     Some((vm, first, second, text))
 }
 
-/// The bytes of digits, if they are those of some.
-#[inline(always)]
-fn bytes_of(alloc: Global, digits: &str) -> Result<Option<SmallBytes>, AllocError>
-    ensures found { IfOk result (λ found. IfSome found (λ bytes. IsWritten bytes × (digits.now ≡ encode_lower bytes))) }
-    ensures only { IfOk result (λ found. IfNone found ((bytes : List ℕ) → IsWritten bytes → digits.now ≡ encode_lower bytes → ⊥)) }
-    ensures memory { OnErr result ((0 < length digits.now) × (length digits.now ≤ 8192) × (length digits.now % 2 ≡ 0)) }
-{
-    match small_written_bytes(alloc, digits) {
-        Ok(bytes) => Ok(Some(bytes)),
-        Err(TextFault::OutOfMemory) => Err(AllocError),
-        Err(_) => Ok(None),
-    }
-}
-
 /// A virtual machine, two numbers and bytes.
 pub fn written(
     alloc: Global,
@@ -162,7 +148,7 @@ pub fn written(
     let Some((vm, first, second, text)) = digits(fields) else {
         return Ok(None);
     };
-    match bytes_of(alloc, text)? {
+    match small_written_bytes(alloc, text)? {
         Some(bytes) => Ok(Some((vm, first, second, bytes))),
         None => Ok(None),
     }
@@ -185,9 +171,9 @@ const MAX_WORDS: usize = 200;
 
 /// Words to the end of the line.
 fn words(alloc: Global, fields: &mut Fields) -> Result<Option<Vec<u64>>, AllocError>
-    ensures found { IfOk result (λ found. IfSome found (λ words. (length words.items ≤ 200) × AllByRecursion (λ w. w < 2 ^ 64) words.items
+    ensures found { IfOk result (λ found. IfSome found (λ words. (length words.items ≤ MAX_WORDS) × AllByRecursion (λ w. w < 2 ^ 64) words.items
         × (fields.old ≡ map decimal words.items))) }
-    ensures only { IfOk result (λ found. IfNone found ((words : List ℕ) → length words ≤ 200 → AllByRecursion (λ w. w < 2 ^ 64) words
+    ensures only { IfOk result (λ found. IfNone found ((words : List ℕ) → length words ≤ MAX_WORDS → AllByRecursion (λ w. w < 2 ^ 64) words
         → fields.old ≡ map decimal words → ⊥)) }
     ensures memory { OnErr result (MayBeNumbers fields.old) }
 {
@@ -209,10 +195,10 @@ pub fn sampled(
     alloc: Global,
     fields: &mut Fields,
 ) -> Result<Option<(VmId, u32, Boxed<Rows<u64>>)>, AllocError>
-    ensures found { IfOk result (λ found. IfSome found (λ p. (p.0 < VM_NUMBERS) × (length p.2 ≤ 200) × AllByRecursion (λ w. w < 2 ^ 64) p.2
+    ensures found { IfOk result (λ found. IfSome found (λ p. (p.0 < VM_NUMBERS) × (length p.2 ≤ MAX_WORDS) × AllByRecursion (λ w. w < 2 ^ 64) p.2
         × (fields.old ≡ decimal p.0 ∷ decimal p.1 ∷ map decimal p.2))) }
     ensures only { IfOk result (λ found. IfNone found ((vm n : ℕ) (words : List ℕ) → vm < VM_NUMBERS → n < 2 ^ 32
-        → length words ≤ 200 → AllByRecursion (λ w. w < 2 ^ 64) words
+        → length words ≤ MAX_WORDS → AllByRecursion (λ w. w < 2 ^ 64) words
         → fields.old ≡ decimal vm ∷ decimal n ∷ map decimal words → ⊥)) }
     ensures memory { OnErr result (TakeMemory (event_kinds events.Sample) fields.old) }
 {

@@ -506,7 +506,7 @@ fn call_bytes<L: Ledger>(alloc: Global, call: &Call, blank: Blank) -> Result<Vec
     }
 }
 
-/// The one spelling of a call. A write is read again only where it has 1 to 4,096 bytes.
+/// The one spelling of a call. A write is read again only where it has 1 to `MAX_PAGE` bytes.
 pub fn print_command(alloc: Global, call: &Call) -> Result<String, AllocError>
     ensures { IfOk result (λ text. string_bytes text ≡ spelling call.now) }
 {

@@ -10,10 +10,10 @@ use std::alloc::{AllocError, Global};
 use std::marker::Model;
 
 /// How many bytes of an answer are held before they are written.
-const ROOM: usize = 16384;
+pub const ROOM: usize = 16384;
 
 /// The longest number, in digits.
-const DIGITS: usize = 20;
+pub const DIGITS: usize = 20;
 
 /// The bytes of an answer that are held back, seen as their list: a front of a room of fixed size.
 #[derive(Drop)]
@@ -24,12 +24,13 @@ pub struct AnswerBuffer {
 
 impl Model for AnswerBuffer {
     ghost use Rattle.std.specs.Prelude.{List, ℕ, ◌≡◌, ◌≤◌, take, vec_len};
+    ghost use Rattle.esx_writing.specs.declared.buffer.TheConstants.{ROOM};
 
     ghost Value = { List ℕ };
 
     ghost view = { λ a. take a.count a.bytes.items };
 
-    ghost invariant = { λ a. (vec_len a.bytes ≡ 16384) × (a.count ≤ 16384) };
+    ghost invariant = { λ a. (vec_len a.bytes ≡ ROOM) × (a.count ≤ ROOM) };
 }
 
 impl AnswerBuffer {
@@ -45,7 +46,7 @@ impl AnswerBuffer {
     /// For how many bytes there is room.
     #[inline(always)]
     pub fn room(&self) -> usize
-        ensures { result + length self.now ≡ 16384 }
+        ensures { result + length self.now ≡ ROOM }
     {
         ROOM - self.count
     }
@@ -53,7 +54,7 @@ impl AnswerBuffer {
     /// Adds bytes for which there is room.
     #[inline(always)]
     pub fn push(&mut self, bytes: &[u8])
-        requires { length self.old + length bytes.now ≤ 16384 }
+        requires { length self.old + length bytes.now ≤ ROOM }
         ensures { self.new ≡ self.old ++ bytes.now }
     {
         let end = self.count + bytes.len();
@@ -64,7 +65,7 @@ impl AnswerBuffer {
     /// Adds a number where there is room for the longest one.
     #[inline(always)]
     pub fn push_number(&mut self, number: u64)
-        requires { length self.old + 20 ≤ 16384 }
+        requires { length self.old + DIGITS ≤ ROOM }
         ensures { self.new ≡ self.old ++ decimal number }
     {
         let mut room = [0u8; 2 * DIGITS];
@@ -75,7 +76,7 @@ impl AnswerBuffer {
 
     /// Adds bytes in hex, where there is room.
     pub fn push_hex(&mut self, bytes: &[u8])
-        requires { length self.old + 2 * length bytes.now ≤ 16384 }
+        requires { length self.old + 2 * length bytes.now ≤ ROOM }
         ensures { self.new ≡ self.old ++ encode_lower bytes.now }
     {
         let end = self.count + 2 * bytes.len();

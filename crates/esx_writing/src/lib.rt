@@ -5,7 +5,7 @@ mod buffer;
 mod line;
 mod pieces;
 
-pub use buffer::{AnswerBuffer, append_held, put, put_all, write_held};
+pub use buffer::{AnswerBuffer, DIGITS, ROOM, append_held, put, put_all, write_held};
 pub use line::{Hex, Line, put_line};
 pub use pieces::{Piece, put_pieces, write_pieces};
 

@@ -2,9 +2,10 @@
 
 ghost use Rattle.std.specs.Prelude.{◌≡◌, ◌+◌, ◌≤◌, ◌*◌, ◌++◌, ℕ, List, length, decimal, OnOk, IsUtf8};
 ghost use Rattle.hex.specs.Hex.{encode_lower};
+ghost use Rattle.esx_writing.specs.declared.buffer.TheConstants.{DIGITS, ROOM};
 ghost use Rattle.esx_writing.specs.Writing.{Puts, sink_faults};
 
-use crate::buffer::{AnswerBuffer, put, put_number};
+use crate::buffer::{AnswerBuffer, DIGITS, put, put_number};
 use crate::pieces::put_hex;
 use esx_types::{Sink, SinkFailed};
 
@@ -17,11 +18,11 @@ pub trait Line {
 
     /// For how many bytes it needs room. More than a buffer has where there are too many.
     fn needs(&self) -> usize
-        ensures { result ≤ 16384 → most self.now ≤ result };
+        ensures { result ≤ ROOM → most self.now ≤ result };
 
     /// Adds it to what is held.
     fn push(&self, held: &mut AnswerBuffer)
-        requires { length held.old + most self.now ≤ 16384 }
+        requires { length held.old + most self.now ≤ ROOM }
         ensures value { held.new ≡ held.old ++ text self.now }
         ensures fits { length (text self.now) ≤ most self.now }
         ensures utf8 { IsUtf8 (text self.now) };
@@ -47,9 +48,9 @@ fn put_str<W: Sink>(sink: &mut W, held: &mut AnswerBuffer, text: &str) -> Result
 /// Adds a number's digits to what is held.
 #[inline(always)]
 fn push_digits(held: &mut AnswerBuffer, number: u64)
-    requires { length held.old + 20 ≤ 16384 }
+    requires { length held.old + DIGITS ≤ ROOM }
     ensures value { held.new ≡ held.old ++ decimal number }
-    ensures fits { length (decimal number) ≤ 20 }
+    ensures fits { length (decimal number) ≤ DIGITS }
     ensures utf8 { IsUtf8 (decimal number) }
 {
     held.push_number(number);
@@ -90,11 +91,11 @@ impl<'a> Line for &'a str {
 impl Line for u64 {
     ghost text = { λ n. decimal n };
 
-    ghost most = { λ _. 20 };
+    ghost most = { λ _. DIGITS };
 
     #[inline(always)]
     fn needs(&self) -> usize {
-        20
+        DIGITS
     }
 
     #[inline(always)]

@@ -26,8 +26,8 @@ pub enum Piece<'a> {
 }
 
 /// The hex digits of some bytes, in a room for them.
-fn hex_digits<'a>(bytes: &[u8], room: &'a mut [u8; 128]) -> &'a [u8]
-    requires { length bytes.now ≤ 64 }
+fn hex_digits<'a>(bytes: &[u8], room: &'a mut [u8; 2 * HEX_AT_ONCE]) -> &'a [u8]
+    requires { length bytes.now ≤ HEX_AT_ONCE }
     ensures { result.now ≡ encode_lower bytes.now }
 {
     let digits = &mut room[..2 * bytes.len()];

@@ -13,14 +13,17 @@ ghost use Rattle.esx_types.specs.Ranges.{IsConfig};
 
 use esx_check::OutputFault;
 use esx_events::Refusal;
-use esx_program::{Failure, RunFault, SITE, serve_site};
+use esx_program::{Asked, Ended, Failure, RunFault, SITE, Streams, run_counted, serve_site};
 use esx_reading::TextFault;
 use esx_text::{ServeFault, parse_command, print_command};
 use esx_types::{Config, MemorySink, MemorySource};
-use std::alloc::Global;
+use std::alloc::{AllocGlobal, Global};
+use std::io::{self, Print, Read, Write};
 use std::marker::Brand;
+use std::sync::Wait;
 use std::sync::ledger::{Blank, Ledger};
 use std::test::Fail;
+use std::thread::Threads;
 
 /// Lines, and the answers to them.
 struct Row {
@@ -143,6 +146,32 @@ fn served(
     requires { IsConfig config }
 {
     served_counted::<Brand, Brand>(alloc, config, input, most, Blank::new(4), Blank::new(4))
+}
+
+/// Does what is asked for, of a file and over streams of the standard library.
+fn run_over<
+    R: AllocGlobal + Threads + Wait + Sync,
+    P: Print + Sync,
+    F: Read + Drop,
+    I: Read + Drop,
+    E: Write + Drop,
+    W: Write + Drop,
+>(
+    rt: &R,
+    asked: Asked<io::Result<F>>,
+    to: Option<&P>,
+    streams: Streams<I, E, W>,
+) -> Ended<I, E, W> {
+    run_counted::<_, _, _, _, _, _, Brand, Brand, Brand, Brand>(
+        rt,
+        asked,
+        to,
+        streams,
+        Blank::new(4),
+        Blank::new(4),
+        Blank::new(4),
+        Blank::new(4),
+    )
 }
 
 #[test]

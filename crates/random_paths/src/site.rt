@@ -1,6 +1,6 @@
 //! The sites of the paths: small ones, where frames are soon scarce, and a few with many pages or machines.
 
-use esx_types::{Config, VmSpec};
+use esx_types::{Config, MAX_NODES, VmSpec};
 
 /// A site, and the machines that are there at the beginning of a path.
 #[derive(Clone, Copy)]
@@ -28,7 +28,7 @@ const SMALL: Config = Config {
     soft: 4,
     hard: 2,
     low: 1,
-    nodes: 16777216,
+    nodes: MAX_NODES,
 };
 
 const TIGHT: Config = Config {

@@ -5,6 +5,7 @@ use Rattle.std.specs.List.{flat_map}
 use Rattle.std.proofs.lemmas.Bool.Decides.{nat_tests}
 use Rattle.std.proofs.lemmas.List.Sums.{sum_by-cons}
 use Rattle.esx_types.specs.declared.config.Config.{Config}
+use Rattle.esx_types.specs.declared.config.TheConstants.{MAX_SHARES, MAX_TAU}
 use Rattle.esx_types.specs.declared.vm.VmSpec.{VmSpec}
 use Rattle.esx_types.specs.Ranges.{IsGood}
 use Rattle.esx_events.specs.declared.event.Answer.{Answer}
@@ -28,7 +29,7 @@ use Rattle.esx_model.proofs.Machines.{fits_as}
 use Rattle.esx_model.proofs.Kept.{Becomes, row_only}
 use Rattle.esx_model.proofs.Gates.{of_vm, passed, gives, not_not}
 
-good_shares : (spec : VmSpec) (shares : ℕ) → IsGood spec → (nat_le 1 shares && nat_le shares 1048576) ≡ true → IsGood (record spec { shares = shares })
+good_shares : (spec : VmSpec) (shares : ℕ) → IsGood spec → (nat_le 1 shares && nat_le shares MAX_SHARES) ≡ true → IsGood (record spec { shares = shares })
 good_shares spec shares good h = record {
   least_min = good.least_min;
   min_max = good.min_max;
@@ -40,7 +41,7 @@ good_shares spec shares good h = record {
   most_balloon = good.most_balloon;
 }
 
-shares_becomes : (c : Config) (v : Vm) (shares : ℕ) → IsVm c v → (nat_le 1 shares && nat_le shares 1048576) ≡ true → Becomes c v (record v { spec = record v.spec { shares = shares } })
+shares_becomes : (c : Config) (v : Vm) (shares : ℕ) → IsVm c v → (nat_le 1 shares && nat_le shares MAX_SHARES) ≡ true → Becomes c v (record v { spec = record v.spec { shares = shares } })
 shares_becomes c v shares fine h = record {
   fine = record {
     good = good_shares v.spec shares fine.good h;
@@ -67,7 +68,7 @@ set_shares_sound c s n shares r sound h =
     let w : Vm = record v { spec = record v.spec { shares = shares } } in
     gives c answers.Done (with_vm s n w) r pass.1 (row_only c s n v w sound m.there (shares_becomes c v shares (sound.each n v m.there) (not_not _ pass.0.0)) refl refl)
 
-taxed : (c : Config) (s : Site) (tau : ℕ) → IsSound c s → tau ≤ 99 → IsSound c (record s { tau = tau })
+taxed : (c : Config) (s : Site) (tau : ℕ) → IsSound c s → tau ≤ MAX_TAU → IsSound c (record s { tau = tau })
 unfolding all_places all_overhead
 taxed c s tau sound most = record {
   vms = sound.vms;
@@ -79,7 +80,7 @@ taxed c s tau sound most = record {
   hints = sound.hints;
 }
 
-most_tax : (tau : ℕ) → nat_lt 99 tau ≡ false → tau ≤ 99
+most_tax : (tau : ℕ) → nat_lt MAX_TAU tau ≡ false → tau ≤ MAX_TAU
 most_tax tau h = grind (arith, nat_tests)
 
 pub set_tax_sound : (c : Config) (s : Site) (tau : ℕ) (r : Answer × Site) → IsSound c s → set_tax s tau ≡ Ok r → IsSound c r.1

@@ -6,6 +6,7 @@ use Rattle.std.proofs.lemmas.List.{length-map}
 use Rattle.std.proofs.lemmas.List.Sums.{count_by-le-length}
 use Rattle.std.proofs.lemmas.Bool.Decides.{nat_tests}
 use Rattle.esx_types.specs.declared.config.Config.{Config}
+use Rattle.esx_types.specs.declared.config.TheConstants.{MAX_LENGTH, MAX_SAMPLE}
 use Rattle.esx_types.specs.declared.vm.VmState.TheVariants.{Running}
 use Rattle.esx_events.specs.declared.event.Answer.{Answer}
 use Rattle.esx_events.specs.declared.event.Answer.TheVariants as answers
@@ -49,7 +50,7 @@ all_drawn : (max : ℕ) (words : List ℕ) → 1 ≤ max → AllByRecursion (λ 
 all_drawn max [] h = tt
 all_drawn max (w ∷ words) h = (omega arith, all_drawn max words h)
 
-good_words : (count len : ℕ) → are_good_words count len ≡ true → (1 ≤ count) × (count ≤ 100) × (1 ≤ len) × (len ≤ 1048576)
+good_words : (count len : ℕ) → are_good_words count len ≡ true → (1 ≤ count) × (count ≤ MAX_SAMPLE) × (1 ≤ len) × (len ≤ MAX_LENGTH)
 good_words count len h = (grind (arith, nat_tests), grind (arith, nat_tests), grind (arith, nat_tests), grind (arith, nat_tests))
 
 opened_fits : (max len : ℕ) (words : List ℕ) → 1 ≤ max → are_good_words (length words) len ≡ true → IsPeriod max (opened_period max len words)
@@ -84,7 +85,7 @@ pub record IsCounted (c : Config) (v w : Vm) : Type 0 where
   pub places : w.places ≡ v.places
   pub overhead : w.overhead ≡ v.overhead
 
-told_fits : (max : ℕ) (p : Period) → 1 ≤ length p.pages → length p.pages ≤ 100 → IsEstimate (so_far p)
+told_fits : (max : ℕ) (p : Period) → 1 ≤ length p.pages → length p.pages ≤ MAX_SAMPLE → IsEstimate (so_far p)
 told_fits max p least most = record { touched = count_by-le-length (is_touched p) p.pages; least_pages = least; most_pages = most }
 
 closed_or_open : (c : Config) (v : Vm) (p : Period) (page : ℕ) → IsVm c v → v.state ≡ Running → page < v.spec.max → IsPeriod v.spec.max p

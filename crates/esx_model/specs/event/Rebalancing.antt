@@ -1,6 +1,7 @@
 -- Targets, and what they are made from (Waldspurger, "Share-Based Allocation", "Reclaiming Idle Memory", "Dynamic Reallocation").
 use Rattle.std.specs.Prelude.{ℕ, ◌+◌, ◌-◌, nat_le, ◌&&◌, min, List, [], ◌∷◌, map, Option, Some, None, option_map, sum_by, Ok, not, nat_lt}
 use Rattle.esx_types.specs.declared.config.Config.{Config}
+use Rattle.esx_types.specs.declared.config.TheConstants.{MAX_SHARES, MAX_TAU}
 use Rattle.esx_types.specs.declared.level.Level.{Level}
 use Rattle.esx_types.specs.declared.level.Level.TheVariants.{High, Soft, Hard, Low}
 use Rattle.esx_events.specs.declared.event.Answer.TheVariants as answers
@@ -62,14 +63,14 @@ rebalance c s Hard = share_out c s
 rebalance c s Low = share_out c s
 
 abbrev pub shares_gate : ℕ → Gate
-shares_gate shares = (not (nat_le 1 shares && nat_le shares 1048576), BadSpec) ∷ []
+shares_gate shares = (not (nat_le 1 shares && nat_le shares MAX_SHARES), BadSpec) ∷ []
 
 unfoldable pub set_shares : Site → ℕ → ℕ → Outcome
 set_shares s n shares = at_vm (vm_at s n) (λ v. unless (shares_gate shares)
     (Ok (answers.Done, with_vm s n (record v { spec = record v.spec { shares = shares } }))))
 
 abbrev pub tax_gate : ℕ → Gate
-tax_gate tau = (nat_lt 99 tau, BadSpec) ∷ []
+tax_gate tau = (nat_lt MAX_TAU tau, BadSpec) ∷ []
 
 unfoldable pub set_tax : Site → ℕ → Outcome
 set_tax s tau = unless (tax_gate tau) (Ok (answers.Done, record s { tau = tau }))

@@ -1,5 +1,6 @@
 -- Sample periods: how much of its memory a machine uses (Waldspurger, "Measuring Idle Memory").
 use Rattle.std.specs.Prelude.{ℕ, ◌%◌, Bool, not, nat_lt, nat_le, ◌&&◌, List, [], ◌∷◌, ◌++◌, length, map, Option, Some, None, is_some, if◌then◌else◌, Ok}
+use Rattle.esx_types.specs.declared.config.TheConstants.{MAX_LENGTH, MAX_SAMPLE}
 use Rattle.esx_events.specs.declared.event.Answer.TheVariants as answers
 use Rattle.esx_events.specs.declared.event.Refusal.TheVariants.{NotRunning, BadWords, SampleOpen}
 use Rattle.esx_formulas.specs.declared.activity.Period.{Period}
@@ -10,9 +11,9 @@ use Rattle.esx_formulas.specs.Average.{so_far}
 use Rattle.esx_model.specs.Site.{vm_at, with_vm}
 use Rattle.esx_model.specs.event.Outcome.{Outcome, Gate, at_vm, unless, standing, is_running}
 
--- 1 to 100 pages, and 1 to 2^20 accesses
+-- 1 to `MAX_SAMPLE` pages, and 1 to `MAX_LENGTH` accesses
 abbrev pub are_good_words : ℕ → ℕ → Bool
-are_good_words count length = nat_le 1 count && nat_le count 100 && nat_le 1 length && nat_le length 1048576
+are_good_words count length = nat_le 1 count && nat_le count MAX_SAMPLE && nat_le 1 length && nat_le length MAX_LENGTH
 
 abbrev pub sample_gate : Standing → ℕ → ℕ → Bool → Gate
 sample_gate m count len open_now =

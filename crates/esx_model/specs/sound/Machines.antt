@@ -2,6 +2,7 @@
 use Rattle.std.specs.Prelude.{◌≡◌, ℕ, ◌-◌, ◌≤◌, ◌<◌, length, Option, Some, None, ⊤}
 use Rattle.std.specs.List.{AllByRecursion}
 use Rattle.esx_types.specs.declared.config.Config.{Config}
+use Rattle.esx_types.specs.declared.config.TheConstants.{MAX_LENGTH, MAX_SAMPLE}
 use Rattle.esx_types.specs.Ranges.{IsGood}
 use Rattle.esx_types.specs.declared.vm.VmState.{VmState}
 use Rattle.esx_types.specs.declared.vm.VmState.TheVariants.{Starting, Running, Stopping}
@@ -21,10 +22,10 @@ IsPlace c epoch (Lent e) = e ≤ epoch
 
 -- An open period: so many accesses of its length, none of them its last, and the pages of its machine.
 pub record IsPeriod (max : ℕ) (p : Period) : Type 0 where
-  pub most_length : p.length ≤ 1048576
+  pub most_length : p.length ≤ MAX_LENGTH
   pub open_still : length p.accessed < p.length
   pub least_pages : 1 ≤ length p.pages
-  pub most_pages : length p.pages ≤ 100
+  pub most_pages : length p.pages ≤ MAX_SAMPLE
   pub pages : AllByRecursion (λ page. page < max) p.pages
   pub accessed : AllByRecursion (λ page. page < max) p.accessed
 

@@ -1,7 +1,7 @@
 -- What every site on a path keeps.
 use Rattle.std.specs.Prelude.{◌≡◌, ℕ, ◌≤◌, ◌<◌, length, Some}
 use Rattle.esx_types.specs.declared.config.Config.{Config}
-use Rattle.esx_types.specs.declared.config.TheConstants.{VM_NUMBERS}
+use Rattle.esx_types.specs.declared.config.TheConstants.{MAX_TAU, VM_NUMBERS}
 use Rattle.esx_events.specs.declared.event.Event.{Event}
 use Rattle.esx_events.specs.declared.event.Event.TheVariants.{Admit, Start, Read, Write, Ask, Lend, TakeBack, Sample, Rebalance, Scan, SwapOut, Replace, SetShares, SetTax, Stop, DropPage, Gone}
 use Rattle.esx_model.specs.declared.scene.Vm.{Vm}
@@ -16,7 +16,7 @@ pub record IsSound (c : Config) (s : Site) : Type 0 where
   pub each : (n : ℕ) (v : Vm) → vm_at s n ≡ Some v → IsVm c v
   pub memory : memory_reserved s ≤ c.frames
   pub swap : swap_reserved s ≤ c.slots
-  pub tau : s.tau ≤ 99
+  pub tau : s.tau ≤ MAX_TAU
   pub frames : AreFrames c.frames (all_places s) (all_overhead s)
   pub hints : AreHints (place_of s) s.hints
 

@@ -15,7 +15,7 @@ use esx_changes::Plan;
 use esx_events::{Answer, Refusal};
 use esx_formulas::level::{margin, threshold};
 use esx_tables::{Change, Facts, Record, SiteTables, VmPart, VmTable};
-use esx_types::{Config, Level, VmId};
+use esx_types::{Config, Level, MAX_SHARES, MAX_TAU, VmId};
 use std::alloc::{AllocError, Global};
 
 /// A machine gets all it asked for.
@@ -128,7 +128,7 @@ pub fn plan_rebalance(
 pub fn plan_tax(alloc: Global, tau: u32) -> Result<Plan, Refusal>
     ensures { Plans result (tax_plan tau) }
 {
-    if 99 < tau {
+    if MAX_TAU < tau {
         return Err(Refusal::BadSpec);
     }
     let changes = vec![in alloc; Change::TaxIs { tau }]?;
@@ -151,7 +151,7 @@ pub fn plan_shares(
     let Some(row) = tables.vm(vm) else {
         return Err(Refusal::NoVm);
     };
-    if shares < 1 || 1048576 < shares {
+    if shares < 1 || MAX_SHARES < shares {
         return Err(Refusal::BadSpec);
     }
     let facts = Facts {

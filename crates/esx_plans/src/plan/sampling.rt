@@ -8,7 +8,7 @@ use esx_changes::Plan;
 use esx_events::{Answer, Boxed, Refusal};
 use esx_model::{Mark, PeriodRow};
 use esx_tables::{Change, Record, SiteTables, VmPart};
-use esx_types::{Rows, VmId, VmState};
+use esx_types::{MAX_LENGTH, MAX_SAMPLE, Rows, VmId, VmState};
 use std::alloc::{AllocError, Global};
 
 /// The page that a word draws of a machine with so many, not accessed yet.
@@ -46,8 +46,8 @@ fn opened(alloc: Global, max: u32, length: u32, words: &[u64]) -> Result<PeriodR
     })
 }
 
-/// A running machine with no open period opens one of `length` accesses, 1 to 2^20, with a page for each
-/// of 1 to 100 words.
+/// A running machine with no open period opens one of `length` accesses, 1 to `MAX_LENGTH`, with a page
+/// for each of 1 to `MAX_SAMPLE` words.
 #[tactic(auto, unfolding(crate::specs::plan::Sampling::sample_plan))]
 pub fn plan_sample(
     tables: &SiteTables,
@@ -65,7 +65,7 @@ pub fn plan_sample(
         VmState::Starting | VmState::Stopping => return Err(Refusal::NotRunning),
         VmState::Running => {}
     }
-    if words.is_empty() || 100 < words.len() || length < 1 || 1048576 < length {
+    if words.is_empty() || MAX_SAMPLE < words.len() || length < 1 || MAX_LENGTH < length {
         return Err(Refusal::BadWords);
     }
     if let Some(_open) = row.period() {

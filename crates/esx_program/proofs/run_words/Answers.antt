@@ -4,7 +4,7 @@ use Rattle.esx_program.proofs.run_words.Goals as goal
 
 pub returns-in-Ok-clause-does : goal.returns-in-Ok-clause-does
 returns-in-Ok-clause-does g c =
-    inl (c.in-Ok.asked, record { no_fault = c.in-Ok.ensures.taken; asked_for = c.in-Ok.ensures.ok }, c.opened.result, c.opened.ensures, c.run_over.ensures.does)
+    inl (c.in-Ok.asked, record { no_fault = c.in-Ok.ensures.taken; asked_for = c.in-Ok.ensures.ok }, c.opened.result, c.opened.ensures, c.run_counted.ensures.does)
 
 pub returns-in-Err-clause-does : goal.returns-in-Err-clause-does
 returns-in-Err-clause-does g c =

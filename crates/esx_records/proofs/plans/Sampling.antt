@@ -3,6 +3,7 @@ use Rattle.std.proofs.Common.{◌≡◌, ℕ, ◌≤◌, ◌&&◌, nat_le, Bool,
 use Rattle.std.proofs.lemmas.Bool.Decides.{nat_tests}
 use Rattle.std.proofs.lemmas.List.{length-map}
 use Rattle.esx_types.specs.declared.config.Config.{Config}
+use Rattle.esx_types.specs.declared.config.TheConstants.{MAX_LENGTH, MAX_SAMPLE}
 use Rattle.esx_model.specs.declared.book.Mark.{Mark}
 use Rattle.esx_model.specs.declared.tables.Tables.{Tables}
 use Rattle.esx_model.specs.Tables.{standing_of}
@@ -16,11 +17,11 @@ middle true true d e h = refl
 middle true false d e h = cc
 middle false b d e h = cc
 
-within : (count : ℕ) → nat_le count 100 ≡ true → count ≤ 100
+within : (count : ℕ) → nat_le count MAX_SAMPLE ≡ true → count ≤ MAX_SAMPLE
 within count h = grind (arith, nat_tests)
 
-few_words : (count len : ℕ) → not (are_good_words count len) ≡ false → count ≤ 100
-few_words count len h = within count (middle (nat_le 1 count) (nat_le count 100) (nat_le 1 len) (nat_le len 1048576) h)
+few_words : (count len : ℕ) → not (are_good_words count len) ≡ false → count ≤ MAX_SAMPLE
+few_words count len h = within count (middle (nat_le 1 count) (nat_le count MAX_SAMPLE) (nat_le 1 len) (nat_le len MAX_LENGTH) h)
 
 pub sample_small : (c : Config) (t : Tables) (n len : ℕ) (words : List ℕ) → PlansModest c 0 (sample_plan t n len words)
 unfolding sample_plan

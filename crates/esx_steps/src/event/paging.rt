@@ -3,7 +3,7 @@
 ghost use Rattle.std.specs.Prelude.{◌≡◌, ◌<◌, ◌≤◌, ◌%◌, length, Some, None, Ok, false, IfOk, unwrap_or, slice_get};
 ghost use Rattle.std.specs.Option.{option_copied};
 ghost use Rattle.std.specs.List.{list_any};
-ghost use Rattle.esx_types.specs.declared.config.TheConstants.{VM_NUMBERS};
+ghost use Rattle.esx_types.specs.declared.config.TheConstants.{MAX_PAGES, VM_NUMBERS};
 ghost use Rattle.esx_model.specs.declared.scene.Vm.{Vm};
 ghost use Rattle.esx_model.specs.declared.scene.Place.TheVariants.{Untouched, Here, Out};
 ghost use Rattle.esx_model.specs.Places.{is_here};
@@ -28,7 +28,7 @@ use std::alloc::{AllocError, Global};
 /// The numbers of the pages of a machine that are in frames.
 #[tactic(auto, using(crate::proofs::Draws::here_more))]
 fn here(alloc: Global, places: &[Place]) -> Result<Vec<u32>, AllocError>
-    requires { length places.now ≤ 65536 }
+    requires { length places.now ≤ MAX_PAGES }
     ensures { IfOk result (λ pages. pages.items ≡ here_from 0 places.now) }
 {
     let mut pages = Vec::new(alloc);
@@ -54,7 +54,7 @@ fn drawn(pages: &[u32], word: u64) -> Option<u32>
 /// The page that a word draws from those of a machine that are in frames.
 #[tactic(auto, using(crate::proofs::Draws::one_drawn))]
 fn victim(alloc: Global, vm: &Vm, word: u64) -> Result<Option<u32>, AllocError>
-    requires { length vm.now.places ≤ 65536 }
+    requires { length vm.now.places ≤ MAX_PAGES }
     ensures { IfOk result (λ page. page ≡ victim vm.now word) }
 {
     let pages = here(alloc, vm.places.as_slice())?;

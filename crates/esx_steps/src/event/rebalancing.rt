@@ -3,6 +3,7 @@
 ghost use Rattle.std.specs.Prelude.{◌≡◌, ◌<◌, ◌≤◌, ◌+◌, ◌-◌, ◌^◌, min, length, map, option_map, sum_by, Some, None, Ok, IfOk};
 ghost use Rattle.esx_types.specs.Ranges.{IsConfig};
 ghost use Rattle.esx_types.specs.declared.config.TheConstants.{VM_NUMBERS};
+ghost use Rattle.esx_formulas.specs.declared.activity.TheConstants.{WHOLE};
 ghost use Rattle.esx_formulas.specs.Targets.{spare};
 ghost use Rattle.esx_events.specs.declared.event.Answer.TheVariants as answers;
 ghost use Rattle.esx_model.specs.declared.scene.Vm.{Vm};
@@ -21,7 +22,7 @@ use esx_formulas::activity::{active_share, fast_average, slow_average};
 use esx_formulas::level::{margin, threshold};
 use esx_formulas::targets::targets;
 use esx_model::{Site, Vm};
-use esx_types::{Config, Level, Rows, VM_NUMBERS, VmId};
+use esx_types::{Config, Level, MAX_SHARES, MAX_TAU, Rows, VM_NUMBERS, VmId};
 use std::alloc::{AllocError, Global};
 
 fn with_shares(site: Site, number: usize, shares: u32) -> Site
@@ -50,7 +51,7 @@ pub fn set_shares(
     if vm_of(config, &site, number).is_none() {
         return Err(Refusal::NoVm);
     }
-    if shares < 1 || 1048576 < shares {
+    if shares < 1 || MAX_SHARES < shares {
         return Err(Refusal::BadSpec);
     }
     Ok((Answer::Done, with_shares(site, number, shares)))
@@ -61,7 +62,7 @@ pub fn set_shares(
 pub fn set_tax(site: Site, tau: u32) -> Result<(Answer, Site), Refusal>
     ensures { Gives result (set_tax site tau) }
 {
-    if 99 < tau {
+    if MAX_TAU < tau {
         return Err(Refusal::BadSpec);
     }
     let mut site = site;
@@ -73,7 +74,7 @@ pub fn set_tax(site: Site, tau: u32) -> Result<(Answer, Site), Refusal>
 fn active(vm: &Vm) -> u32
     requires { HasNumbers vm.now }
     ensures value { result ≡ active vm.now }
-    ensures most { result ≤ 65536 }
+    ensures most { result ≤ WHOLE }
 {
     let now = match &vm.period {
         None => None,
@@ -105,9 +106,9 @@ fn rows(alloc: Global, config: &Config, site: &Site) -> Result<Vec<Row>, AllocEr
     ensures { IfOk result (λ rows. rows.items ≡ rows_of min_of site.now) }
 {
     let mut rows = Vec::new(alloc);
-    for number in 0..VM_NUMBERS as u8 {
-        let vm = vm_of(config, site, usize::from(number));
-        if let Some(id) = VmId::new(number) {
+    for number in 0..VM_NUMBERS {
+        let vm = vm_of(config, site, number);
+        if let Some(id) = VmId::new(number as u8) {
             if let Some(vm) = vm {
                 rows.push(row_of_vm(site.tau, id, vm))?;
             }

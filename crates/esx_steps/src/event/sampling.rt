@@ -15,14 +15,14 @@ use crate::site::vm_of;
 use esx_events::{Answer, Refusal};
 use esx_formulas::{Estimate, Period};
 use esx_model::{Site, Vm};
-use esx_types::{Config, Rows, VmId, VmState};
+use esx_types::{Config, MAX_LENGTH, MAX_SAMPLE, Rows, VmId, VmState};
 use std::alloc::{AllocError, Global};
 
-/// 1 to 100 pages, and 1 to 2^20 accesses.
+/// 1 to `MAX_SAMPLE` pages, and 1 to `MAX_LENGTH` accesses.
 fn are_good_words(count: usize, length: u32) -> bool
     ensures { result ≡ are_good_words count length }
 {
-    1 <= count && count <= 100 && 1 <= length && length <= 1048576
+    1 <= count && count <= MAX_SAMPLE && 1 <= length && length <= MAX_LENGTH
 }
 
 /// The page that each word draws.
@@ -95,7 +95,7 @@ pub fn sample(
 /// What an open period tells so far.
 pub fn so_far(period: &Period) -> Estimate
     requires least { 1 ≤ length period.now.pages }
-    requires most { length period.now.pages ≤ 100 }
+    requires most { length period.now.pages ≤ MAX_SAMPLE }
     ensures value { result ≡ so_far period.now }
     ensures fits { IsEstimate result }
 {
@@ -113,7 +113,7 @@ pub fn so_far(period: &Period) -> Estimate
 
 fn count_access(vm: &mut Vm, page: u32) -> Result<(), AllocError>
     requires least { (p : Period) → vm.old.period ≡ Some p → 1 ≤ length p.pages }
-    requires most { (p : Period) → vm.old.period ≡ Some p → length p.pages ≤ 100 }
+    requires most { (p : Period) → vm.old.period ≡ Some p → length p.pages ≤ MAX_SAMPLE }
     ensures { OnOk result (vm.new ≡ counted page vm.old) }
 {
     let Some(mut period) = vm.period.take() else {
@@ -132,7 +132,7 @@ fn count_access(vm: &mut Vm, page: u32) -> Result<(), AllocError>
 pub fn counted(site: Site, number: usize, page: u32) -> Result<Site, AllocError>
     requires number { number < length site.vms }
     requires least { (v : Vm) (p : Period) → vm_at site number ≡ Some v → v.period ≡ Some p → 1 ≤ length p.pages }
-    requires most { (v : Vm) (p : Period) → vm_at site number ≡ Some v → v.period ≡ Some p → length p.pages ≤ 100 }
+    requires most { (v : Vm) (p : Period) → vm_at site number ≡ Some v → v.period ≡ Some p → length p.pages ≤ MAX_SAMPLE }
     ensures { IfOk result (λ t. t ≡ with_change site number (counted page)) }
 {
     let mut site = site;

@@ -1,6 +1,7 @@
 //! A machine takes its overhead frames, one at a time.
 
 ghost use Rattle.std.specs.Prelude.{◌≡◌, ◌<◌, ◌≤◌, ◌+◌, length, Some, Ok, OnOk, IfOk, IfErr, not, nat_lt};
+ghost use Rattle.esx_types.specs.declared.config.TheConstants.{MAX_OVERHEAD};
 ghost use Rattle.esx_events.specs.declared.event.Answer.TheVariants as answers;
 ghost use Rattle.esx_model.specs.declared.scene.Vm.{Vm};
 ghost use Rattle.esx_model.specs.Site.{vm_at};
@@ -14,7 +15,7 @@ use esx_model::{Site, Vm};
 use esx_types::{Config, VmId, VmState};
 
 fn take_frame(vm: &mut Vm, frame: u32) -> Result<Answer, Refusal>
-    requires { length vm.old.overhead ≤ 1048576 }
+    requires { length vm.old.overhead ≤ MAX_OVERHEAD }
     ensures vm { OnOk result (vm.new ≡ with_overhead vm.old frame) }
     ensures answer { IfOk result (λ a. a ≡ answers.Started (not (nat_lt (length vm.old.overhead + 1) vm.old.spec.overhead))
         frame (length vm.old.overhead + 1) vm.old.spec.overhead) }
@@ -38,7 +39,7 @@ fn take_frame(vm: &mut Vm, frame: u32) -> Result<Answer, Refusal>
 
 fn take_overhead(site: Site, number: usize, frame: u32) -> Result<(Answer, Site), Refusal>
     requires number { number < length site.vms }
-    requires few { (v : Vm) → vm_at site number ≡ Some v → length v.overhead ≤ 1048576 }
+    requires few { (v : Vm) → vm_at site number ≡ Some v → length v.overhead ≤ MAX_OVERHEAD }
     ensures { (v : Vm) → vm_at site number ≡ Some v → Gives result (take_overhead site number v (Some frame)) }
 {
     let mut site = site;

@@ -2,9 +2,10 @@
 
 use super::ends::Stuck;
 use super::opening::taped;
+use super::run_over;
 use super::running::disk;
 use esx_check::{Checked, OutputFault, check_session_through};
-use esx_program::{Asked, Done, Ended, Failure, Streams, check_watched, run_over, terminal};
+use esx_program::{Asked, Done, Ended, Failure, Streams, check_watched, terminal};
 use esx_reading::TextFault;
 use esx_session::parse_session;
 use esx_work::Gate;

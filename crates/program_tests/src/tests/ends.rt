@@ -1,7 +1,8 @@
 //! The program's streams between ends that wait for answers, fail, or are interrupted.
 
 use super::opening::Tape;
-use esx_program::{Asked, Done, Ended, Failure, Streams, run_over};
+use super::run_over;
+use esx_program::{Asked, Done, Ended, Failure, Streams};
 use esx_text::ServeFault;
 use std::alloc::AllocGlobal;
 use std::cell::RefCell;

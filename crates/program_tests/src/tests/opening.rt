@@ -1,7 +1,8 @@
 //! The program's words, and the sites of scenarios in files.
 
 use super::asking::streams;
-use esx_program::{Asked, Ended, Failure, WordsFault, asked_of_words, run_over};
+use super::run_over;
+use esx_program::{Asked, Ended, Failure, WordsFault, asked_of_words};
 use std::alloc::{AllocError, AllocGlobal, Global};
 use std::io::{self, ErrorKind, Read, Stderr};
 use std::sync::Wait;

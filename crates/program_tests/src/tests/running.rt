@@ -1,9 +1,10 @@
 //! Runs of scenarios, and what is told of them.
 
 use super::ends::{Disk, Screen, Terminal};
+use super::run_over;
 use esx_check::Checked;
 use esx_events::Refusal;
-use esx_program::{Asked, Done, Ended, Failure, RunFault, Streams, check_watched, run_over};
+use esx_program::{Asked, Done, Ended, Failure, RunFault, Streams, check_watched};
 use std::alloc::{AllocGlobal, Global};
 use std::cell::RefCell;
 use std::io::{self, Stderr, Write};

@@ -1,7 +1,7 @@
 use Rattle.std.proofs.Common.{◌≡◌, ◌+◌, ◌-◌, ◌*◌, ◌≤◌, length, slice_index, arith}
 use Rattle.std.proofs.lemmas.Nat.{mul-le}
 use Rattle.std.proofs.lemmas.List.{get_or_read}
-use Rattle.esx_types.specs.declared.config.TheConstants.{VM_NUMBERS}
+use Rattle.esx_types.specs.declared.config.TheConstants.{MAX_PAGES, VM_NUMBERS}
 use Rattle.esx_formulas.specs.Targets.{AreTargets}
 use Rattle.esx_formulas.proofs.Revoking.{only_worked_out}
 use Rattle.esx_formulas.specs.Payers.{IsFirstBelow, AreNoneBelow}
@@ -39,8 +39,8 @@ overflow_cast-rows c = omega (arith, rows_few c.args.rows.now c.requires.rows)
 
 pub overflow_mul-rows : goal.overflow_mul-rows
 overflow_mul-rows c =
-    let most : length c.args.rows.now * (c.loop-left.chunk - 1) ≤ VM_NUMBERS * 65536 =
-    mul-le (length c.args.rows.now) (c.loop-left.chunk - 1) VM_NUMBERS 65536 (rows_few c.args.rows.now c.requires.rows) (omega (arith, c.loop-left.invariant.most)) in
+    let most : length c.args.rows.now * (c.loop-left.chunk - 1) ≤ VM_NUMBERS * MAX_PAGES =
+    mul-le (length c.args.rows.now) (c.loop-left.chunk - 1) VM_NUMBERS MAX_PAGES (rows_few c.args.rows.now c.requires.rows) (omega (arith, c.loop-left.invariant.most)) in
     omega arith
 
 pub next_payer-requires-clause-count : goal.next_payer-requires-clause-count

@@ -7,8 +7,8 @@ use Rattle.esx_journal.proofs.row.drop_by_links.Given as goal
 
 abbrev pub invariant-walk : goal.invariant-walk
 invariant-walk l = record {
-  inside : l.at < length l.rows.items;
-  size : length l.rows.items ≡ length l.initial.rows.items;
-  linked : AreLinked l.rows.items;
-  walks : (nodes : List Node) → AreNodes l.initial.rows.items nodes → Walking l.initial.rows.items l.rows.items nodes l.node l.at l.gone;
+  inside : l.at < length l.rows;
+  size : length l.rows ≡ length l.initial.rows;
+  linked : AreLinked l.rows;
+  walks : (nodes : List Node) → AreNodes l.initial.rows nodes → Walking l.initial.rows l.rows nodes l.node l.at l.gone;
 }

@@ -1,9 +1,9 @@
 use Rattle.std.proofs.Common.{rules, ◌≡◌, ◌<◌, ◌≤◌, ◌+◌, ◌^◌, ◌∙◌, sym, ap, subst, arith, ℕ, List, length, slice_index_or, true}
 use Rattle.esx_model.specs.Tree.{Node}
-use Rattle.esx_journal.specs.declared.row.Row.{Row}
+use Rattle.esx_journal.specs.Rows.{Row}
 use Rattle.esx_journal.specs.Row.{AreNodes, Lost, Drops, emptied, lost_parent}
 use Rattle.esx_journal.specs.Children.{AreLinked, has_record, no_row}
-use Rattle.esx_journal.proofs.Lists.{set_length, any_default}
+use Rattle.esx_journal.proofs.Lists.{set_length}
 use Rattle.esx_journal.proofs.Losing.{one_if, emptied_at, linked_emptied, lost_most, parent_inside}
 use Rattle.esx_journal.proofs.ByNumbers.{Passing, pass_first, pass_skip, pass_one, pass_ends, linked_ends}
 use Rattle.esx_journal.proofs.row.drop_by_numbers.Goals as goal
@@ -11,7 +11,7 @@ use Rattle.esx_journal.proofs.row.drop_by_numbers.Goals.{then-has_lost_parent, e
 
 pub pass-init : goal.pass-init
 pass-init c =
-    let old : List Row = c.args.rows.now.items in
+    let old : List Row = c.args.rows.now in
     let node : ℕ = c.args.node in
     let inside = c.requires.inside in
     let count : c.drop_record-gone.result ≡ one_if (has_record old node) = c.drop_record-gone.ensures.count in
@@ -26,33 +26,31 @@ pass-init c =
     }
 
 pub has_lost_parent-requires-clause-parent : goal.has_lost_parent-requires-clause-parent
-has_lost_parent-requires-clause-parent c = λ d.
-    let now : List Row = c.pass.rows.items in
-    let P : List Row → Type 0 = λ rows. (slice_index_or rows c.pass.at d).parent < length rows in
+has_lost_parent-requires-clause-parent c =
+    let now : List Row = c.pass.rows in
     let t = c.pass-test.true in
     let l = c.len-at-end.ensures in
     let s = c.pass.invariant.size in
     let e = ap length c.drop_record-gone.ensures.rows in
-    let k = set_length c.args.rows.now.items c.args.node (emptied (slice_index_or c.args.rows.now.items c.args.node no_row)) in
+    let k = set_length c.args.rows.now c.args.node (emptied (slice_index_or c.args.rows.now c.args.node no_row)) in
     let inside : c.pass.at < length now = omega arith in
     let part = c.requires.part in
     let up = parent_inside part.0 now part.1 c.args.node (part.2 + c.pass.gone) c.pass.at part.3 (c.pass.invariant.passes part.0 part.1 part.2 part.3 part.4).lost inside in
-    let same = ap (λ (r : Row). r.parent) (any_default now c.pass.at d no_row inside) in
-    subst P (sym c.deref.ensures.value) (omega arith)
+    omega arith
 
 pub overflow_add-gone : goal.overflow_add-gone
 overflow_add-gone c =
-    let now : List Row = c.pass.rows.items in
+    let now : List Row = c.pass.rows in
     let part = c.requires.part in
     let old : List Row = part.0 in
     let nodes : List Node = part.1 in
     let gone : ℕ = part.2 in
     let passing = c.pass.invariant.passes old nodes gone part.3 part.4 in
-    let tells : lost_parent now c.pass.at no_row ≡ true = sym (c.has_lost_parent.ensures no_row ∙ ap (λ rows. lost_parent rows c.pass.at no_row) c.deref.ensures.value) ∙ c.if-has_lost_parent.true in
+    let tells : lost_parent now c.pass.at no_row ≡ true = sym c.has_lost_parent.ensures ∙ c.if-has_lost_parent.true in
     let t = c.pass-test.true in
     let l = c.len-at-end.ensures in
     let e = ap length c.drop_record-gone.ensures.rows in
-    let k = set_length c.args.rows.now.items c.args.node (emptied (slice_index_or c.args.rows.now.items c.args.node no_row)) in
+    let k = set_length c.args.rows.now c.args.node (emptied (slice_index_or c.args.rows.now c.args.node no_row)) in
     let first = part.4.size in
     let size = part.3.size in
     let next = pass_one old now nodes c.args.node c.pass.at (gone + c.pass.gone) part.3 passing c.pass.invariant.later (omega arith) tells in
@@ -64,8 +62,8 @@ overflow_add-gone c =
 
 pub pass-preserved : goal.pass-preserved
 pass-preserved c =
-    let start : List Row = c.args.rows.now.items in
-    let now : List Row = c.pass.rows.items in
+    let start : List Row = c.args.rows.now in
+    let now : List Row = c.pass.rows in
     let at : ℕ = c.pass.at in
     let node : ℕ = c.args.node in
     let later = c.pass.invariant.later in
@@ -75,7 +73,7 @@ pass-preserved c =
     let k = set_length start node (emptied (slice_index_or start node no_row)) in
     let size = c.pass.invariant.size in
     let inside : at < length now = omega arith in
-    let told : c.has_lost_parent.result ≡ lost_parent now at no_row = c.has_lost_parent.ensures no_row ∙ ap (λ rows. lost_parent rows at no_row) c.deref.ensures.value in
+    let told : c.has_lost_parent.result ≡ lost_parent now at no_row = c.has_lost_parent.ensures in
     let Is : List Row → ℕ → Type 0 = λ rows gone. record {
       later : node < at + 1;
       size : length rows ≡ length start;
@@ -85,7 +83,7 @@ pass-preserved c =
     elim c.if-has_lost_parent.branch [
       | then-has_lost_parent w ↦ (
           let count : w.drop_record-gone-then-has_lost_parent.result ≡ one_if (has_record now at) = w.drop_record-gone-then-has_lost_parent.ensures.count in
-          let rows = ap (λ r. r.items) w.rows-is ∙ w.drop_record-gone-then-has_lost_parent.ensures.rows in
+          let rows = w.rows-is ∙ w.drop_record-gone-then-has_lost_parent.ensures.rows in
           let is : Is (emptied_at now at) (c.pass.gone + one_if (has_record now at)) = record {
             later = omega arith;
             size = set_length now at (emptied (slice_index_or now at no_row)) ∙ size;
@@ -97,7 +95,7 @@ pass-preserved c =
                 subst (λ (g : ℕ). Passing old (emptied_at now at) nodes node (at + 1) g) sum
                 (pass_one old now nodes node at (before + c.pass.gone) a (c.pass.invariant.passes old nodes before a lost) later (omega arith) (sym told ∙ w.if-has_lost_parent.true)));
           } in
-          subst (λ (g : ℕ). Is c.if-has_lost_parent.rows.items g) (sym (w.gone-is ∙ ap (λ g. c.pass.gone + g) count)) (subst (λ (r : List Row). Is r (c.pass.gone + one_if (has_record now at))) (sym rows) is))
+          subst (λ (g : ℕ). Is c.if-has_lost_parent.rows g) (sym (w.gone-is ∙ ap (λ g. c.pass.gone + g) count)) (subst (λ (r : List Row). Is r (c.pass.gone + one_if (has_record now at))) (sym rows) is))
       | else-has_lost_parent w ↦ (
           let is : Is now c.pass.gone = record {
             later = omega arith;
@@ -106,16 +104,16 @@ pass-preserved c =
             passes = λ old nodes before a lost. (let first = lost.size in let many = a.size in
                 pass_skip old now nodes node at (before + c.pass.gone) a (c.pass.invariant.passes old nodes before a lost) later (omega arith) (sym told ∙ w.if-has_lost_parent.false));
           } in
-          subst (λ (g : ℕ). Is c.if-has_lost_parent.rows.items g) (sym w.gone-is) (subst (λ (r : List Row). Is r c.pass.gone) (sym (ap (λ r. r.items) w.rows-is)) is))
+          subst (λ (g : ℕ). Is c.if-has_lost_parent.rows g) (sym w.gone-is) (subst (λ (r : List Row). Is r c.pass.gone) (sym w.rows-is) is))
     ]
 
 pub returns-clause-drops : goal.returns-clause-drops
 returns-clause-drops c = λ old nodes gone a lost.
-    let now : List Row = c.pass.rows.items in
+    let now : List Row = c.pass.rows in
     let t = c.pass-test.false in
     let l = c.len-at-end.ensures in
     let e = ap length c.drop_record-gone.ensures.rows in
-    let k = set_length c.args.rows.now.items c.args.node (emptied (slice_index_or c.args.rows.now.items c.args.node no_row)) in
+    let k = set_length c.args.rows.now c.args.node (emptied (slice_index_or c.args.rows.now c.args.node no_row)) in
     let inside = c.requires.inside in
     let first = lost.size in
     let size = a.size in
@@ -124,12 +122,12 @@ returns-clause-drops c = λ old nodes gone a lost.
 
 pub returns-clause-linked : goal.returns-clause-linked
 returns-clause-linked c =
-    let now : List Row = c.pass.rows.items in
+    let now : List Row = c.pass.rows in
     let part = c.requires.part in
     let t = c.pass-test.false in
     let l = c.len-at-end.ensures in
     let e = ap length c.drop_record-gone.ensures.rows in
-    let k = set_length c.args.rows.now.items c.args.node (emptied (slice_index_or c.args.rows.now.items c.args.node no_row)) in
+    let k = set_length c.args.rows.now c.args.node (emptied (slice_index_or c.args.rows.now c.args.node no_row)) in
     let inside = c.requires.inside in
     let first = part.4.size in
     let size = part.3.size in

@@ -1,6 +1,7 @@
-use Rattle.std.proofs.Common.{rules, ℕ, ◌^◌, ◌≡◌, ◌<◌, ◌≢◌, ◌++◌, ◌∷◌, [], drop, length, ◌∙◌, sym, ap, subst, arith, List, ◌+◌, suc, Ok, Err, is_ok, if◌then◌else◌}
+use Rattle.std.proofs.Common.{rules, ℕ, ◌≡◌, ◌<◌, ◌≢◌, ◌++◌, ◌∷◌, [], drop, length, ◌∙◌, sym, ap, subst, arith, List, ◌+◌, suc, Ok, Err, is_ok, if◌then◌else◌}
 use Rattle.std.proofs.Math.Seq.{drop-cons}
 use Rattle.esx_types.specs.declared.config.Config.{Config}
+use Rattle.esx_types.specs.declared.config.TheConstants.{MAX_NODES}
 use Rattle.esx_events.specs.declared.event.Event.{Event}
 use Rattle.esx_events.specs.declared.event.Refusal.TheVariants.{OutOfMemory}
 use Rattle.esx_model.specs.Readings.{sum_of}
@@ -24,7 +25,7 @@ apply-requires t c =
     let s = c.requires.shows in
     let within = c.requires.within in
     let few = c.requires.few in
-    record { rise = can_rise c.args.machine.now s.0 (2 ^ 24 + c.args.at) s.1 s.2 (omega arith) }
+    record { rise = can_rise c.args.machine.now s.0 (MAX_NODES + c.args.at) s.1 s.2 (omega arith) }
 
 pub try_events-after-requires : goal.try_events-after-requires
 try_events-after-requires t c =
@@ -32,9 +33,9 @@ try_events-after-requires t c =
     let x = c.in-Ok.ensures.event s.0 s.1 in
     let within = c.requires.within in
     let f = c.if-at-events.false in
-    let next : (2 ^ 24 + c.args.at) + 1 ≡ 2 ^ 24 + (c.args.at + 1) = omega arith in
+    let next : (MAX_NODES + c.args.at) + 1 ≡ MAX_NODES + (c.args.at + 1) = omega arith in
     let P : ℕ → Type 0 = λ k. AreEpochsWithin k x.after.site in
-    let epochs = subst P next (event_within c.args.machine.now.config (2 ^ 24 + c.args.at) s.0 c.index-events-at.result (c.in-Ok.answer, x.after) s.2 x.gives) in
+    let epochs = subst P next (event_within c.args.machine.now.config (MAX_NODES + c.args.at) s.0 c.index-events-at.result (c.in-Ok.answer, x.after) s.2 x.gives) in
     (search rules, (omega arith, (c.requires.few, (x.after, x.shows, epochs))))
 
 pub returns-in-Ok-clause-same : goal.returns-in-Ok-clause-same

@@ -1,15 +1,15 @@
 use Rattle.std.proofs.Common.{refl}
-use Rattle.esx_program.proofs.DoingLemmas.{run_ends}
 use Rattle.esx_program.proofs.commands.run_file.Goals as goal
+use Rattle.esx_program.proofs.commands.run_file.Goals.{in-Ok-ended, in-Err-ended}
 
-pub returns-in-Ok : goal.returns-in-Ok
-returns-in-Ok g c =
-    let here = c.in-Ok.ensures in (
-      here.0,
-      here.1,
-      rw c.ran_as-ended.ensures
-          (run_ends here.0 c.in-Ok.scenario _ _ _ _ c.run_to-ran.result.ended here.2 c.run_to-ran.ensures.ok c.run_to-ran.ensures.fault),
-    )
+pub returns-in-Err-clause-ran : goal.returns-in-Err-clause-ran
+returns-in-Err-clause-ran g c = let none = c.in-Err.ensures in (none.0, none.1, (none.3, refl, refl))
 
-pub returns-in-Err : goal.returns-in-Err
-returns-in-Err g c = let none = c.in-Err.ensures in (none.0, none.1, (none.3, refl, refl))
+pub returns-clause-ran : goal.returns-clause-ran
+returns-clause-ran g c =
+    let here = c.in-Ok.ensures in
+    let e = c.run_to-ran.ensures in
+    elim c.match-ran.branch [
+      | in-Ok-ended w ↦ rw w.ended-is (here.0, here.1, (c.in-Ok.scenario, here.2, rw w.in-Ok-ended.is at e.ok))
+      | in-Err-ended w ↦ rw w.ended-is (here.0, here.1, (c.in-Ok.scenario, here.2, rw w.in-Err-ended.is at e.fault))
+    ]

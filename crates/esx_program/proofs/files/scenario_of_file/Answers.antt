@@ -1,6 +1,6 @@
 use Rattle.std.proofs.Common.{◌∙◌, ap, Ok, Err, refl}
+use Rattle.esx_text.specs.States.{source_state}
 use Rattle.esx_program.specs.Given.{open_fault}
-use Rattle.esx_program.specs.States.{source_state}
 use Rattle.esx_program.proofs.files.scenario_of_file.Goals as goal
 
 pub returns-in-Ok : goal.returns-in-Ok

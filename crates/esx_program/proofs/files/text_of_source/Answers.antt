@@ -1,6 +1,6 @@
 use Rattle.std.specs.Prelude.{string_bytes}
 use Rattle.std.proofs.lemmas.Str.{IsUtf8-string_bytes}
-use Rattle.esx_program.specs.States.{source_state}
+use Rattle.esx_text.specs.States.{source_state}
 use Rattle.esx_program.proofs.FileLemmas.{is_text, no_text}
 use Rattle.esx_program.proofs.files.text_of_source.Goals as goal
 

@@ -1,4 +1,4 @@
-use Rattle.esx_program.specs.States.{sink_state}
+use Rattle.esx_text.specs.States.{sink_state}
 use Rattle.esx_program.proofs.RunLemmas.{nothing_told, plays, stops}
 use Rattle.esx_program.proofs.running.run_to.Goals as goal
 

@@ -1,8 +1,8 @@
 use Rattle.std.proofs.Common.{List, flat_map, subst}
 use Rattle.esx_writing.specs.Writing.{Writes}
+use Rattle.esx_text.specs.States.{sink_state}
 use Rattle.esx_program.specs.declared.ends.Ending.{Ending}
 use Rattle.esx_program.specs.Ends.{ending_text}
-use Rattle.esx_program.specs.States.{sink_state}
 use Rattle.esx_program.proofs.RunLemmas.{session_told_ok, session_told_err}
 use Rattle.esx_program.proofs.running.tell.Goals as goal
 

@@ -1,14 +1,15 @@
-use Rattle.std.proofs.Common.{◌++◌, ◌+◌, ◌<◌, ◌≤◌, ◌^◌, arith, inr, length, length-append, length-take, take}
+use Rattle.std.proofs.Common.{◌++◌, ◌+◌, ◌<◌, ◌≤◌, arith, inr, length, length-append, length-take, take}
 use Rattle.std.proofs.KnownBytes.{Consumes-trans}
+use Rattle.esx_reading.specs.declared.whole.TheConstants.{CHUNK, MAX_FILE}
 use Rattle.esx_reading.proofs.whole.read_through.Goals as goal
 
 pub returns-then-given-len-clause-read : goal.returns-then-given-len-clause-read
 returns-then-given-len-clause-read g c =
     let front = take c.in-Ok.given c.read.new.buffer in
     let all = c.loop.bytes.items ++ front in
-    let long : 2 ^ 26 < length all =
+    let long : MAX_FILE < length all =
     omega (arith, length-append c.loop.bytes.items front, length-take c.in-Ok.given c.read.new.buffer, c.in-Ok.ensures.bound, c.if-given-len.true, c.len.ensures, c.loop.invariant.few) in
-    let no_longer : length all ≤ 2 ^ 26 + 65536 =
+    let no_longer : length all ≤ MAX_FILE + CHUNK =
     omega (arith, length-append c.loop.bytes.items front, length-take c.in-Ok.given c.read.new.buffer, c.in-Ok.ensures.bound, c.requires, c.loop.invariant.few) in
     λ _. inr (
       omega (arith, c.in-Ok.ensures.failures, c.loop.invariant.failures),

@@ -1,19 +1,16 @@
-use Rattle.std.proofs.Common.{◌<◌, ◌+◌, ◌*◌, ◌∷◌, [], arith, refl, length, length-append, ap, ◌∙◌, get_or}
+use Rattle.std.proofs.Common.{◌<◌, ◌+◌, ◌*◌, ◌∷◌, [], arith, length, length-append, ap, ◌∙◌, get_or}
 use Rattle.esx_reading.proofs.HexField.{nothing_read, digits_more, bytes_more, no_pair}
 use Rattle.esx_reading.proofs.written.bytes_of.Goals as goal
 
 pub loop-at-init : goal.loop-at-init
 loop-at-init c =
-    let none = nothing_read c.in-Ok.bytes.items c.in-Ok.ensures.items in
-    record { bytes = none.0; read = none.1; len = ap length c.in-Ok.ensures.items; room = c.in-Ok.ensures.exact }
+    let none = nothing_read c.in_ok-bytes.bytes.items c.in_ok-bytes.ensures.items in
+    record { bytes = none.0; read = none.1; len = ap length c.in_ok-bytes.ensures.items; room = c.in_ok-bytes.ensures.exact }
 
-pub returns-in_default-byte_of-clause-only : goal.returns-in_default-byte_of-clause-only
-returns-in_default-byte_of-clause-only c = (
-  refl,
-  λ bytes are e.
-      let within : 2 * c.loop-at.at + 1 < length c.args.digits.now = omega (arith, c.loop-at-test.true) in
-      c.in_default-byte_of.ensures.none (get_or bytes c.loop-at.at 0) (are c.loop-at.at) (no_pair c.args.digits.now bytes c.loop-at.at e within),
-)
+pub returns-in_default-clause-only : goal.returns-in_default-clause-only
+returns-in_default-clause-only c = λ bytes are e.
+    let within : 2 * c.loop-at.at + 1 < length c.args.digits.now = omega (arith, c.loop-at-test.true) in
+    c.in_default.ensures.none (get_or bytes c.loop-at.at 0) (are c.loop-at.at) (no_pair c.args.digits.now bytes c.loop-at.at e within)
 
 pub loop-at-preserved : goal.loop-at-preserved
 loop-at-preserved c =

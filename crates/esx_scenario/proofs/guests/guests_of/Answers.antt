@@ -1,5 +1,6 @@
 use Rattle.std.proofs.Common.{◌≡◌, false, ap, sym, ◌∙◌, nat_le, refl, arith}
 use Rattle.std.specs.Prelude.{◌&&◌}
+use Rattle.esx_types.specs.declared.config.TheConstants.{VM_NUMBERS}
 use Rattle.esx_scenario.specs.Guests.{are_tables, count_items}
 use Rattle.toml.specs.View.{items_view}
 use Rattle.esx_scenario.proofs.guests.guests_of.Goals.{then-len-gt-MOST_GUESTS-via-then-len-gt-MOST_GUESTS, then-len-gt-MOST_GUESTS-via-else-len-gt-MOST_GUESTS+then-not-all_tables}
@@ -15,7 +16,7 @@ returns-in_default-as_array-clause-exact c = gives_err _ _ _ (guests_other _ _ _
 pub returns-then-len-gt-MOST_GUESTS-clause-exact : goal.returns-then-len-gt-MOST_GUESTS-clause-exact
 returns-then-len-gt-MOST_GUESTS-clause-exact c =
     let count = count_is c.in-Some-as_array.values.now.items in
-    let unfit : (nat_le (count_items (items_view c.in-Some-as_array.values.now.items)) 32 && are_tables (items_view c.in-Some-as_array.values.now.items)) ≡ false = elim c.then-len-gt-MOST_GUESTS.branch [
+    let unfit : (nat_le (count_items (items_view c.in-Some-as_array.values.now.items)) VM_NUMBERS && are_tables (items_view c.in-Some-as_array.values.now.items)) ≡ false = elim c.then-len-gt-MOST_GUESTS.branch [
       | then-len-gt-MOST_GUESTS-via-then-len-gt-MOST_GUESTS w ↦ many (items_view c.in-Some-as_array.values.now.items) (are_tables (items_view c.in-Some-as_array.values.now.items)) (omega (arith, count, c.len.ensures, w.if-len-gt-MOST_GUESTS.true))
       | then-len-gt-MOST_GUESTS-via-else-len-gt-MOST_GUESTS+then-not-all_tables w ↦ strays _ _ (ap (λ l. are_tables (items_view l)) (sym w.as_slice.ensures.value) ∙ sym w.all_tables.ensures ∙ w.if-not-all_tables.true)
     ] in

@@ -1,5 +1,5 @@
 use Rattle.std.proofs.Common.{sym, ◌∙◌, arith}
-use Rattle.esx_words.proofs.OperandLemmas.{on_err}
+use Rattle.esx_reading.proofs.Results.{on_err}
 use Rattle.esx_words.proofs.ReadingLemmas.{left_of, last_event, range_more, triable_more}
 use Rattle.esx_words.proofs.MemoryLemmas.{memory_behind, no_room}
 use Rattle.esx_words.proofs.listed.events_of.Goals as goal

@@ -1,6 +1,6 @@
 use Rattle.std.proofs.Common.{inr}
 use Rattle.esx_words.proofs.MemoryLemmas.{begins_with}
-use Rattle.esx_words.proofs.OperandLemmas.{on_err}
+use Rattle.esx_reading.proofs.Results.{on_err}
 use Rattle.esx_words.proofs.listed.first_event.Goals as goal
 
 pub returns-in_err-event-clause-memory : goal.returns-in_err-event-clause-memory

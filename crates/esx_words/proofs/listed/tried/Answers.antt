@@ -1,7 +1,7 @@
 use Rattle.std.proofs.Common.{sym, ap, ◌∙◌}
 use Rattle.esx_reading.specs.Fields.{fields, joined}
 use Rattle.esx_reading.proofs.FieldLemmas.{joined_of_fields}
-use Rattle.esx_words.proofs.OperandLemmas.{on_err}
+use Rattle.esx_reading.proofs.Results.{on_err}
 use Rattle.esx_words.proofs.ListedLemmas.{some_words, fields_of_list}
 use Rattle.esx_words.proofs.listed.tried.Goals as goal
 

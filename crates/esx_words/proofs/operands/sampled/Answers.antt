@@ -1,6 +1,6 @@
 use Rattle.std.proofs.Common.{rules}
 use Rattle.esx_words.proofs.MemoryLemmas.{numbers_read}
-use Rattle.esx_words.proofs.OperandLemmas.{on_err}
+use Rattle.esx_reading.proofs.Results.{on_err}
 use Rattle.esx_words.proofs.operands.sampled.Goals as goal
 
 pub returns-in_err-words-2-clause-memory : goal.returns-in_err-words-2-clause-memory

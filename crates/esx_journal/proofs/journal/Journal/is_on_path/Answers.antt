@@ -1,7 +1,7 @@
 use Rattle.std.proofs.Common.{◌≡◌, ◌≤◌, ◌||◌, ◌==◌, ◌∙◌, sym, ap, subst, arith, length, List}
 use Rattle.esx_model.specs.Tree.{Move, parent, on_way}
 use Rattle.esx_model.specs.History.{History}
-use Rattle.esx_journal.specs.declared.row.Row.{Row}
+use Rattle.esx_journal.specs.Children.{no_row}
 use Rattle.esx_journal.specs.Journal.{Kept, Aims}
 use Rattle.esx_journal.proofs.Paths.{parent_below, way_same}
 use Rattle.esx_journal.proofs.Steps.{cursor_fits}
@@ -26,7 +26,7 @@ climb-smaller c =
     let t = c.climb-test.true in
     let within = c.climb.invariant.within in
     let fits : c.climb.at ≤ length k.history.nodes = omega arith in
-    let up = ap (λ (r : Row). r.parent) c.index.ensures ∙ (k.holds.each c.climb.at c.index.result.now fits).up in
+    let up = c.parent-at.ensures ∙ (k.holds.each c.climb.at no_row fits).up in
     let less = parent_below k.history.nodes c.climb.at k.holds.tree (omega arith) fits in
     omega arith
 
@@ -38,7 +38,7 @@ climb-preserved c =
     let t = c.climb-test.true in
     let within = c.climb.invariant.within in
     let fits : c.climb.at ≤ length k.history.nodes = omega arith in
-    let up = ap (λ (r : Row). r.parent) c.index.ensures ∙ (k.holds.each c.climb.at c.index.result.now fits).up in
+    let up = c.parent-at.ensures ∙ (k.holds.each c.climb.at no_row fits).up in
     let less = parent_below k.history.nodes c.climb.at k.holds.tree (omega arith) fits in
     let P : History → List Move → Kept → Type 0 = λ h aim x. Aims x h aim in
     record {
@@ -47,7 +47,7 @@ climb-preserved c =
           let was = subst (P h aim) (sym c.self.view_is) holds in
           let z = was.size in
           let inside : c.climb.at ≤ length h.nodes = omega arith in
-          let goes : c.index.result.now.parent ≡ parent h.nodes c.climb.at = ap (λ (r : Row). r.parent) c.index.ensures ∙ (was.each c.climb.at c.index.result.now inside).up in
+          let goes : c.parent-at.result ≡ parent h.nodes c.climb.at = c.parent-at.ensures ∙ (was.each c.climb.at no_row inside).up in
           c.climb.invariant.same h aim holds ∙ way_same h.nodes c.climb.at c.args.node was.tree (omega arith) inside (λ e. omega arith) ∙ ap (λ n. on_way h.nodes n c.args.node) (sym goes));
     }
 

@@ -22,7 +22,7 @@ returns-then-is_some c = λ h holds.
 
 pub returns-in_err-add : goal.returns-in_err-add
 returns-in_err-add c =
-    let old : Kept = record { machine = c.self.inside.machine; rows = c.self.inside.rows.items; cursor = c.self.inside.cursor; depth = c.self.inside.depth; nodes = c.self.inside.nodes; marks = c.self.inside.marks } in
+    let old : Kept = record { machine = c.self.inside.machine; rows = c.self.inside.rows; cursor = c.self.inside.cursor; depth = c.self.inside.depth; nodes = c.self.inside.nodes; marks = c.self.inside.marks } in
     let new : Kept = record old { marks = c.add.new.self } in
     let same : new ≡ c.args.self.now = ap (λ (m : List NameRow). record old { marks = m }) c.in_err-add.ensures.err ∙ c.self.view_is in
     λ h holds. (
@@ -39,7 +39,7 @@ invariant_of-self-2 c =
 
 pub returns : goal.returns
 returns c =
-    let old : Kept = record { machine = c.self.inside.machine; rows = c.self.inside.rows.items; cursor = c.self.inside.cursor; depth = c.self.inside.depth; nodes = c.self.inside.nodes; marks = c.self.inside.marks } in
+    let old : Kept = record { machine = c.self.inside.machine; rows = c.self.inside.rows; cursor = c.self.inside.cursor; depth = c.self.inside.depth; nodes = c.self.inside.nodes; marks = c.self.inside.marks } in
     let P : History → Kept → Type 0 = λ h x. Holds x h in
     λ h holds. (
     let was : Holds old h = subst (P h) (sym c.self.view_is) holds in

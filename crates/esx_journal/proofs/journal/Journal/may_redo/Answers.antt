@@ -1,7 +1,6 @@
-use Rattle.std.proofs.Common.{◌≡◌, ◌∙◌, Some, sym, ap, subst, arith, ◌+◌, length, List, is_some}
+use Rattle.std.proofs.Common.{◌≡◌, Some, sym, ap, subst, arith, ◌+◌, length, is_some}
 use Rattle.esx_model.specs.History.{History}
-use Rattle.esx_journal.specs.declared.row.Row.{Row}
-use Rattle.esx_journal.specs.Row.{LastsFit, child_at}
+use Rattle.esx_journal.specs.Row.{child_at}
 use Rattle.esx_journal.specs.Journal.{Kept, Holds}
 use Rattle.esx_journal.proofs.Steps.{cursor_fits}
 use Rattle.esx_journal.specs.Children.{no_row}
@@ -23,26 +22,25 @@ child_of-requires-clause-inside c =
     let k = c.self.invariant in
     let v = ap (λ (x : Kept). length x.rows) c.self.view_is in
     let f = c.look.invariant.within in
-    let e = ap length c.deref.ensures.value in
     omega arith
 
 pub child_of-requires-clause-fits : goal.child_of-requires-clause-fits
-child_of-requires-clause-fits c = (let P : List Row → Type 0 = LastsFit in subst P (sym c.deref.ensures.value) (lasts_fit _ c.self.invariant.history c.self.invariant.aim c.self.invariant.holds))
+child_of-requires-clause-fits c = lasts_fit _ c.self.invariant.history c.self.invariant.aim c.self.invariant.holds
 
 pub returns-in-None : goal.returns-in-None
 returns-in-None c =
-    let old : Kept = record { machine = c.self.inside.machine; rows = c.self.inside.rows.items; cursor = c.self.inside.cursor; depth = c.self.inside.depth; nodes = c.self.inside.nodes; marks = c.self.inside.marks } in
+    let old : Kept = record { machine = c.self.inside.machine; rows = c.self.inside.rows; cursor = c.self.inside.cursor; depth = c.self.inside.depth; nodes = c.self.inside.nodes; marks = c.self.inside.marks } in
     let P : History → Kept → Type 0 = λ m k. Holds k m in
     λ m h. (let e = looks_end old m c.look._gone c.look.at no_row (subst (P m) (sym c.self.view_is) h) (c.look.invariant.looks m h)
-    (sym (c.in-None.ensures no_row ∙ ap (λ rows. child_at rows c.look.at no_row) c.deref.ensures.value)) in
+    (sym c.in-None.ensures) in
     ap is_some (sym (redone_stops m (c.look._gone + 1) c.args.count (omega arith) e)))
 
 pub look-preserved : goal.look-preserved
 look-preserved c =
     let k = c.self.invariant in
-    let old : Kept = record { machine = c.self.inside.machine; rows = c.self.inside.rows.items; cursor = c.self.inside.cursor; depth = c.self.inside.depth; nodes = c.self.inside.nodes; marks = c.self.inside.marks } in
+    let old : Kept = record { machine = c.self.inside.machine; rows = c.self.inside.rows; cursor = c.self.inside.cursor; depth = c.self.inside.depth; nodes = c.self.inside.nodes; marks = c.self.inside.marks } in
     let P : History → Kept → Type 0 = λ m k. Holds k m in
-    let next : child_at old.rows c.look.at no_row ≡ Some c.in-Some.next = sym (c.in-Some.ensures no_row ∙ ap (λ rows. child_at rows c.look.at no_row) c.deref.ensures.value) in
+    let next : child_at old.rows c.look.at no_row ≡ Some c.in-Some.next = sym c.in-Some.ensures in
     let v = ap (λ (x : Kept). length x.rows) c.self.view_is in
     let w = c.look.invariant.within in
     let f = child_within old k.history k.aim c.look.at c.in-Some.next no_row k.holds (omega arith) next in

@@ -1,7 +1,6 @@
-use Rattle.std.proofs.Common.{rules, arith, refl, sym, ap, subst, ◌∙◌, List, [], ◌∷◌, ◌++◌}
+use Rattle.std.proofs.Common.{arith, refl, sym, subst, []}
 use Rattle.esx_model.specs.History.{opened}
-use Rattle.esx_journal.specs.declared.row.Row.{Row}
-use Rattle.esx_journal.specs.Children.{AreLinked, no_row}
+use Rattle.esx_journal.specs.Children.{AreLinked}
 use Rattle.esx_journal.proofs.Linking.{linked_opening}
 use Rattle.esx_journal.proofs.Grows.{opens_with}
 use Rattle.esx_journal.proofs.journal.Journal.open.Goals as goal
@@ -10,11 +9,11 @@ pub invariant_of-result : goal.invariant_of-result
 invariant_of-result c = record {
   history = opened c.args.config;
   aim = [];
-  holds = opens_with _ c.args.config c.in_ok-machine.ensures.shows.0 c.in_ok-machine.ensures.shows.1 (search rules) refl refl refl c.new.ensures;
+  holds = opens_with _ c.args.config c.in_ok-machine.ensures.shows.0 c.in_ok-machine.ensures.shows.1 c.in_ok-rows.ensures refl refl refl c.new.ensures;
   fits = omega arith;
   limit = (let most = c.in_ok-machine.ensures.checked.most_nodes in omega arith);
-  linked = subst AreLinked (sym (c.in_ok-push.ensures.items ∙ ap (λ (rows : List Row). rows ++ no_row ∷ []) c.new-rows.ensures.items)) linked_opening;
+  linked = subst AreLinked (sym c.in_ok-rows.ensures) linked_opening;
 }
 
 pub returns-clause-opens : goal.returns-clause-opens
-returns-clause-opens c = opens_with _ c.args.config c.in_ok-machine.ensures.shows.0 c.in_ok-machine.ensures.shows.1 (search rules) refl refl refl c.new.ensures
+returns-clause-opens c = opens_with _ c.args.config c.in_ok-machine.ensures.shows.0 c.in_ok-machine.ensures.shows.1 c.in_ok-rows.ensures refl refl refl c.new.ensures

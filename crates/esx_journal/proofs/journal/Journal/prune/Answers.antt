@@ -27,7 +27,7 @@ invariant_of-self c =
     record {
       history = without c.args.node k.history;
       aim = k.aim;
-      holds = pruned _ c.drop_below.new.rows.items k.history k.aim c.args.node c.drop_below.result k.holds drops off.1 (omega arith);
+      holds = pruned _ c.drop_below.new.rows k.history k.aim c.args.node c.drop_below.result k.holds drops off.1 (omega arith);
       fits = (let l = dropped_length c.args.node k.history.nodes in let f = k.fits in omega arith);
       limit = k.limit;
       linked = c.drop_below.ensures.linked;
@@ -35,7 +35,7 @@ invariant_of-self c =
 
 pub returns : goal.returns
 returns c =
-    let old : Kept = record { machine = c.self.inside.machine; rows = c.self.inside.rows.items; cursor = c.self.inside.cursor; depth = c.self.inside.depth; nodes = c.self.inside.nodes; marks = c.self.inside.marks } in
+    let old : Kept = record { machine = c.self.inside.machine; rows = c.self.inside.rows; cursor = c.self.inside.cursor; depth = c.self.inside.depth; nodes = c.self.inside.nodes; marks = c.self.inside.marks } in
     let P : History → Kept → Type 0 = λ h x. Holds x h in
     let within = c.stands.ensures.within c.if-not-stands.false in
     let v = ap (λ (x : Kept). length x.rows) c.self.view_is in
@@ -48,5 +48,5 @@ returns c =
     record {
       after = without c.args.node h;
       gives = prune_done c.args.node h (sym (c.stands.ensures.told h h.walk holds) ∙ c.if-not-stands.false) on ∙ ap (λ (n : ℕ). Ok (n, without c.args.node h)) (sym drops.count);
-      holds = pruned old c.drop_below.new.rows.items h h.walk c.args.node c.drop_below.result was drops off.1 (omega arith);
+      holds = pruned old c.drop_below.new.rows h h.walk c.args.node c.drop_below.result was drops off.1 (omega arith);
     })

@@ -1,4 +1,5 @@
-use Rattle.std.proofs.Common.{◌≡◌, ◌∙◌, ◌+◌, ◌^◌, sym, ap, subst, arith, ◌++◌, length}
+use Rattle.std.proofs.Common.{◌≡◌, ◌∙◌, ◌+◌, sym, ap, subst, arith, ◌++◌, length}
+use Rattle.esx_types.specs.declared.config.TheConstants.{MAX_NODES}
 use Rattle.esx_events.specs.declared.call.Sum.{Sum}
 use Rattle.esx_events.specs.declared.call.Sides.{Sides}
 use Rattle.esx_model.specs.declared.scene.Scene.{Scene}
@@ -20,13 +21,13 @@ try_events-requires-clause-shows c =
     let limit = k.limit in (
       scene_at k.history,
       shows_at _ k.history no_row k.holds,
-      later_within (length k.history.nodes) (2 ^ 24 + 0) (scene_at k.history).site (omega arith) (epochs_here _ k.history no_row k.holds),
+      later_within (length k.history.nodes) (MAX_NODES + 0) (scene_at k.history).site (omega arith) (epochs_here _ k.history no_row k.holds),
     )
 
 pub returns-clause-sides : goal.returns-clause-sides
 unfolding what_if kept_after
 returns-clause-sides c =
-    let old : Kept = record { machine = c.self.inside.machine; rows = c.self.inside.rows.items; cursor = c.self.inside.cursor; depth = c.self.inside.depth; nodes = c.self.inside.nodes; marks = c.self.inside.marks } in
+    let old : Kept = record { machine = c.self.inside.machine; rows = c.self.inside.rows; cursor = c.self.inside.cursor; depth = c.self.inside.depth; nodes = c.self.inside.nodes; marks = c.self.inside.marks } in
     let P : History → Kept → Type 0 = λ h x. Holds x h in
     λ h holds. (
     let was : Holds old h = subst (P h) (sym c.self.view_is) holds in

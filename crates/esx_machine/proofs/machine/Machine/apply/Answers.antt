@@ -6,7 +6,7 @@ use Rattle.esx_frames.specs.declared.counts.Counts.{Counts}
 use Rattle.esx_formulas.specs.Level.{next_level}
 use Rattle.esx_model.specs.declared.scene.Scene.{Scene}
 use Rattle.esx_model.specs.Replay.{next}
-use Rattle.esx_machine.specs.Machine.{Kept, Shows, Accepts, Refuses, Exchanges}
+use Rattle.esx_machine.specs.Machine.{Kept, Back, Shows, Accepts, Refuses, Exchanges}
 use Rattle.esx_machine.proofs.Applies.{planned_alike, after, back, accepted, kept_after, refused}
 use Rattle.esx_machine.proofs.machine.Machine.apply.Goals as goal
 
@@ -38,8 +38,9 @@ returns-clause-event c =
     c.next-self-inside.ensures ∙ ap (λ (site : Config). next_level site k.level c.counts-free.result.free) c.of.ensures ∙ ap (λ (n : ℕ). next_level k.config k.level n) free in
     let plan = planned_alike k c.args.self.now c.args.event.now (c.in-Ok.plan.answer, c.in-Ok.plan.changes) (c.self.view_is ∙ c.in-Ok.ensures.same) c.in-Ok.ensures.plans in
     let P : Kept → Type 0 = λ old. (scene : Scene) → Shows old scene → Accepts old (after k t level) c.in-Ok.plan.answer (back k (reverse c.exchange_from.new.back)) (next old.config scene c.args.event.now) in
-    subst P (c.self.view_is ∙ c.in-Ok.ensures.same) (accepted k c.args.event.now c.in-Ok.plan.answer c.in-Ok.plan.changes t (reverse c.exchange_from.new.back) level c.self.invariant
-    (record { named = c.in-Ok.ensures.named; plan = plan; tables = c.exchange_from.ensures.tables; changes = c.exchange_from.ensures.back; follows = follows }))
+    let Q : Back → Type 0 = λ b. (scene : Scene) → Shows c.args.self.now scene → Accepts c.args.self.now (after k t level) c.in-Ok.plan.answer b (next c.args.self.now.config scene c.args.event.now) in
+    subst Q (sym c.leading_back.ensures) (subst P (c.self.view_is ∙ c.in-Ok.ensures.same) (accepted k c.args.event.now c.in-Ok.plan.answer c.in-Ok.plan.changes t (reverse c.exchange_from.new.back) level c.self.invariant
+    (record { named = c.in-Ok.ensures.named; plan = plan; tables = c.exchange_from.ensures.tables; changes = c.exchange_from.ensures.back; follows = follows })))
 
 pub returns-clause-exchanges : goal.returns-clause-exchanges
 returns-clause-exchanges c =
@@ -48,10 +49,11 @@ returns-clause-exchanges c =
     let level = c.next-self-inside.result in
     let plan = planned_alike k c.args.self.now c.args.event.now (c.in-Ok.plan.answer, c.in-Ok.plan.changes) (c.self.view_is ∙ c.in-Ok.ensures.same) c.in-Ok.ensures.plans in
     let P : Kept → Type 0 = λ old. Exchanges old (after k t level) c.args.event.now (back k (reverse c.exchange_from.new.back)) in
-    subst P (c.self.view_is ∙ c.in-Ok.ensures.same) (record {
+    let Q : Back → Type 0 = λ b. Exchanges c.args.self.now (after k t level) c.args.event.now b in
+    subst Q (sym c.leading_back.ensures) (subst P (c.self.view_is ∙ c.in-Ok.ensures.same) (record {
       plan = (c.in-Ok.plan.answer, c.in-Ok.plan.changes);
       planned = plan;
       tables = c.exchange_from.ensures.tables;
       level = refl;
       changes = c.exchange_from.ensures.back;
-    })
+    }))

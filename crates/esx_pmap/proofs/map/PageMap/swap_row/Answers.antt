@@ -3,6 +3,7 @@ use Rattle.std.proofs.lemmas.List.{get_or_read}
 use Rattle.esx_types.specs.declared.table.MapRow.TheVariants.{Untouched}
 use Rattle.esx_types.specs.Pages.{is_here, is_out}
 use Rattle.esx_lists.proofs.Counts.{count_by-set-fits}
+use Rattle.esx_pmap.specs.declared.map.TheConstants.{BLOCK}
 use Rattle.esx_pmap.proofs.MapLemmas.{block_there, block_fits, map_set, loans_moved, others_lent}
 use Rattle.esx_pmap.proofs.map.PageMap.swap_row.Goals as goal
 
@@ -22,9 +23,9 @@ recount-requires-2 c =
     let old = c.row_mut-there.ensures.value in
     let m = c.self.invariant.0 in
     let was = c.is_here-was.ensures ∙ ap is_here old in
-    let there : c.args.page / 256 < length c.self.inside.blocks.items = omega (arith, m.enough) in
-    let read = get_or_read c.self.inside.blocks.items (c.args.page / 256) _ there c.index_mut.ensures.value 0 in
-    rw (read, m.each (c.args.page / 256), was, c.is_here-is.ensures) (record {
+    let there : c.args.page / BLOCK < length c.self.inside.blocks.items = omega (arith, m.enough) in
+    let read = get_or_read c.self.inside.blocks.items (c.args.page / BLOCK) _ there c.index_mut.ensures.value 0 in
+    rw (read, m.each (c.args.page / BLOCK), was, c.is_here-is.ensures) (record {
       there = block_there rows c.args.page h;
       fits = block_fits rows c.args.page c.args.row.now h;
     })
@@ -63,8 +64,8 @@ invariant_of-self c =
     let old = c.row_mut-there.ensures.value in
     let m = c.self.invariant.0 in
     let was = c.is_here-was.ensures ∙ ap is_here old in
-    let there : c.args.page / 256 < length c.self.inside.blocks.items = omega (arith, m.enough) in
-    let read = get_or_read c.self.inside.blocks.items (c.args.page / 256) _ there c.index_mut.ensures.value 0 in
+    let there : c.args.page / BLOCK < length c.self.inside.blocks.items = omega (arith, m.enough) in
+    let read = get_or_read c.self.inside.blocks.items (c.args.page / BLOCK) _ there c.index_mut.ensures.value 0 in
     let row = c.args.row.now in
     let out = c.is_out.ensures ∙ ap is_out old in
     let counted = rw (read, was, c.is_here-is.ensures) at c.recount-2.ensures in

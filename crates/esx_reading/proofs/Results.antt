@@ -1,0 +1,7 @@
+-- Results as they are handed on.
+use Rattle.std.specs.Prelude.{Result, Ok, Err, OnErr}
+
+-- want of memory, and what is known then
+pub on_err : {T E P : Type 0} (r : Result T E) → P → OnErr r P
+on_err (Ok x) p = tt
+on_err (Err e) p = p

@@ -1,4 +1,0 @@
-use Rattle.esx_told.proofs.spelled.hold_line.Given as goal
-
-abbrev pub ghosts-hold_reply : goal.ghosts-hold_reply
-ghosts-hold_reply a = record { name = a.blank.name; parts = a.blank.parts }
