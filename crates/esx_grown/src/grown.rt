@@ -2,15 +2,19 @@
 
 ghost use Rattle.std.specs.Prelude.{◌≡◌, ◌<◌, ◌≤◌, ◌+◌, ◌-◌, ◌++◌, IfOk, length, option_copied, replicate, slice_get, slice_index_or, vec_capacity};
 ghost use Rattle.std.specs.Borrow.{sem};
+ghost use Rattle.esx_grown.specs.Grown.{grown};
 
 use crate::blank::Blank;
 use std::alloc::{AllocError, Global};
 use std::marker::Model;
 
+/// How many rows come into use at once.
+const AT_ONCE: usize = 64;
+
 /// Rows, seen as the list of them. Behind the highest that was used all are blank, and no memory of theirs was touched.
 ///
 /// The room for all rows is taken by `new`, and no other call takes memory. The first use of a row writes those below it
-/// that were never used.
+/// that were never used, and some behind it.
 #[derive(Drop)]
 pub struct Grown<T: Blank> {
     used: Vec<T>,
@@ -89,19 +93,23 @@ impl<T: Blank> Grown<T> {
         ensures* writes_back { sem 𝓛 (lends_row T.row T.Blank self.entry at result) }
         ensures value { result.now ≡ slice_index_or self.old at T.blank }
     {
-        reach(&mut self.used, at);
+        reach(&mut self.used, at, self.len);
         &mut self.used[at]
     }
 }
 
-/// Uses the rows up to a place, in room that is there.
+/// Uses the rows up to a place, and some behind it, in room that is there.
 #[inline]
-fn reach<T: Blank>(used: &mut Vec<T>, at: usize)
-    requires { at < vec_capacity used.old }
-    ensures items { used.new.items ≡ used.old.items ++ replicate (at + 1 - length used.old.items) T.blank }
+fn reach<T: Blank>(used: &mut Vec<T>, at: usize, len: usize)
+    requires within { at < len }
+    requires few { length used.old.items ≤ len }
+    requires room { len ≤ vec_capacity used.old }
+    ensures seen { grown T.blank used.new.items len ≡ grown T.blank used.old.items len }
+    ensures reached { at < length used.new.items }
+    ensures few { length used.new.items ≤ len }
     ensures room { vec_capacity used.old ≤ vec_capacity used.new }
 {
     if at >= used.len() {
-        T::fill(used, at + 1);
+        T::fill(used, at.saturating_add(AT_ONCE).min(len));
     }
 }

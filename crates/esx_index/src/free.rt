@@ -64,13 +64,17 @@ impl FreeIndex {
         Ok(FreeIndex { len, words, above })
     }
 
-    /// Says whether a place is free.
+    /// Says whether a place is free. The words over a word are told of it only where it gets its first mark or loses its last.
     pub fn set(&mut self, at: usize, free: bool)
         requires { at < length self.old }
         ensures { self.new ≡ slice_set self.old at free }
     {
-        let word = with_mark(self.words[at / 64], (at % 64) as u32, free);
+        let before = self.words[at / 64];
+        let word = with_mark(before, (at % 64) as u32, free);
         self.words[at / 64] = word;
+        if (before == 0) == (word == 0) {
+            return;
+        }
         match &mut self.above {
             Above::Top => {}
             Above::Words(above) => above.set(at / 64, word != 0),

@@ -22,9 +22,9 @@ pub(crate) fn one_head(alloc: Global, chains: usize) -> Result<Vec<u32>, AllocEr
 pub(crate) fn spread(heads: &mut Vec<u32>, chains: usize)
     requires { chains ≤ vec_capacity heads.old }
     ensures heads { heads.new.items ≡ heads.old.items ++ replicate (chains - length heads.old.items) NO_FRAME }
-    ensures room { vec_capacity heads.new ≡ vec_capacity heads.old }
+    ensures room { vec_capacity heads.old ≤ vec_capacity heads.new }
 {
-    for _ in heads.len()..chains {
-        heads.push_reserved(NO_FRAME);
+    if heads.len() < chains {
+        heads.resize(chains, NO_FRAME).unwrap();
     }
 }

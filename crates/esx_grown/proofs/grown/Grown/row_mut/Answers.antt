@@ -1,8 +1,8 @@
-use Rattle.std.proofs.Common.{◌≡◌, ◌<◌, ◌≤◌, ◌+◌, ◌-◌, length, set, refl, ap, sym, ◌∙◌, arith}
-use Rattle.std.proofs.lemmas.List.{get_or_append_left, get_or_read, length-append, length-replicate}
+use Rattle.std.proofs.Common.{◌≡◌, ◌<◌, length, set, refl, ap, sym, ◌∙◌}
+use Rattle.std.proofs.lemmas.List.{get_or_append_left, get_or_read}
 use Rattle.std.specs.Prelude.{List, slice_index_or}
 use Rattle.esx_grown.specs.Grown.{grown}
-use Rattle.esx_grown.proofs.GrownLemmas.{grown_length, grown_more, grown_set}
+use Rattle.esx_grown.proofs.GrownLemmas.{grown_length, grown_set}
 use Rattle.esx_grown.proofs.grown.Grown.row_mut.Goals as goal
 
 pub returns : goal.returns
@@ -14,10 +14,8 @@ returns g c =
     let len = c.self.inside.len in
     let at = c.args.at in
     let all : length c.args.self.now ≡ len = ap length (sym c.self.view_is) ∙ grown_length blank used len c.self.invariant.within in
-    let inside : at + 1 ≤ len = omega (arith, all, c.requires) in
-    let same : grown blank kept len ≡ c.args.self.now = ap (λ (l : List A). grown blank l len) c.reach.ensures.items ∙ grown_more blank used (at + 1) len inside ∙ c.self.view_is in
-    let size : length kept ≡ length used + (at + 1 - length used) = ap length c.reach.ensures.items ∙ length-append _ _ ∙ ap (λ n. length used + n) (length-replicate _ _) in
-    let reached : at < length kept = omega (arith, size) in (
+    let same : grown blank kept len ≡ c.args.self.now = c.reach.ensures.seen ∙ c.self.view_is in
+    let reached : at < length kept = c.reach.ensures.reached in (
       (refl, λ w. grown_set blank kept len at w reached ∙ ap (λ (l : List A). set l at w) same),
       record {
         writes_back = tt;
