@@ -1,6 +1,7 @@
 pub mod FieldLemmas
 mod FrontLemmas
 pub mod HexField
+mod HexLanes
 mod HexTable
 mod LaneLemmas
 pub mod NumberLemmas

@@ -5,6 +5,7 @@
 mod digits;
 mod fault;
 mod fields;
+mod hex_digits;
 mod space;
 mod whole;
 mod written;

@@ -1,9 +1,11 @@
 //! Bytes as pairs of hex digits.
 
 ghost use Rattle.std.specs.Prelude.{◌≡◌, ◌∷◌, ◌<◌, ◌≤◌, ◌*◌, ◌/◌, ◌%◌, [], ℕ, List, length, slice_index, IfSome, IfNone, IfOk, OnErr};
+ghost use Rattle.std.specs.Bool.{OnTrue, OnFalse};
 ghost use Rattle.hex.specs.Hex.{encode_lower, lower_digits, IsBytes};
 ghost use Rattle.esx_reading.specs.Written.{IsWritten};
 
+use crate::hex_digits::eight_bytes;
 use esx_types::{Bytes, FEW, MAX_PAGE, SmallBytes};
 use std::alloc::{AllocError, Global};
 
@@ -87,21 +89,47 @@ fn byte_of(high: u8, low: u8) -> Option<u8>
     Some(byte as u8)
 }
 
+/// Reads the bytes of digits, two digits a byte. Returns whether they are those of some.
+#[inline(always)]
+fn read_into(bytes: &mut [u8], digits: &[u8]) -> bool
+    requires { length digits.now ≡ 2 * length bytes.old }
+    ensures len { length bytes.new ≡ length bytes.old }
+    ensures found { OnTrue result (IsBytes bytes.new × (digits.now ≡ encode_lower bytes.new)) }
+    ensures only { OnFalse result ((bytes : List ℕ) → IsBytes bytes → digits.now ≡ encode_lower bytes → ⊥) }
+{
+    let mut at = 0;
+    let mut rest = digits;
+    while let Some((sixteen, later)) = rest.split_first_chunk::<16>() {
+        let Some(eight) = eight_bytes(sixteen) else {
+            return false;
+        };
+        bytes[at..at + 8].copy_from_slice(&eight);
+        at += 8;
+        rest = later;
+    }
+    while let Some((pair, later)) = rest.split_first_chunk::<2>() {
+        let Some(byte) = byte_of(pair[0], pair[1]) else {
+            return false;
+        };
+        bytes[at] = byte;
+        at += 1;
+        rest = later;
+    }
+    true
+}
+
 /// The bytes of digits, two digits a byte, if they are those of some.
 fn bytes_of(alloc: Global, digits: &[u8]) -> Result<Option<Vec<u8>>, AllocError>
     requires { length digits.now % 2 ≡ 0 }
     ensures found { IfOk result (λ found. IfSome found (λ v. IsBytes v.items × (digits.now ≡ encode_lower v.items))) }
     ensures only { IfOk result (λ found. IfNone found ((bytes : List ℕ) → IsBytes bytes → digits.now ≡ encode_lower bytes → ⊥)) }
 {
-    let count = digits.len() / 2;
-    let mut bytes = Vec::with_capacity(alloc, count)?;
-    for at in 0..count {
-        let Some(byte) = byte_of(digits[2 * at], digits[2 * at + 1]) else {
-            return Ok(None);
-        };
-        bytes.push_reserved(byte);
+    let mut bytes = vec![in alloc; 0u8; digits.len() / 2]?;
+    if read_into(bytes.as_mut_slice(), digits) {
+        Ok(Some(bytes))
+    } else {
+        Ok(None)
     }
-    Ok(Some(bytes))
 }
 
 /// The bytes of a field in hex, 1 to `MAX_PAGE` of them, if it has such bytes. Memory is taken only for a field that is
@@ -132,13 +160,11 @@ fn few_bytes_of(digits: &[u8]) -> Option<SmallBytes>
 {
     let mut few = [0; FEW];
     let len = digits.len() / 2;
-    for at in 0..len {
-        let Some(byte) = byte_of(digits[2 * at], digits[2 * at + 1]) else {
-            return None;
-        };
-        few[at] = byte;
+    if read_into(&mut few[..len], digits) {
+        Some(SmallBytes::few(few, len))
+    } else {
+        None
     }
-    Some(SmallBytes::few(few, len))
 }
 
 /// The same bytes as `written_bytes` has, of a field that is longer than `FEW` bytes.

@@ -1,4 +1,4 @@
-use Rattle.std.proofs.Common.{◌≡◌, ◌<◌, ◌+◌, ◌*◌, ◌/◌, ◌%◌, ◌∷◌, [], ℕ, arith, subst}
+use Rattle.std.proofs.Common.{◌≡◌, ◌<◌, ◌+◌, ◌*◌, ◌/◌, ◌%◌, ◌∷◌, [], arith, subst}
 use Rattle.hex.specs.Hex.{encode_lower}
 use Rattle.esx_reading.proofs.HexField.{hex_of_pair, pair_of_hex}
 use Rattle.esx_reading.proofs.HexTable.{two_digits}

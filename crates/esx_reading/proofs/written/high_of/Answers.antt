@@ -1,4 +1,4 @@
-use Rattle.std.proofs.Common.{◌<◌, arith}
+use Rattle.std.proofs.Common.{arith}
 use Rattle.esx_reading.proofs.HexTable.{high_read, high_of_digit}
 use Rattle.esx_reading.proofs.written.high_of.Goals as goal
 

@@ -1,4 +1,4 @@
-use Rattle.std.proofs.Common.{◌<◌, arith}
+use Rattle.std.proofs.Common.{arith}
 use Rattle.esx_reading.proofs.HexTable.{low_read, low_of_digit}
 use Rattle.esx_reading.proofs.written.low_of.Goals as goal
 
