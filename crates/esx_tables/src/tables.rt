@@ -83,7 +83,6 @@ fn tell_period(vm: &mut Option<VmTable>)
 
 impl SiteTables {
     /// The tables of a site with no machines.
-    #[tactic(auto, using(crate::proofs::Opening::opening_shown))]
     pub fn open(alloc: Global, config: &Config) -> Result<SiteTables, AllocError>
         ensures rows { IfOk result (λ tables. tables ≡ empty_tables config.now) }
         ensures shows { IfOk result (λ tables. tables ≡ tables_of config.now (opening config.now).site) }

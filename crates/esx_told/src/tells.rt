@@ -1,9 +1,9 @@
 //! Logs that are told as texts.
 
-ghost use Rattle.std.specs.Prelude.{◌≡◌, ◌+◌, ◌++◌, ◌∷◌, [], List, OnOk, flat_map, length, map};
+ghost use Rattle.std.specs.Prelude.{◌≡◌, ◌+◌, ◌++◌, ◌∷◌, [], List, map};
 ghost use Rattle.esx_events.specs.declared.call.Call.{Call};
 ghost use Rattle.esx_events.specs.declared.call.Line.{Line};
-ghost use Rattle.esx_writing.specs.Writing.{Writes, Puts, sink_faults};
+ghost use Rattle.esx_writing.specs.Writing.{Writes, sink_faults};
 ghost use Rattle.esx_words.specs.Commands.{spelling};
 ghost use Rattle.esx_replies.specs.Replies.{reply_text};
 ghost use Rattle.esx_session.specs.Sessions.{logged, session_text};

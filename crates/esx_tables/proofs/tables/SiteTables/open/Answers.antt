@@ -1,0 +1,5 @@
+use Rattle.esx_tables.proofs.Opening.{opening_shown}
+use Rattle.esx_tables.proofs.tables.SiteTables.open.Goals as goal
+
+pub returns-clause-shows : goal.returns-clause-shows
+returns-clause-shows c = rw (c.in_ok-new.ensures, c.in_ok-new-2.ensures, c.in_ok-no_machines.ensures, c.in_ok-new-3.ensures) (opening_shown c.args.config.now)
