@@ -1,4 +1,5 @@
-//! Accesses that are looked at before they are answered, so that what they read is near by then.
+//! Accesses that are looked at before they are answered, so that what they read is near by then. Where few frames
+//! are in use nothing is looked at: what an access reads is near without it.
 
 use crate::line::split_line;
 use esx_console::{Console, Log};
@@ -25,7 +26,7 @@ impl Ahead {
     }
 
     /// The first line of a text is to be answered. Where it is an access that was not looked at, it is looked at now, and
-    /// so are the accesses among the lines behind it.
+    /// so are the accesses among the lines behind it. Where few frames are in use nothing is looked at.
     pub fn look<L: Log>(&mut self, console: &Console<L>, text: &[u8]) {
         if self.lines > 0 {
             self.lines -= 1;
