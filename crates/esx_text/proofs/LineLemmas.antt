@@ -1,11 +1,13 @@
 -- Lines, piece by piece.
-use Rattle.std.proofs.Common.{◌≡◌, ℕ, Bool, true, false, List, [], ◌∷◌, ◌++◌, ◌<◌, ◌≤◌, ◌+◌, refl, sym, ◌∙◌, ap, append_assoc, append-nil, take, length, arith, length-append, suc, zero, get_or, ◌↔◌}
+use Rattle.std.proofs.Common.{◌≡◌, ℕ, Bool, true, false, List, [], ◌∷◌, ◌++◌, ◌<◌, ◌≤◌, ◌+◌, refl, sym, ◌∙◌, ap, append_assoc, append-nil, take, length, arith, length-append, suc, zero, get_or, ◌↔◌, add-one, eqb-true}
 use Rattle.esx_reading.proofs.FieldLemmas.{no_match}
 use Rattle.std.proofs.lemmas.Grind.{flat_map-append}
-use Rattle.std.proofs.lemmas.List.Elements.{All-push, All-nil, All-append}
+use Rattle.std.proofs.lemmas.List.Elements.{All-push, All-nil, All-append, All-from_get_or}
 use Rattle.std.specs.List.{flat_map}
 use Rattle.std.proofs.Common.{drop, length-drop, length-take}
-use Rattle.std.proofs.lemmas.List.{take-append-drop}
+use Rattle.std.proofs.lemmas.List.{take-append-drop, get_or-take}
+use Rattle.std.proofs.Math.Seq.{split_at}
+use Rattle.memchr.specs.Find.{Nowhere, Passes, is_byte}
 use Rattle.esx_text.specs.declared.line.TheConstants.{ROOM}
 use Rattle.esx_text.specs.Lines.{HasNoFeed, EndsIn, line_of, IsSilent, Keeps, IsHeld}
 
@@ -81,3 +83,16 @@ ends_on text ended rest more none e = record {
   each = e.each;
   last = All-append (λ b. b ≡ 10 → ⊥) rest more e.last none;
 }
+
+-- a line feed that was found
+pub is_feed : (bytes text : List ℕ) (at : ℕ) → bytes ≡ text → Passes (is_byte 10) bytes at → get_or text at 0 ≡ 10
+is_feed bytes text at e p = sym (ap (λ t. get_or t at 0) e) ∙ eqb-true (get_or bytes at 0) 10 p
+
+pub no_feed_before : (text : List ℕ) (at : ℕ) → Nowhere (Passes (is_byte 10) text) 0 at → HasNoFeed (take at text)
+no_feed_before text at none = All-from_get_or (λ b. b ≡ 10 → ⊥) (take at text) 0
+    (λ i l e.
+    let less : i < at = omega (arith, l, length-take at text) in
+    none i (omega arith) less (ap (is_byte 10) (sym (get_or-take at text i 0 less) ∙ e)))
+
+pub at_feed : (text : List ℕ) (at : ℕ) → at < length text → get_or text at 0 ≡ 10 → text ≡ take at text ++ 10 ∷ drop (at + 1) text
+at_feed text at l e = rw add-one (split_at text at 0 l ∙ ap (λ b. take at text ++ b ∷ drop (suc at) text) e)

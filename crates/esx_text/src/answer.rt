@@ -3,10 +3,11 @@
 ghost use Rattle.std.specs.Prelude.{◌≡◌, ◌+◌, [], ℕ, List, IfOk, OnOk, OnErr, MatchOption, IsTrue, ◌↔◌, IsErrOf};
 ghost use Rattle.esx_events.specs.declared.call.Call.{Call};
 ghost use Rattle.esx_model.specs.Console.{Session};
-ghost use Rattle.esx_text.specs.Lines.{Keeps, IsSilent};
+ghost use Rattle.esx_text.specs.Lines.{Keeps, IsSilent, input_bytes};
 ghost use Rattle.esx_text.specs.Answers.{IsAsked, IsServed, MayWantMemory, session_line, write_faults};
 
 use crate::fault::ServeFault;
+use crate::line::Input;
 use esx_console::Console;
 use esx_events::Call;
 use esx_told::Tells;
@@ -19,14 +20,14 @@ use std::alloc::{AllocError, Global};
 pub const LONGEST: usize = 16384;
 
 /// The call that a line asks for, if it does.
-fn call_of_line(alloc: Global, line: &[u8]) -> Result<Option<Call>, AllocError>
-    ensures found { IfOk result (λ found. MatchOption found ((call : Call) → IsAsked line.now call → ⊥) (IsAsked line.now)) }
-    ensures memory { OnErr result (MayWantMemory line.now) }
+fn call_of_line(alloc: Global, line: Input) -> Result<Option<Call>, AllocError>
+    ensures found { IfOk result (λ found. MatchOption found ((call : Call) → IsAsked (input_bytes line.entry) call → ⊥) (IsAsked (input_bytes line.entry))) }
+    ensures memory { OnErr result (MayWantMemory (input_bytes line.entry)) }
 {
-    if line.len() > LONGEST {
+    if line.bytes().len() > LONGEST {
         return Ok(None);
     }
-    let Ok(text) = str::from_utf8(line) else {
+    let Some(text) = line.text() else {
         return Ok(None);
     };
     parse_command(alloc, text)
@@ -127,7 +128,7 @@ fn asks_for_session(line: &[u8]) -> bool
 #[derive(Clone, Copy)]
 pub struct Asked<'a> {
     pub number: u64,
-    pub kept: &'a [u8],
+    pub kept: Input<'a>,
     pub long: bool,
 }
 
@@ -141,27 +142,28 @@ pub fn answer_line<L: Tells, W: Sink>(
     asked: &Asked,
 ) -> Result<(), ServeFault>
     requires { held.old ≡ [] }
-    ensures served { (line : List ℕ) → Keeps asked.now.kept.now asked.now.long line
+    ensures served { (line : List ℕ) → Keeps (input_bytes asked.now.kept) asked.now.long line
         → IsServed asked.now.number caller console.old line console.new (W.contents writer.old) (W.contents writer.new) result }
     ensures empty { OnOk result (held.new ≡ []) }
     ensures failures { W.failures writer.new ≡ W.failures writer.old + write_faults result }
     ensures flushes { W.flushes writer.new ≡ W.flushes writer.old }
     ensures reads { IsErrOf result ServeFault.Read → ⊥ }
 {
-    if is_silent(asked.kept) {
+    let kept = asked.kept.bytes();
+    if is_silent(kept) {
         return Ok(());
     }
     if asked.long {
         return answer_unknown(writer, held, asked.number);
     }
-    if asks_for_session(asked.kept) {
+    if asks_for_session(kept) {
         return answer_session(console, writer, held);
     }
     let Ok(found) = call_of_line(alloc, asked.kept) else {
         return Err(ServeFault::OutOfMemory);
     };
     match found {
-        Some(call) => answer_call(console, caller, writer, held, call, asked.kept),
+        Some(call) => answer_call(console, caller, writer, held, call, kept),
         None => answer_unknown(writer, held, asked.number),
     }
 }

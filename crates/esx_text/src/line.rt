@@ -1,7 +1,8 @@
 //! Lines, as they are read in parts.
 
-ghost use Rattle.std.specs.Prelude.{◌≡◌, ◌++◌, ◌∷◌, [], if◌then◌else◌, ℕ, List, IfOk, MatchOption};
-ghost use Rattle.esx_text.specs.Lines.{Holds, HasNoFeed, line_of};
+ghost use Rattle.std.specs.Prelude.{◌≡◌, ◌++◌, ◌∷◌, [], if◌then◌else◌, ℕ, List, IfOk, MatchOption, take};
+ghost use Rattle.std.specs.Str.{IsUtf8, IsCharBoundary};
+ghost use Rattle.esx_text.specs.Lines.{Holds, HasNoFeed, input_bytes, line_of};
 
 use crate::answer::LONGEST;
 use memchr::memchr;
@@ -10,6 +11,77 @@ use std::marker::Model;
 
 /// How many bytes are held of a line: those of the longest line, and a carriage return.
 const ROOM: usize = LONGEST + 1;
+
+/// A part of the input: text, or bytes of which that is not known.
+#[derive(Clone, Copy)]
+pub enum Input<'a> {
+    Text(&'a str),
+    Bytes(&'a [u8]),
+}
+
+impl<'a> Input<'a> {
+    /// Bytes as text, where they are one.
+    pub fn of(bytes: &'a [u8]) -> Input<'a>
+        ensures { input_bytes result ≡ bytes.now }
+    {
+        match str::from_utf8(bytes) {
+            Ok(text) => Input::Text(text),
+            Err(_) => Input::Bytes(bytes),
+        }
+    }
+
+    #[inline]
+    pub fn bytes(self) -> &'a [u8]
+        ensures { result.now ≡ input_bytes self.entry }
+    {
+        match self {
+            Input::Text(text) => text.as_bytes(),
+            Input::Bytes(bytes) => bytes,
+        }
+    }
+
+    /// The text. It tests the bytes, where nothing is known of them.
+    pub fn text(self) -> Option<&'a str>
+        ensures { MatchOption result (IsUtf8 (input_bytes self.entry) → ⊥) (λ text. text.now ≡ input_bytes self.entry) }
+    {
+        match self {
+            Input::Text(text) => Some(text),
+            Input::Bytes(bytes) => str::from_utf8(bytes).ok(),
+        }
+    }
+
+    /// What stands before the first line feed, and what behind it.
+    pub fn split_line(self) -> Option<(Input<'a>, Input<'a>)>
+        ensures { MatchOption result (HasNoFeed (input_bytes self.entry)) (λ parts. HasNoFeed (input_bytes parts.0) × (input_bytes self.entry ≡ input_bytes parts.0 ++ 10 ∷ input_bytes parts.1)) }
+    {
+        match self {
+            Input::Text(text) => {
+                let (piece, later) = split_text(text)?;
+                Some((Input::Text(piece), Input::Text(later)))
+            }
+            Input::Bytes(bytes) => {
+                let (piece, later) = split_line(bytes)?;
+                Some((Input::Bytes(piece), Input::Bytes(later)))
+            }
+        }
+    }
+
+    /// A piece without the carriage return at its end.
+    pub fn without_return(self) -> Input<'a>
+        ensures { input_bytes result ≡ line_of (input_bytes self.entry) }
+    {
+        match self {
+            Input::Text(text) => {
+                let (line, _) = text.split_at(line_length(text.as_bytes()));
+                Input::Text(line)
+            }
+            Input::Bytes(bytes) => {
+                let (line, _) = bytes.split_at(line_length(bytes));
+                Input::Bytes(line)
+            }
+        }
+    }
+}
 
 /// The bytes before the first line feed, and those behind it.
 pub fn split_line(bytes: &[u8]) -> Option<(&[u8], &[u8])>
@@ -21,26 +93,33 @@ pub fn split_line(bytes: &[u8]) -> Option<(&[u8], &[u8])>
     Some((piece, later))
 }
 
-/// A piece without the carriage return at its end.
-pub fn without_return(piece: &[u8]) -> &[u8]
-    ensures { result.now ≡ line_of piece.now }
+/// The text before the first line feed, and that behind it.
+fn split_text(text: &str) -> Option<(&str, &str)>
+    ensures { MatchOption result (HasNoFeed text.now) (λ parts. HasNoFeed parts.0.now × (text.now ≡ parts.0.now ++ 10 ∷ parts.1.now)) }
+{
+    let at = memchr(b'\n', text.as_bytes())?;
+    let (piece, _) = text.split_at(at);
+    let (_, later) = text.split_at(at + 1);
+    Some((piece, later))
+}
+
+/// How many bytes of a piece stand before the carriage return at its end, or all where none does.
+fn line_length(piece: &[u8]) -> usize
+    ensures front { take result piece.now ≡ line_of piece.now }
+    ensures boundary { IsCharBoundary piece.now result }
 {
     match piece.len() {
-        0 => piece,
+        0 => 0,
         length => {
             let last = length - 1;
-            if piece[last] == b'\r' {
-                &piece[..last]
-            } else {
-                piece
-            }
+            if piece[last] == b'\r' { last } else { length }
         }
     }
 }
 
 /// The first, or the other.
-pub fn either<'a>(first: bool, one: &'a [u8], other: &'a [u8]) -> &'a [u8]
-    ensures { result.now ≡ (if first then one.now else other.now) }
+pub fn either<'a>(first: bool, one: Input<'a>, other: Input<'a>) -> Input<'a>
+    ensures { input_bytes result ≡ (if first then input_bytes one.entry else input_bytes other.entry) }
 {
     if first { one } else { other }
 }

@@ -5,14 +5,14 @@ ghost use Rattle.std.specs.Io.KnownBytes.{Keeps, Consumes, IsAtEnd};
 ghost use Rattle.esx_types.specs.Ends.{call_successes};
 ghost use Rattle.esx_model.specs.Console.{Session};
 ghost use Rattle.esx_reading.specs.Whole.{AskForPieces};
-ghost use Rattle.esx_text.specs.Lines.{Holds, HasNoFeed};
+ghost use Rattle.esx_text.specs.Lines.{Holds, HasNoFeed, input_bytes};
 ghost use Rattle.esx_text.specs.Answers.{Progress, Answers, Stops, StopsLast, Faults, EndsEarly, Reaches, ReadsOn, Ends, ends_found, fault_writes, read_faults, write_faults};
 ghost use Rattle.esx_text.specs.States.{LeavesStreams, SourceState, sink_state, source_state};
 
 use crate::ahead::Ahead;
 use crate::answer::{Asked, answer_line};
 use crate::fault::ServeFault;
-use crate::line::{LineBuffer, either, split_line, without_return};
+use crate::line::{Input, LineBuffer, either};
 use esx_console::Console;
 use esx_reading::{CHUNK, READS};
 use esx_told::Tells;
@@ -52,24 +52,24 @@ fn serve_line<L: Tells, W: Sink>(
     caller: u16,
     writer: &mut W,
     work: &mut Work,
-    piece: &[u8],
+    piece: Input,
 ) -> Result<(), ServeFault>
     requires empty { work.old.answer ≡ [] }
     requires room { work.old.count < 2 ^ 63 }
-    requires clean { HasNoFeed piece.now }
+    requires clean { HasNoFeed (input_bytes piece) }
     ensures ok { OnOk result ((before : Session) (known : Option (List ℕ)) (input : List ℕ)
         → Progress caller before known input work.old.count work.old.line console.old (W.contents writer.old)
-        → Progress caller before known (input ++ (piece.now ++ 10 ∷ [])) work.new.count work.new.line console.new (W.contents writer.new)) }
+        → Progress caller before known (input ++ (input_bytes piece.entry ++ 10 ∷ [])) work.new.count work.new.line console.new (W.contents writer.new)) }
     ensures fault { IfErr result (λ e. (before : Session) (known : Option (List ℕ)) (input later : List ℕ)
         → Progress caller before known input work.old.count work.old.line console.old (W.contents writer.old)
-        → Stops e caller before console.new (input ++ (piece.now ++ 10 ∷ later)) known (W.contents writer.new)) }
+        → Stops e caller before console.new (input ++ (input_bytes piece.entry ++ 10 ∷ later)) known (W.contents writer.new)) }
     ensures empty { OnOk result (work.new.answer ≡ []) }
     ensures count { work.new.count ≡ work.old.count + 1 }
     ensures failures { W.failures writer.new ≡ W.failures writer.old + write_faults result }
     ensures flushes { W.flushes writer.new ≡ W.flushes writer.old }
     ensures reads { IsErrOf result ServeFault.Read → ⊥ }
 {
-    let whole = work.line.end(piece);
+    let whole = work.line.end(piece.bytes());
     work.count += 1;
     answer_line(
         alloc,
@@ -79,7 +79,7 @@ fn serve_line<L: Tells, W: Sink>(
         &mut work.answer,
         &Asked {
             number: work.count,
-            kept: without_return(either(whole, piece, work.line.bytes())),
+            kept: either(whole, piece, Input::Bytes(work.line.bytes())).without_return(),
             long: work.line.is_long(),
         },
     )?;
@@ -110,13 +110,13 @@ fn serve_bytes<L: Tells, W: Sink>(
     ensures flushes { W.flushes writer.new ≡ W.flushes writer.old }
     ensures reads { IsErrOf result ServeFault.Read → ⊥ }
 {
-    let mut rest = bytes;
-    while let Some((piece, later)) = split_line(rest) {
-        work.ahead.look(console, rest);
+    let mut rest = Input::of(bytes);
+    while let Some((piece, later)) = rest.split_line() {
+        work.ahead.look(console, rest.bytes());
         serve_line(alloc, console, caller, writer, work, piece)?;
         rest = later;
     }
-    work.line.extend(rest);
+    work.line.extend(rest.bytes());
     Ok(())
 }
 
@@ -153,7 +153,7 @@ fn serve_end<L: Tells, W: Sink>(
         &mut work.answer,
         &Asked {
             number: work.count,
-            kept: work.line.bytes(),
+            kept: Input::Bytes(work.line.bytes()),
             long: work.line.is_long(),
         },
     )?;

@@ -1,4 +1,5 @@
-use Rattle.std.proofs.Common.{[], refl, sym, ◌∙◌}
+use Rattle.std.proofs.Common.{[], refl, sym, subst, ◌∙◌}
+use Rattle.esx_text.specs.Lines.{IsSilent, input_bytes}
 use Rattle.esx_text.specs.Answers.IsAnswered.{silent}
 use Rattle.esx_writing.proofs.WritingLemmas.{appends_nothing}
 use Rattle.esx_text.proofs.AnswerLemmas.{silent_as_kept, long_line, long_unasked, kept_whole}
@@ -7,34 +8,40 @@ use Rattle.esx_text.proofs.answer.answer_line.Goals as goal
 
 pub returns-then-is_silent-clause-served : goal.returns-then-is_silent-clause-served
 returns-then-is_silent-clause-served g c = λ line keeps.
-    ([], silent ((silent_as_kept c.args.asked.now.kept.now c.args.asked.now.long line keeps).1 (c.is_silent.ensures.0 c.if-is_silent.true)), appends_nothing _)
+    let kept = input_bytes c.args.asked.now.kept in (
+      [],
+      silent ((silent_as_kept kept c.args.asked.now.long line keeps).1 (subst IsSilent c.bytes-kept.ensures (c.is_silent.ensures.0 c.if-is_silent.true))),
+      appends_nothing _,
+    )
 
 pub returns-then-asked-clause-served : goal.returns-then-asked-clause-served
 returns-then-asked-clause-served g c = λ line keeps.
+    let kept = input_bytes c.args.asked.now.kept in
     c.answer_unknown.ensures.served c.args.caller c.args.console.now line
-    (λ s. let t = c.is_silent.ensures.1 ((silent_as_kept c.args.asked.now.kept.now c.args.asked.now.long line keeps).0 s) in cc)
-    (λ e. long_is_no_session line (long_line c.args.asked.now.kept.now c.args.asked.now.long line c.if-asked.true keeps) e)
-    (λ call is. long_unasked c.args.asked.now.kept.now c.args.asked.now.long line call c.if-asked.true keeps is)
+    (λ s. let t = c.is_silent.ensures.1 (subst IsSilent (sym c.bytes-kept.ensures) ((silent_as_kept kept c.args.asked.now.long line keeps).0 s)) in cc)
+    (λ e. long_is_no_session line (long_line kept c.args.asked.now.long line c.if-asked.true keeps) e)
+    (λ call is. long_unasked kept c.args.asked.now.long line call c.if-asked.true keeps is)
 
 pub returns-then-asks_for_session-clause-served : goal.returns-then-asks_for_session-clause-served
 returns-then-asks_for_session-clause-served g c = λ line keeps.
-    let e = kept_whole c.args.asked.now.kept.now c.args.asked.now.long line c.if-asked.false keeps in
+    let e = kept_whole (input_bytes c.args.asked.now.kept) c.args.asked.now.long line c.if-asked.false keeps ∙ sym c.bytes-kept.ensures in
     c.answer_session.ensures.served c.args.asked.now.number c.args.caller line (e ∙ c.asks_for_session.ensures.0 c.if-asks_for_session.true)
 
 pub returns-in_default-clause-served : goal.returns-in_default-clause-served
 returns-in_default-clause-served g c = λ line keeps.
-    let e = kept_whole c.args.asked.now.kept.now c.args.asked.now.long line c.if-asked.false keeps in
+    let e = kept_whole (input_bytes c.args.asked.now.kept) c.args.asked.now.long line c.if-asked.false keeps in
     (refl, rw e c.in_default.ensures.memory, appends_nothing _)
 
 pub returns-in-Some-clause-served : goal.returns-in-Some-clause-served
 returns-in-Some-clause-served g c = λ line keeps.
-    let e = kept_whole c.args.asked.now.kept.now c.args.asked.now.long line c.if-asked.false keeps in
+    let e = kept_whole (input_bytes c.args.asked.now.kept) c.args.asked.now.long line c.if-asked.false keeps ∙ sym c.bytes-kept.ensures in
     rw e (c.answer_call.ensures.served c.args.asked.now.number)
 
 pub returns-in-None-clause-served : goal.returns-in-None-clause-served
 returns-in-None-clause-served g c = λ line keeps.
-    let e = kept_whole c.args.asked.now.kept.now c.args.asked.now.long line c.if-asked.false keeps in
+    let kept = input_bytes c.args.asked.now.kept in
+    let e = kept_whole kept c.args.asked.now.long line c.if-asked.false keeps in
     c.answer_unknown-in-None.ensures.served c.args.caller c.args.console.now line
-    (λ s. let t = c.is_silent.ensures.1 ((silent_as_kept c.args.asked.now.kept.now c.args.asked.now.long line keeps).0 s) in cc)
-    (λ s. let t = c.asks_for_session.ensures.1 (sym e ∙ s) in cc)
+    (λ s. let t = c.is_silent.ensures.1 (subst IsSilent (sym c.bytes-kept.ensures) ((silent_as_kept kept c.args.asked.now.long line keeps).0 s)) in cc)
+    (λ s. let t = c.asks_for_session.ensures.1 (c.bytes-kept.ensures ∙ sym e ∙ s) in cc)
     (λ call is. (rw c.in-None.is at c.in-Ok.ensures.found) call (rw e at is))
