@@ -1,4 +1,5 @@
 pub mod LineLemmas
+pub mod EndsLemmas
 pub mod AnswerLemmas
 pub mod ProgressLemmas
 pub mod FaultLemmas

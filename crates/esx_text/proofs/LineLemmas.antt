@@ -7,9 +7,9 @@ use Rattle.std.specs.List.{flat_map}
 use Rattle.std.proofs.Common.{drop, length-drop, length-take}
 use Rattle.std.proofs.lemmas.List.{take-append-drop, get_or-take}
 use Rattle.std.proofs.Math.Seq.{split_at}
-use Rattle.memchr.specs.Find.{Nowhere, Passes, is_byte}
+use Rattle.memchr.specs.Find.{NoneBefore, Nowhere, Passes, is_byte}
 use Rattle.esx_text.specs.declared.line.TheConstants.{ROOM}
-use Rattle.esx_text.specs.Lines.{HasNoFeed, EndsIn, line_of, IsSilent, Keeps, IsHeld}
+use Rattle.esx_text.specs.Lines.{EndsAt, HasNoFeed, EndsIn, line_of, IsSilent, Keeps, IsHeld}
 
 -- with less room than that
 pub held_full : (front piece : List ℕ) (long : Bool) (more : List ℕ) (room : ℕ) → room + length front ≡ ROOM → room < length more
@@ -96,3 +96,13 @@ no_feed_before text at none = All-from_get_or (λ b. b ≡ 10 → ⊥) (take at 
 
 pub at_feed : (text : List ℕ) (at : ℕ) → at < length text → get_or text at 0 ≡ 10 → text ≡ take at text ++ 10 ∷ drop (at + 1) text
 at_feed text at l e = rw add-one (split_at text at 0 l ∙ ap (λ b. take at text ++ b ∷ drop (suc at) text) e)
+
+pub ends_at : (text : List ℕ) (at : ℕ) → NoneBefore (Passes (is_byte 10) text) 0 (length text) at × Passes (is_byte 10) text at → EndsAt text at
+ends_at text at (none, feed) = record {
+  within = none.high;
+  feed = is_feed text text at refl feed;
+  before = no_feed_before text at none.before;
+}
+
+pub parted : (text piece later : List ℕ) (at : ℕ) → EndsAt text at → piece ≡ take at text → later ≡ drop (at + 1) text → HasNoFeed piece × (text ≡ piece ++ 10 ∷ later)
+parted text piece later at e p l = rw (p, l) (e.before, at_feed text at e.within e.feed)

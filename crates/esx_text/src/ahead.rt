@@ -1,21 +1,21 @@
 //! Accesses that are looked at before they are answered, so that what they read is near by then. Where few frames
 //! are in use nothing is looked at: what an access reads is near without it.
 
-use crate::line::split_line;
+ghost use Rattle.esx_text.specs.Lines.{HasLines};
+
+use crate::ends::{LINES, LineEnds};
 use esx_console::{Console, Log};
 use esx_types::VmId;
-
-/// How many lines are looked at before the first of them is answered.
-const LINES: u32 = 16;
 
 /// Where a site uses more frames than this, an access mostly waits for memory.
 const NEAR: u32 = 1 << 16;
 
-/// What was looked at. It is a hint: no answer rests on it.
+/// What was looked at. It is a hint: no answer rests on it. The ends of the lines that were found on the way are
+/// handed on.
 #[derive(Drop)]
 pub struct Ahead {
-    // How many of the next lines are passed over: they were looked at, or what they read is near.
-    lines: u32,
+    // How many of the next lines are passed over, since what they read is near.
+    lines: usize,
     // What was read, so that nobody leaves the reads out.
     seen: u8,
 }
@@ -26,30 +26,44 @@ impl Ahead {
     }
 
     /// The first line of a text is to be answered. Where it is an access that was not looked at, it is looked at now, and
-    /// so are the accesses among the lines behind it. Where few frames are in use nothing is looked at.
-    pub fn look<L: Log>(&mut self, console: &Console<L>, text: &[u8]) {
+    /// so are the accesses among the lines behind it, whose ends wait from then on. Where few frames are in use nothing
+    /// is looked at.
+    #[inline]
+    pub fn look<L: Log>(&mut self, console: &Console<L>, ends: &mut LineEnds, text: &[u8])
+        requires { HasLines text.now ends.old }
+        ensures { HasLines text.now ends.new }
+    {
+        if !ends.is_empty() {
+            return;
+        }
         if self.lines > 0 {
             self.lines -= 1;
         } else if !waits(console) {
             self.lines = LINES;
         } else if operands(text).is_some() {
-            self.lines = self.look_on(console, text).saturating_sub(1);
+            self.look_on(console, ends, text);
         }
     }
 
-    /// Looks at the accesses among the next whole lines of a text, and tells how many lines these are.
-    fn look_on<L: Log>(&mut self, console: &Console<L>, text: &[u8]) -> u32 {
+    /// Finds the ends of the next lines of a text, and looks at the accesses among these.
+    fn look_on<L: Log>(&mut self, console: &Console<L>, ends: &mut LineEnds, text: &[u8])
+        ensures { HasLines text.now ends.new }
+    {
+        ends.clear();
         let mut rest = text;
-        for line in 0..LINES {
-            let Some((piece, later)) = split_line(rest) else {
-                return line;
-            };
-            if let Some((vm, page)) = access(piece) {
-                self.seen ^= console.look_at(vm, page);
-            }
+        while let Some(at) = ends.find(rest) {
+            let (piece, ended) = rest.split_at(at);
+            let (_, later) = ended.split_at(1);
+            self.look_at(console, piece);
             rest = later;
         }
-        LINES
+    }
+
+    /// Looks at what a line reads, where it is an access.
+    fn look_at<L: Log>(&mut self, console: &Console<L>, line: &[u8]) {
+        if let Some((vm, page)) = access(line) {
+            self.seen ^= console.look_at(vm, page);
+        }
     }
 }
 

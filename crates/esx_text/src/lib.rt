@@ -3,6 +3,7 @@
 
 mod ahead;
 mod answer;
+mod ends;
 mod fault;
 pub mod laws;
 mod line;

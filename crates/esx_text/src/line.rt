@@ -1,8 +1,8 @@
 //! Lines, as they are read in parts.
 
-ghost use Rattle.std.specs.Prelude.{◌≡◌, ◌++◌, ◌∷◌, [], if◌then◌else◌, ℕ, List, IfOk, MatchOption, take};
+ghost use Rattle.std.specs.Prelude.{◌≡◌, ◌+◌, ◌++◌, [], if◌then◌else◌, ℕ, List, IfOk, MatchOption, drop, take};
 ghost use Rattle.std.specs.Str.{IsUtf8, IsCharBoundary};
-ghost use Rattle.esx_text.specs.Lines.{Holds, HasNoFeed, input_bytes, line_of};
+ghost use Rattle.esx_text.specs.Lines.{EndsAt, Holds, HasNoFeed, input_bytes, line_of};
 
 use crate::answer::LONGEST;
 use memchr::memchr;
@@ -51,18 +51,17 @@ impl<'a> Input<'a> {
     }
 
     /// What stands before the first line feed, and what behind it.
-    pub fn split_line(self) -> Option<(Input<'a>, Input<'a>)>
-        ensures { MatchOption result (HasNoFeed (input_bytes self.entry)) (λ parts. HasNoFeed (input_bytes parts.0) × (input_bytes self.entry ≡ input_bytes parts.0 ++ 10 ∷ input_bytes parts.1)) }
+    pub fn split_at_end(self, at: usize) -> (Input<'a>, Input<'a>)
+        requires { EndsAt (input_bytes self) at }
+        ensures piece { input_bytes result.0 ≡ take at (input_bytes self.entry) }
+        ensures later { input_bytes result.1 ≡ drop (at + 1) (input_bytes self.entry) }
     {
         match self {
             Input::Text(text) => {
-                let (piece, later) = split_text(text)?;
-                Some((Input::Text(piece), Input::Text(later)))
+                let (piece, later) = split_text(text, at);
+                (Input::Text(piece), Input::Text(later))
             }
-            Input::Bytes(bytes) => {
-                let (piece, later) = split_line(bytes)?;
-                Some((Input::Bytes(piece), Input::Bytes(later)))
-            }
+            Input::Bytes(bytes) => (Input::Bytes(&bytes[..at]), Input::Bytes(&bytes[at + 1..])),
         }
     }
 
@@ -83,24 +82,22 @@ impl<'a> Input<'a> {
     }
 }
 
-/// The bytes before the first line feed, and those behind it.
-pub fn split_line(bytes: &[u8]) -> Option<(&[u8], &[u8])>
-    ensures { MatchOption result (HasNoFeed bytes.now) (λ parts. HasNoFeed parts.0.now × (bytes.now ≡ parts.0.now ++ 10 ∷ parts.1.now)) }
+/// Where the first line feed stands.
+pub fn line_end(bytes: &[u8]) -> Option<usize>
+    ensures { MatchOption result (HasNoFeed bytes.now) (λ at. EndsAt bytes.now at) }
 {
-    let at = memchr(b'\n', bytes)?;
-    let (piece, ended) = bytes.split_at(at);
-    let (_, later) = ended.split_at(1);
-    Some((piece, later))
+    memchr(b'\n', bytes)
 }
 
 /// The text before the first line feed, and that behind it.
-fn split_text(text: &str) -> Option<(&str, &str)>
-    ensures { MatchOption result (HasNoFeed text.now) (λ parts. HasNoFeed parts.0.now × (text.now ≡ parts.0.now ++ 10 ∷ parts.1.now)) }
+fn split_text(text: &str, at: usize) -> (&str, &str)
+    requires { EndsAt text.now at }
+    ensures piece { result.0.now ≡ take at text.now }
+    ensures later { result.1.now ≡ drop (at + 1) text.now }
 {
-    let at = memchr(b'\n', text.as_bytes())?;
     let (piece, _) = text.split_at(at);
     let (_, later) = text.split_at(at + 1);
-    Some((piece, later))
+    (piece, later)
 }
 
 /// How many bytes of a piece stand before the carriage return at its end, or all where none does.

@@ -1,19 +1,20 @@
 //! The loop that serves a console line by line.
 
-ghost use Rattle.std.specs.Prelude.{◌≡◌, ◌+◌, ◌<◌, ◌≤◌, ◌^◌, ◌++◌, ◌∷◌, [], ℕ, List, Option, Ok, Err, None, Some, IfOk, IfErr, OnOk, IsErrOf, ◌⊎◌, length};
+ghost use Rattle.std.specs.Prelude.{◌≡◌, ◌+◌, ◌<◌, ◌≤◌, ◌^◌, ◌++◌, ◌∷◌, [], ℕ, List, Option, Ok, Err, None, Some, IfOk, IfErr, IfSome, MatchOption, OnOk, IsErrOf, ◌⊎◌, length};
 ghost use Rattle.std.specs.Io.KnownBytes.{Keeps, Consumes, IsAtEnd};
 ghost use Rattle.esx_types.specs.Ends.{call_successes};
 ghost use Rattle.esx_model.specs.Console.{Session};
 ghost use Rattle.esx_reading.specs.Whole.{AskForPieces};
-ghost use Rattle.esx_text.specs.Lines.{Holds, HasNoFeed, input_bytes};
+ghost use Rattle.esx_text.specs.Lines.{HasLines, HasNoFeed, Holds, input_bytes};
 ghost use Rattle.esx_text.specs.Answers.{Progress, Answers, Stops, StopsLast, Faults, EndsEarly, Reaches, ReadsOn, Ends, ends_found, fault_writes, read_faults, write_faults};
 ghost use Rattle.esx_text.specs.States.{LeavesStreams, SourceState, sink_state, source_state};
 
 use crate::ahead::Ahead;
 use crate::answer::{Asked, answer_line};
+use crate::ends::LineEnds;
 use crate::fault::ServeFault;
 use crate::line::{Input, LineBuffer, either};
-use esx_console::Console;
+use esx_console::{Console, Log};
 use esx_reading::{CHUNK, READS};
 use esx_told::Tells;
 use esx_types::{Sink, SinkFailed, Source};
@@ -87,6 +88,24 @@ fn serve_line<L: Tells, W: Sink>(
     Ok(())
 }
 
+/// The next line of a rest, and what stands behind it.
+#[inline]
+fn next_line<'a, L: Log>(
+    console: &Console<L>,
+    ahead: &mut Ahead,
+    ends: &mut LineEnds,
+    rest: Input<'a>,
+) -> Option<(Input<'a>, Input<'a>)>
+    requires { HasLines (input_bytes rest) ends.old }
+    ensures parts { MatchOption result (HasNoFeed (input_bytes rest.entry)) (λ parts. HasNoFeed (input_bytes parts.0) × (input_bytes rest.entry ≡ input_bytes parts.0 ++ 10 ∷ input_bytes parts.1)) }
+    ensures ends { IfSome result (λ parts. HasLines (input_bytes parts.1) ends.new) }
+{
+    let bytes = rest.bytes();
+    ahead.look(console, ends, bytes);
+    let at = ends.next(bytes)?;
+    Some(rest.split_at_end(at))
+}
+
 /// Takes the next bytes.
 fn serve_bytes<L: Tells, W: Sink>(
     alloc: Global,
@@ -111,8 +130,8 @@ fn serve_bytes<L: Tells, W: Sink>(
     ensures reads { IsErrOf result ServeFault.Read → ⊥ }
 {
     let mut rest = Input::of(bytes);
-    while let Some((piece, later)) = rest.split_line() {
-        work.ahead.look(console, rest.bytes());
+    let mut ends = LineEnds::new();
+    while let Some((piece, later)) = next_line(console, &mut work.ahead, &mut ends, rest) {
         serve_line(alloc, console, caller, writer, work, piece)?;
         rest = later;
     }

@@ -1,5 +1,5 @@
-use Rattle.std.proofs.Common.{[], ◌∷◌, ◌++◌, ◌≡◌, ◌∙◌, ap, arith, refl, sym, length, append-nil, append_assoc}
-use Rattle.esx_text.specs.Lines.{input_bytes}
+use Rattle.std.proofs.Common.{[], ◌∷◌, ◌++◌, ◌≡◌, ◌∙◌, ap, arith, refl, sym, subst, length, append-nil, append_assoc}
+use Rattle.esx_text.specs.Lines.{HasLines, input_bytes}
 use Rattle.esx_text.proofs.ProgressLemmas.{progress_on, progress_of, feed_inside, length_behind}
 use Rattle.esx_text.proofs.FaultLemmas.{handed_on, stops_of}
 use Rattle.esx_text.proofs.service.serve_bytes.Goals as goal
@@ -10,6 +10,7 @@ loop-piece-init g c = record {
   failures = refl;
   flushes = refl;
   empty = c.requires.empty;
+  ends = subst (HasLines (input_bytes c.of-rest.result)) (sym c.new-ends.ensures) tt;
   count = omega (arith, ap length c.of-rest.ensures);
 }
 
@@ -18,7 +19,7 @@ loop-piece-preserved g c =
     let p = c.loop-piece.invariant.progress in
     let piece = input_bytes c.in-Some.piece in
     let later = input_bytes c.in-Some.later in
-    let is : input_bytes c.loop-piece.rest ≡ piece ++ 10 ∷ later = c.in-Some.ensures.1 in
+    let is : input_bytes c.loop-piece.rest ≡ piece ++ 10 ∷ later = c.in-Some.ensures.parts.1 in
     record {
       progress = (
         p.0 ++ (piece ++ 10 ∷ []),
@@ -30,6 +31,7 @@ loop-piece-preserved g c =
       failures = omega (arith, c.loop-piece.invariant.failures, c.in_ok-serve_line.ensures.failures);
       flushes = c.serve_line.ensures.flushes ∙ c.loop-piece.invariant.flushes;
       empty = c.in_ok-serve_line.ensures.empty;
+      ends = c.in-Some.ensures.ends;
       count = omega (arith, c.loop-piece.invariant.count, c.in_ok-serve_line.ensures.count, length_behind (input_bytes c.loop-piece.rest) piece later is);
     }
 
@@ -39,7 +41,7 @@ returns-clause-ok g c = λ before known input start.
     let rest = input_bytes c.loop-piece.rest in
     progress_of _ _ _ _ _ _ _ _ _ (append_assoc input p.0 rest ∙ ap (λ v. input ++ v) (sym p.1))
     (progress_on c.args.caller before known (input ++ p.0) c.loop-piece.work.count rest c.loop-piece.work.line c.extend.new.self c.loop-piece.console _
-    c.in_default.ensures (rw c.bytes-2.ensures at c.extend.ensures) (p.2 before known input start))
+    c.in_default.ensures.parts (rw c.bytes.ensures at c.extend.ensures) (p.2 before known input start))
 
 pub returns-in_err-serve_line-clause-fault : goal.returns-in_err-serve_line-clause-fault
 returns-in_err-serve_line-clause-fault g c = handed_on c.from_residual.result c.in_err-serve_line.field-0.0 _ c.from_residual.ensures.1
@@ -47,6 +49,6 @@ returns-in_err-serve_line-clause-fault g c = handed_on c.from_residual.result c.
     let p = c.loop-piece.invariant.progress in
     let piece = input_bytes c.in-Some.piece in
     let later = input_bytes c.in-Some.later in
-    let is : input_bytes c.loop-piece.rest ≡ piece ++ 10 ∷ later = c.in-Some.ensures.1 in
+    let is : input_bytes c.loop-piece.rest ≡ piece ++ 10 ∷ later = c.in-Some.ensures.parts.1 in
     stops_of _ _ _ _ _ _ _ _ (append_assoc input p.0 (piece ++ 10 ∷ later) ∙ ap (λ v. input ++ v) (sym (p.1 ∙ ap (λ v. p.0 ++ v) is)))
     (c.in_err-serve_line.ensures.fault before known (input ++ p.0) later (p.2 before known input start)))

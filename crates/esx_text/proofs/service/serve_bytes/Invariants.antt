@@ -1,6 +1,6 @@
 use Rattle.std.proofs.Common.{◌≡◌, ◌+◌, ◌≤◌, ◌++◌, [], length, ℕ, List, Option}
 use Rattle.esx_model.specs.Console.{Session}
-use Rattle.esx_text.specs.Lines.{input_bytes}
+use Rattle.esx_text.specs.Lines.{HasLines, input_bytes}
 use Rattle.esx_text.specs.Answers.{Progress}
 use Rattle.esx_text.proofs.service.serve_bytes.Given as goal
 
@@ -12,6 +12,7 @@ invariant-loop-piece g l = record {
   failures : g.W.Sink.failures l.writer ≡ g.W.Sink.failures l.initial.writer;
   flushes : g.W.Sink.flushes l.writer ≡ g.W.Sink.flushes l.initial.writer;
   empty : l.work.answer ≡ [];
+  ends : HasLines (input_bytes l.rest) l.ends;
   count : l.work.count + length (input_bytes l.rest) ≤ l.initial.work.count + length l.bytes;
 }
 
