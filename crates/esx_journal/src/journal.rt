@@ -88,6 +88,7 @@ impl Journal {
     }
 
     /// Makes an event, and gives its answer, with a copy where one is wanted.
+    #[inline(always)]
     fn make(&mut self, event: &Event, with_copy: bool) -> Result<(Answer, Option<Answer>), Refusal>
         ensures does { (h : History) → Holds self.old h → DoesWith result self.old self.new (do_event event.now h) }
         ensures copy { IfOk result (λ told. told.1 ≡ (if with_copy then Some told.0 else None)) }

@@ -56,6 +56,13 @@ impl Thresholds {
         }
     }
 
+    /// The site's numbers.
+    pub fn config(&self) -> &Config
+        ensures { result.now ≡ self.now }
+    {
+        &self.config
+    }
+
     /// The level after one more event, where `free` frames are free now. It falls to the deepest level
     /// whose threshold `free` is below, any number of levels at once; it rises one level at a time, and
     /// only where `free` is at least the margin above the threshold of the level that it rises to.

@@ -18,7 +18,8 @@ use std::marker::Model;
 #[derive(Drop)]
 pub struct Machine {
     alloc: Global,
-    config: Config,
+    // The site's numbers, with the thresholds that follow from them.
+    thresholds: Thresholds,
     level: Level,
     tables: SiteTables,
 }
@@ -28,9 +29,9 @@ impl Model for Machine {
 
     ghost Value = { Kept };
 
-    ghost view = { λ a. record { config = a.config; level = a.level; tables = a.tables } };
+    ghost view = { λ a. record { config = a.thresholds; level = a.level; tables = a.tables } };
 
-    ghost invariant = { λ a. IsKept (record { config = a.config; level = a.level; tables = a.tables }) };
+    ghost invariant = { λ a. IsKept (record { config = a.thresholds; level = a.level; tables = a.tables }) };
 }
 
 impl Machine {
@@ -61,7 +62,7 @@ impl Machine {
         let tables = SiteTables::open(alloc, &config)?;
         Ok(Machine {
             alloc,
-            config,
+            thresholds: Thresholds::of(config),
             level: Level::High,
             tables,
         })
@@ -72,6 +73,7 @@ impl Machine {
     /// want of memory.
     ///
     /// condition: each machine's epoch can rise
+    #[inline(always)]
     pub fn apply(&mut self, event: &Event) -> Result<(Answer, Record), Refusal>
         requires rise { CanEpochsRise self.old.tables }
         ensures event { (scene : Scene) → Shows self.old scene → Applies result self.old self.new (next self.old.config scene event.now) }
@@ -85,7 +87,7 @@ impl Machine {
         let level = self.level;
         self.tables.exchange_from(&mut changes, false);
         let free = self.tables.counts().free;
-        self.level = Thresholds::of(self.config).next(level, free);
+        self.level = self.thresholds.next(level, free);
         Ok((plan.answer, Record::leading_back(level, changes)))
     }
 
@@ -99,7 +101,7 @@ impl Machine {
         plan(
             &mut self.tables,
             self.alloc,
-            &self.config,
+            self.thresholds.config(),
             self.level,
             event,
         )
@@ -118,7 +120,7 @@ impl Machine {
     pub fn config(&self) -> Config
         ensures { result ≡ self.now.config }
     {
-        self.config
+        *self.thresholds.config()
     }
 
     /// How scarce frames are.

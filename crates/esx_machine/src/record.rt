@@ -89,6 +89,7 @@ impl Model for Record {
 
 impl Record {
     /// What changes left that were made in turn and stand where they stood, with the level that was.
+    #[inline(always)]
     pub fn leading_back(level: Level, changes: Changes) -> Record
         ensures { result ≡ record { level = level; changes = reverse changes } }
     {
@@ -117,6 +118,7 @@ impl Record {
 
 /// Keeps changes that stand where they stood when they were made in turn: in place where they are those of a frequent
 /// event.
+#[inline(always)]
 fn held_of(level: Level, changes: Changes) -> Held
     ensures { held_back result ≡ record { level = level; changes = reverse changes } }
 {

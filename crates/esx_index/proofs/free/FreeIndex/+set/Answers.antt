@@ -32,7 +32,7 @@ invariant_of-self t c =
     let marked = remarked_read _ _ _ _ _ row c.index-before.ensures c.with_mark-word.ensures.same c.with_mark-word.ensures.others in
     let before : c.index-before.result.now ≡ get_or c.self.inside.words.items (c.args.at / 64) 0 = get_or_read _ _ _ row c.index-before.ensures 0 in
     let same : eqb (get_or c.self.inside.words.items (c.args.at / 64) 0) 0 ≡ eqb c.with_mark-word.result 0 =
-        ap (λ v. eqb v 0) (sym before) ∙ same_tests _ _ (ap not c.if-before-word.true) in
+    ap (λ v. eqb v 0) (sym before) ∙ same_tests _ _ (ap not c.if-before-word.true) in
     index_set _ _ _ _ _ _ _ c.self.invariant in_range marked (StandsOver-kept _ _ _ _ same c.self.invariant.over)
 
 pub returns-then-before-word : goal.returns-then-before-word

@@ -1,6 +1,5 @@
 use Rattle.std.proofs.Common.{◌≡◌, ℕ, reverse, refl, sym, ap, subst, ◌∙◌}
 use Rattle.std.specs.List.{count_by}
-use Rattle.esx_types.specs.declared.config.Config.{Config}
 use Rattle.esx_types.specs.Frames.{is_free}
 use Rattle.esx_frames.specs.declared.counts.Counts.{Counts}
 use Rattle.esx_formulas.specs.Level.{next_level}
@@ -18,24 +17,24 @@ returns-in-Err-clause-event c =
 
 pub invariant_of-self : goal.invariant_of-self
 invariant_of-self c =
-    let k : Kept = record { config = c.self.inside.config; level = c.self.inside.level; tables = c.self.inside.tables } in
+    let k : Kept = record { config = c.self.inside.thresholds; level = c.self.inside.level; tables = c.self.inside.tables } in
     let t = c.exchange_from.new.self in
     let level = c.next-self-inside.result in
     let free : c.counts-free.result.free ≡ count_by is_free t.frames = ap (λ (x : Counts). x.free) c.counts-free.ensures in
     let follows : level ≡ next_level k.config k.level (count_by is_free t.frames) =
-    c.next-self-inside.ensures ∙ ap (λ (site : Config). next_level site k.level c.counts-free.result.free) c.of.ensures ∙ ap (λ (n : ℕ). next_level k.config k.level n) free in
+    c.next-self-inside.ensures ∙ ap (λ (n : ℕ). next_level k.config k.level n) free in
     let plan = planned_alike k c.args.self.now c.args.event.now (c.in-Ok.plan.answer, c.in-Ok.plan.changes) (c.self.view_is ∙ c.in-Ok.ensures.same) c.in-Ok.ensures.plans in
     kept_after k c.args.event.now c.in-Ok.plan.answer c.in-Ok.plan.changes t (reverse c.exchange_from.new.back) level c.self.invariant
     (record { named = c.in-Ok.ensures.named; plan = plan; tables = c.exchange_from.ensures.tables; changes = c.exchange_from.ensures.back; follows = follows })
 
 pub returns-clause-event : goal.returns-clause-event
 returns-clause-event c =
-    let k : Kept = record { config = c.self.inside.config; level = c.self.inside.level; tables = c.self.inside.tables } in
+    let k : Kept = record { config = c.self.inside.thresholds; level = c.self.inside.level; tables = c.self.inside.tables } in
     let t = c.exchange_from.new.self in
     let level = c.next-self-inside.result in
     let free : c.counts-free.result.free ≡ count_by is_free t.frames = ap (λ (x : Counts). x.free) c.counts-free.ensures in
     let follows : level ≡ next_level k.config k.level (count_by is_free t.frames) =
-    c.next-self-inside.ensures ∙ ap (λ (site : Config). next_level site k.level c.counts-free.result.free) c.of.ensures ∙ ap (λ (n : ℕ). next_level k.config k.level n) free in
+    c.next-self-inside.ensures ∙ ap (λ (n : ℕ). next_level k.config k.level n) free in
     let plan = planned_alike k c.args.self.now c.args.event.now (c.in-Ok.plan.answer, c.in-Ok.plan.changes) (c.self.view_is ∙ c.in-Ok.ensures.same) c.in-Ok.ensures.plans in
     let P : Kept → Type 0 = λ old. (scene : Scene) → Shows old scene → Accepts old (after k t level) c.in-Ok.plan.answer (back k (reverse c.exchange_from.new.back)) (next old.config scene c.args.event.now) in
     let Q : Back → Type 0 = λ b. (scene : Scene) → Shows c.args.self.now scene → Accepts c.args.self.now (after k t level) c.in-Ok.plan.answer b (next c.args.self.now.config scene c.args.event.now) in
@@ -44,7 +43,7 @@ returns-clause-event c =
 
 pub returns-clause-exchanges : goal.returns-clause-exchanges
 returns-clause-exchanges c =
-    let k : Kept = record { config = c.self.inside.config; level = c.self.inside.level; tables = c.self.inside.tables } in
+    let k : Kept = record { config = c.self.inside.thresholds; level = c.self.inside.level; tables = c.self.inside.tables } in
     let t = c.exchange_from.new.self in
     let level = c.next-self-inside.result in
     let plan = planned_alike k c.args.self.now c.args.event.now (c.in-Ok.plan.answer, c.in-Ok.plan.changes) (c.self.view_is ∙ c.in-Ok.ensures.same) c.in-Ok.ensures.plans in

@@ -7,7 +7,7 @@ use Rattle.esx_machine.proofs.machine.Machine.of_vm.Goals as goal
 
 pub activity-requires : goal.activity-requires
 activity-requires c =
-    let k : Kept = record { config = c.self.inside.config; level = c.self.inside.level; tables = c.self.inside.tables } in
+    let k : Kept = record { config = c.self.inside.thresholds; level = c.self.inside.level; tables = c.self.inside.tables } in
     kept_readable k c.self.invariant
 
 pub returns : goal.returns
