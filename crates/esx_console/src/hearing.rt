@@ -61,6 +61,7 @@ fn unchanged(refusal: Refusal) -> Result<Heard, AllocError>
 }
 
 /// Makes a call. Where memory runs out the journal is as it was.
+#[inline(always)]
 pub fn hear(journal: &mut Journal, alloc: Global, call: &Call) -> Result<Heard, AllocError>
     ensures ok { IfOk result (λ heard. (h : History) → Holds journal.old h → Hears journal.new h call.now heard) }
     ensures asked { OnlyAsks call.now → journal.new ≡ journal.old }

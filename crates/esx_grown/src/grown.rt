@@ -8,13 +8,13 @@ use crate::blank::Blank;
 use std::alloc::{AllocError, Global};
 use std::marker::Model;
 
-/// How many rows come into use at once.
+/// A row that comes into use brings so many less one behind it, as far as there are any.
 const AT_ONCE: usize = 64;
 
-/// Rows, seen as the list of them. Behind the highest that was used all are blank, and no memory of theirs was touched.
+/// Rows, seen as the list of them. Behind those that came into use all are blank, and no memory of theirs was touched.
 ///
-/// The room for all rows is taken by `new`, and no other call takes memory. The first use of a row writes those below it
-/// that were never used, and some behind it.
+/// The room for all rows is taken by `new`, and no other call takes memory. A row that comes into use brings those below
+/// it, and up to 63 behind it.
 #[derive(Drop)]
 pub struct Grown<T: Blank> {
     used: Vec<T>,
@@ -80,7 +80,7 @@ impl<T: Blank> Grown<T> {
         }
     }
 
-    /// The rows that were used, from the first on. All later ones are blank.
+    /// The rows that came into use, from the first on. All later ones are blank.
     pub fn used(&self) -> &[T]
         ensures { self.now ≡ grown T.blank result.now (length self.now) }
     {
@@ -98,7 +98,7 @@ impl<T: Blank> Grown<T> {
     }
 }
 
-/// Uses the rows up to a place, and some behind it, in room that is there.
+/// Brings the rows up to a place into use, and some behind it, in room that is there.
 #[inline]
 fn reach<T: Blank>(used: &mut Vec<T>, at: usize, len: usize)
     requires within { at < len }

@@ -64,7 +64,7 @@ impl FreeIndex {
         Ok(FreeIndex { len, words, above })
     }
 
-    /// Says whether a place is free. The words over a word are told of it only where it gets its first mark or loses its last.
+    /// Says whether a place is free. The index above is told only where the word gets its first mark or loses its last.
     pub fn set(&mut self, at: usize, free: bool)
         requires { at < length self.old }
         ensures { self.new ≡ slice_set self.old at free }

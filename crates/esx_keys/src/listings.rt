@@ -190,8 +190,8 @@ mod tests {
 
         listings.trade(2, &mut Listing::Shared { key: 13 });
         assert_eq!(rt; listings.index.heads.len(), 8);
-        assert_eq!(rt; listings.index.next.used().len(), 3);
-        assert_eq!(rt; listings.index.listings.used().len(), 3);
+        assert_eq!(rt; listings.index.next.used().len(), 5);
+        assert_eq!(rt; listings.index.listings.used().len(), 5);
         Ok(())
     }
 }

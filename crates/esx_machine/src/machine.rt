@@ -3,7 +3,7 @@
 use crate::advice::advise;
 use crate::planning::plan;
 use crate::reading::{activity, page_state};
-pub use crate::record::Record;
+use crate::record::Record;
 use crate::table::table_of;
 use esx_events::{Activity, Answer, Event, Help, PageState, Refusal, Sum, TableRow};
 use esx_level::Thresholds;

@@ -6,7 +6,7 @@ use Rattle.std.proofs.lemmas.Bool.{agree_below_at, eqb-true}
 use Rattle.std.proofs.lemmas.List.{length-map}
 use Rattle.std.proofs.lemmas.Simd.{length-zip2, mask_l-mod}
 use Rattle.hex.specs.Hex.{encode_lower, encode_with, lower_digits, IsBytes}
-use Rattle.esx_reading.specs.Written.{IsDigitsValue}
+use Rattle.esx_reading.specs.Written.{IsDigitValue}
 use mir.Syntax.{w8}
 use mir.Val.{Fits}
 use lib.Lanes.{zip2, Each1, Each2, mask_l, sel_l, top, number_l, digits_l}
@@ -45,13 +45,13 @@ by_right : (b v : ℕ) (t : Bool) → nat_lt v 16 ≡ t → (if t then eqb b (sl
 by_right b v true e right small = eqb-true b (slice_index lower_digits v) right
 by_right b v false e right small = absurd (omega (arith, ltb-false v 16 e))
 
-lane_is : (b : ℕ) → b < 256 → IsDigitsValue b (lane b)
+lane_is : (b : ℕ) → b < 256 → IsDigitValue b (lane b)
 lane_is b fits = record {
   some = by_right b (lane b) (nat_lt (lane b) 16) refl (all_right b fits);
   only = λ v small e. ap lane e ∙ eqb-true (lane (slice_index lower_digits v)) v (digits_read v small);
 }
 
-pub values_are : (n : ℕ) (bs : List ℕ) → length bs ≡ n → Each1 (Fits w8) bs → Each2 IsDigitsValue bs (values n bs)
+pub values_are : (n : ℕ) (bs : List ℕ) → length bs ≡ n → Each1 (Fits w8) bs → Each2 IsDigitValue bs (values n bs)
 values_are n [] long fits = tt
 values_are zero (b ∷ bs) long fits = absurd (omega (arith, long))
 values_are (suc n) (b ∷ bs) long fits = (lane_is b (omega (arith, fits.0.fits)), values_are n bs (omega (arith, long)) fits.1)
@@ -96,7 +96,7 @@ mask_is vs long =
     mask_l-mod lanes 64 (omega (arith, length-map (zip2 below (replicate 16 15) vs) (top 7), length-zip2 below (replicate 16 15) vs (sym long)))
 
 -- a lane that is no digit stands in the way of all bytes
-no_digit : (bytes vs : List ℕ) → length vs ≡ length (encode_lower bytes) → IsBytes bytes → Each2 IsDigitsValue (encode_lower bytes) vs → Each1 (λ v. v < 16) vs
+no_digit : (bytes vs : List ℕ) → length vs ≡ length (encode_lower bytes) → IsBytes bytes → Each2 IsDigitValue (encode_lower bytes) vs → Each1 (λ v. v < 16) vs
 unfolding encode_with
 no_digit bytes [] long are each = tt
 no_digit [] (v ∷ vs) long are each = absurd (omega (arith, long))
@@ -107,9 +107,9 @@ no_digit (b ∷ bytes) (v ∷ w ∷ vs) long are each =
     let low = each.1.0.only (b % 16) (omega arith) refl in
     (omega (arith, high, fits), (omega (arith, low), no_digit bytes vs (omega (arith, long)) (λ i. are (suc i)) each.1.1))
 
-pub no_bytes : (ds vs bytes : List ℕ) → length ds ≡ 16 → length vs ≡ 16 → Each2 IsDigitsValue ds vs → (told vs ≡ 0 → ⊥) → IsBytes bytes → encode_lower bytes ≡ ds → ⊥
+pub no_bytes : (ds vs bytes : List ℕ) → length ds ≡ 16 → length vs ≡ 16 → Each2 IsDigitValue ds vs → (told vs ≡ 0 → ⊥) → IsBytes bytes → encode_lower bytes ≡ ds → ⊥
 no_bytes ds vs bytes long lanes each some are e =
-    let small = no_digit bytes vs (lanes ∙ sym long ∙ ap length (sym e)) are (subst (λ l. Each2 IsDigitsValue l vs) (sym e) each) in
+    let small = no_digit bytes vs (lanes ∙ sym long ∙ ap length (sym e)) are (subst (λ l. Each2 IsDigitValue l vs) (sym e) each) in
     some (mask_is vs lanes ∙ no_mask 16 vs lanes small)
 
 -- sixteen times each even lane and the lane behind it
@@ -141,7 +141,7 @@ are_bytes (x ∷ []) small i = lit< tt
 are_bytes (x ∷ y ∷ vs) small zero = omega (arith, small.0, small.1.0)
 are_bytes (x ∷ y ∷ vs) small (suc i) = are_bytes vs small.1.1 i
 
-are_theirs : (n : ℕ) (ds vs : List ℕ) → length ds ≡ n + n → length vs ≡ n + n → Each2 IsDigitsValue ds vs → Each1 (λ v. v < 16) vs → encode_lower (pairs_of vs) ≡ ds
+are_theirs : (n : ℕ) (ds vs : List ℕ) → length ds ≡ n + n → length vs ≡ n + n → Each2 IsDigitValue ds vs → Each1 (λ v. v < 16) vs → encode_lower (pairs_of vs) ≡ ds
 unfolding encode_with
 are_theirs zero [] [] long lanes each small = refl
 are_theirs zero (d ∷ ds) vs long lanes each small = absurd (omega (arith, long))
@@ -155,7 +155,7 @@ are_theirs (suc n) (d ∷ e ∷ ds) (x ∷ y ∷ vs) long lanes each small =
     let second : (x * 16 + y) % 16 ≡ y = omega (arith, small.1.0) in
     rw (first, second, ← each.0.some small.0, ← each.1.0.some small.1.0, are_theirs n ds vs (omega (arith, long)) (omega (arith, lanes)) each.1.1 small.1.1) refl
 
-pub eight_are : (ds vs : List ℕ) → length ds ≡ 16 → length vs ≡ 16 → Each2 IsDigitsValue ds vs → told vs ≡ 0
+pub eight_are : (ds vs : List ℕ) → length ds ≡ 16 → length vs ≡ 16 → Each2 IsDigitValue ds vs → told vs ≡ 0
     → IsBytes (map joined (digits_l 65536 8 (number_l 256 vs))) × (encode_lower (map joined (digits_l 65536 8 (number_l 256 vs))) ≡ ds)
 eight_are ds vs long lanes each none =
     let small = small_lanes 16 vs lanes (sym (mask_is vs lanes) ∙ none) in

@@ -10,6 +10,6 @@ pub record IsWritten (bytes : List ℕ) : Type 0 where
   pub are_bytes : IsBytes bytes
 
 -- what a byte is worth as a digit in lower case, and 16 or more where it is none
-pub record IsDigitsValue (byte value : ℕ) : Type 0 where
+pub record IsDigitValue (byte value : ℕ) : Type 0 where
   pub some : value < 16 → byte ≡ slice_index lower_digits value
   pub only : (v : ℕ) → v < 16 → byte ≡ slice_index lower_digits v → value ≡ v

@@ -3,7 +3,7 @@
 ghost use Rattle.std.specs.Prelude.{◌≡◌, List, ℕ, length, IfSome, IfNone};
 ghost use Rattle.std.specs.Simd.Lanes.{Each2};
 ghost use Rattle.hex.specs.Hex.{encode_lower, IsBytes};
-ghost use Rattle.esx_reading.specs.Written.{IsDigitsValue};
+ghost use Rattle.esx_reading.specs.Written.{IsDigitValue};
 
 use std::simd::prelude::*;
 
@@ -13,14 +13,14 @@ use std::simd::prelude::*;
 #[inline(always)]
 fn hex_values(bytes: u8x16) -> u8x16
     ensures lanes { length result ≡ 16 }
-    ensures values { Each2 IsDigitsValue bytes result }
+    ensures values { Each2 IsDigitValue bytes result }
 {
     let digits = bytes - u8x16::splat(b'0');
     let letters = (bytes - u8x16::splat(b'a')).simd_min(u8x16::splat(245)) + u8x16::splat(10);
     digits.simd_lt(u8x16::splat(10)).select(digits, letters)
 }
 
-/// The eight bytes of sixteen digits, two digits a byte.
+/// The eight bytes of sixteen digits in lower case, two digits a byte; none where one is no such digit.
 ///
 /// The factor is 16 * 256 + 1: the upper byte of each product joins two digits.
 #[inline(always)]

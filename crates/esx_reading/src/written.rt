@@ -15,7 +15,8 @@ pub const MAX_DIGITS: usize = 2 * MAX_PAGE as usize;
 /// Stands for a byte that is no digit.
 const NONE: u16 = 256;
 
-/// What each byte is worth as the first of two digits in hex, in lower case.
+/// What each byte is worth as the first of two digits in hex, in lower case. The pairs that are left over behind the last
+/// sixteen digits are read by this table and the next; most fields are shorter than that.
 const HIGH: [u16; 256] = [
     NONE, NONE, NONE, NONE, NONE, NONE, NONE, NONE, NONE, NONE, NONE, NONE, NONE, NONE, NONE, NONE,
     NONE, NONE, NONE, NONE, NONE, NONE, NONE, NONE, NONE, NONE, NONE, NONE, NONE, NONE, NONE, NONE,

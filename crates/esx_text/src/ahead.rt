@@ -25,9 +25,9 @@ impl Ahead {
         Ahead { lines: 0, seen: 0 }
     }
 
-    /// The first line of a text is to be answered. Where it is an access that was not looked at, it is looked at now, and
-    /// so are the accesses among the lines behind it, whose ends wait from then on. Where few frames are in use nothing
-    /// is looked at.
+    /// A text is to be answered, as far as it has lines. Unless ends wait, and where it begins with an access, the accesses
+    /// among its next lines are looked at, and the ends of these lines wait from then on. Where few frames are in use
+    /// nothing is looked at.
     #[inline]
     pub fn look<L: Log>(&mut self, console: &Console<L>, ends: &mut LineEnds, text: &[u8])
         requires { HasLines text.now ends.old }

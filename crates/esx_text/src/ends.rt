@@ -6,7 +6,7 @@ ghost use Rattle.esx_text.specs.Lines.{EndsAt, HasLines, HasNoFeed};
 use crate::line::line_end;
 use std::marker::Model;
 
-/// How many ends are found at once at most.
+/// How many ends are found at once at most, and for how many lines a site with few frames in use is not asked again.
 pub const LINES: usize = 16;
 
 /// The lines whose ends were found, seen as the list of their lengths.
@@ -54,7 +54,8 @@ impl LineEnds {
         self.next == self.found
     }
 
-    /// Finds the first end of a rest, behind those that wait, where there is room for it.
+    /// Finds the end of the first line of a rest, and lets it wait behind the others. None where `LINES` were found since
+    /// `clear`, or where there is no line feed.
     pub fn find(&mut self, rest: &[u8]) -> Option<usize>
         ensures { MatchOption result (self.new ≡ self.old) (λ at. EndsAt rest.now at × (self.new ≡ self.old ++ at ∷ [])) }
     {
@@ -67,7 +68,7 @@ impl LineEnds {
         Some(at)
     }
 
-    /// The first end of a text, off those that wait for it.
+    /// The end of the first line of a text: the first of those that wait, or else one that is looked for now.
     #[inline]
     pub fn next(&mut self, text: &[u8]) -> Option<usize>
         requires { HasLines text.now self.old }

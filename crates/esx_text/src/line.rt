@@ -20,7 +20,7 @@ pub enum Input<'a> {
 }
 
 impl<'a> Input<'a> {
-    /// Bytes as text, where they are one.
+    /// Bytes, as text where they are text.
     pub fn of(bytes: &'a [u8]) -> Input<'a>
         ensures { input_bytes result ≡ bytes.now }
     {
@@ -40,7 +40,7 @@ impl<'a> Input<'a> {
         }
     }
 
-    /// The text. It tests the bytes, where nothing is known of them.
+    /// The text, where the bytes are one. It tests them only where that is not known.
     pub fn text(self) -> Option<&'a str>
         ensures { MatchOption result (IsUtf8 (input_bytes self.entry) → ⊥) (λ text. text.now ≡ input_bytes self.entry) }
     {
@@ -50,7 +50,7 @@ impl<'a> Input<'a> {
         }
     }
 
-    /// What stands before the first line feed, and what behind it.
+    /// What stands before the first line feed, which is at `at`, and what behind it.
     pub fn split_at_end(self, at: usize) -> (Input<'a>, Input<'a>)
         requires { EndsAt (input_bytes self) at }
         ensures piece { input_bytes result.0 ≡ take at (input_bytes self.entry) }
@@ -89,7 +89,7 @@ pub fn line_end(bytes: &[u8]) -> Option<usize>
     memchr(b'\n', bytes)
 }
 
-/// The text before the first line feed, and that behind it.
+/// The text before the first line feed, which is at `at`, and that behind it.
 fn split_text(text: &str, at: usize) -> (&str, &str)
     requires { EndsAt text.now at }
     ensures piece { result.0.now ≡ take at text.now }
