@@ -44,6 +44,7 @@ pub fn revert(machine: &mut Machine, mut back: Record)
 
 /// Adds a child under a node, and hands the answer on, with a copy where one is wanted. Where memory runs out it gives
 /// the record back.
+#[inline(always)]
 pub fn add_child(
     rows: &mut Rows,
     at: u32,
@@ -69,6 +70,7 @@ pub fn add_child(
 }
 
 /// An answer, with a copy where one is wanted.
+#[inline(always)]
 fn told(answer: Answer, with_copy: bool) -> Result<(Answer, Option<Answer>), AllocError>
     ensures { IfOk result (λ told. told ≡ (answer, (if with_copy then Some answer else None))) }
 {

@@ -92,6 +92,7 @@ impl Machine {
     }
 
     /// The plan of an event. What is kept while it is made is seen in no table.
+    #[inline(always)]
     fn plan(&mut self, event: &Event) -> Result<Plan, Refusal>
         requires { CanEpochsRise self.old.tables }
         ensures plans { Plans result (plan_of self.old.config self.old.tables self.old.level event.now) }

@@ -83,6 +83,7 @@ fn swap_out_with_key(
 
 /// The first refusal that applies, or the answer of an event and the changes that make it. What is kept meanwhile is seen
 /// in no table; no other event needs a key that may be kept or looks at a period page by page.
+#[inline(always)]
 pub fn plan(
     tables: &mut SiteTables,
     alloc: Global,

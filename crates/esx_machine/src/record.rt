@@ -231,6 +231,7 @@ fn found_coming(changes: &[Change]) -> Option<Coming>
 }
 
 /// Takes the row of the frame that the first change is at; a free one where there is none.
+#[inline(always)]
 fn taken_row(changes: &mut Vec<Change>) -> FrameRow
     ensures { (frame : ℕ) (row : FrameRow) (rest : List Change) → changes.old.items ≡ FrameAt frame row ∷ rest → result ≡ row }
 {

@@ -62,6 +62,7 @@ fn place_call(verb: PlaceVerb, vm: VmId, page: u32) -> Call
 }
 
 /// The call whose operands are left, if they are those of one.
+#[inline(always)]
 fn operands_of(alloc: Global, verb: Verb, fields: &mut Fields) -> Result<Option<Call>, AllocError>
     ensures found { IfOk result (λ found. IfSome found (λ call. IsInRange call × (verb_word verb ∷ fields.old ≡ words_of call))) }
     ensures only { IfOk result (λ found. IfNone found ((x : Operands (verb_form verb)) → AreOperands (verb_form verb) x
@@ -104,6 +105,7 @@ fn operands_of(alloc: Global, verb: Verb, fields: &mut Fields) -> Result<Option<
 }
 
 /// The call whose fields these are, if they are those of one.
+#[inline(always)]
 fn call_of(alloc: Global, fields: &mut Fields) -> Result<Option<Call>, AllocError>
     ensures found { IfOk result (λ found. IfSome found (λ call. IsInRange call × (fields.old ≡ words_of call))) }
     ensures only { IfOk result (λ found. IfNone found ((call : Call) → IsInRange call → fields.old ≡ words_of call → ⊥)) }

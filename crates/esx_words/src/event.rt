@@ -42,6 +42,7 @@ fn place_event(verb: PlaceEvent, vm: VmId, page: u32) -> Event
 }
 
 /// The event whose operands are left, if they are those of one.
+#[inline(always)]
 pub fn event_of(
     alloc: Global,
     verb: EventVerb,

@@ -11,6 +11,7 @@ use esx_events::{Event, Said};
 use esx_journal::Journal;
 use std::alloc::AllocError;
 
+#[inline(always)]
 pub fn hear_event(journal: &mut Journal, event: &Event) -> Result<Heard, AllocError>
     ensures ok { IfOk result (λ heard. (h : History) → Holds journal.old h → Hears journal.new h (calls.Do event.now) heard) }
     ensures err { (h : History) → Holds journal.old h → OnErr result (journal.new ≡ journal.old) }
