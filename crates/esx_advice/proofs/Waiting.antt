@@ -9,7 +9,7 @@ use Rattle.esx_events.specs.declared.call.Help.TheVariants as helps
 use Rattle.esx_events.specs.declared.event.Answer.{Answer}
 use Rattle.esx_events.specs.declared.event.Answer.TheVariants as answers
 use Rattle.esx_events.specs.declared.event.Event.{Event}
-use Rattle.esx_events.specs.declared.event.Event.TheVariants.{Admit, Start, Read, Write, Ask, Lend, TakeBack, Sample, Rebalance, Scan, SwapOut, Replace, SetShares, SetTax, Stop, DropPage, Gone}
+use Rattle.esx_events.specs.declared.event.Event.TheVariants.{Admit, Start, Read, Write, Ask, Lend, TakeBack, Sample, Rebalance, Scan, SwapOut, Replace, SetShares, SetTax, SetVmTax, Stop, DropPage, Gone}
 use Rattle.esx_events.specs.declared.event.Refusal.{Refusal}
 use Rattle.esx_events.specs.declared.event.Refusal.TheVariants.{NotRunning, OutOfRange, Held}
 use Rattle.esx_formulas.specs.Targets.{first_claim}
@@ -122,6 +122,7 @@ wait_advised c t n page (SwapOut vm word) why is h p = absurd is
 wait_advised c t n page (Replace vm own word) why is h p = absurd is
 wait_advised c t n page (SetShares vm shares) why is h p = absurd is
 wait_advised c t n page (SetTax tau) why is h p = absurd is
+wait_advised c t n page (SetVmTax vm tau) why is h p = absurd is
 wait_advised c t n page (Stop vm) why is h p = absurd is
 wait_advised c t n page (DropPage vm own) why is h p = absurd is
 wait_advised c t n page (Gone vm) why is h p = absurd is

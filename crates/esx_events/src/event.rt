@@ -74,8 +74,13 @@ pub enum Event {
         vm: VmId,
         shares: u32,
     },
-    /// The idle memory tax, in percent.
+    /// The idle memory tax of the site, in percent.
     SetTax {
+        tau: u32,
+    },
+    /// The idle memory tax of a machine, in percent, from now on its own.
+    SetVmTax {
+        vm: VmId,
         tau: u32,
     },
     /// The machine runs no more, and is taken apart.
@@ -161,6 +166,7 @@ impl Event {
                 shares: *shares,
             }),
             Event::SetTax { tau } => Ok(Event::SetTax { tau: *tau }),
+            Event::SetVmTax { vm, tau } => Ok(Event::SetVmTax { vm: *vm, tau: *tau }),
             Event::Stop { vm } => Ok(Event::Stop { vm: *vm }),
             Event::DropPage { vm, page } => Ok(Event::DropPage {
                 vm: *vm,

@@ -7,6 +7,7 @@ pub mod boxed;
 pub mod call;
 pub mod event;
 pub mod events;
+pub mod limits;
 pub mod name;
 
 pub use boxed::Boxed;
@@ -15,4 +16,5 @@ pub use call::{
 };
 pub use event::{Answer, Event, Refusal, Reserves, Scanned};
 pub use events::Events;
+pub use limits::has_call;
 pub use name::Name;

@@ -1,13 +1,19 @@
--- The order of ratios: it is total, chains, and knows two machines apart; and fewer pages come later.
-use Rattle.std.proofs.Common.{◌≡◌, ℕ, ◌-◌, ◌*◌, ◌<◌, ◌≤◌, ◌⊎◌, inl, inr, arith}
+-- The tax that a machine pays, and the order of ratios: it is total, chains, and knows two machines apart; and fewer pages come later.
+use Rattle.std.proofs.Common.{◌≡◌, ℕ, ◌-◌, ◌*◌, ◌<◌, ◌≤◌, ◌⊎◌, inl, inr, arith, Option, Some, None}
 use Rattle.std.proofs.lemmas.Bool.{cases_lt}
 use Rattle.std.proofs.Math.Nat.{mul-le-mul, mul-le-mul_left, mul-le-mul_right, mul-lt-mul_of_pos_right}
 use Rattle.esx_types.specs.declared.config.TheConstants.{MAX_TAU}
+use Rattle.esx_types.specs.Ranges.{IsTax}
 use Rattle.esx_formulas.specs.declared.targets.Row.{Row}
 use Rattle.esx_formulas.specs.declared.activity.TheConstants.{WHOLE}
 use Rattle.esx_formulas.specs.declared.ratio.TheConstants.{WHOLE_PRICE}
-use Rattle.esx_formulas.specs.Ratio.{Claim, claim, ComesNoLater, IsRow}
+use Rattle.esx_formulas.specs.Ratio.{tax_of, Claim, claim, ComesNoLater, IsRow}
 use Rattle.esx_formulas.proofs.Fractions.{cross_chain, cross_tie_first, cross_tie_last}
+
+-- what a machine pays is a tax
+pub tax_most : (common : ℕ) (own : Option ℕ) → common ≤ MAX_TAU → IsTax own → tax_of common own ≤ MAX_TAU
+tax_most common None low good = low
+tax_most common (Some tau) low good = good
 
 pub no_later_self : (a : Claim) → ComesNoLater a a
 no_later_self a = record { ratio = omega arith; tie = λ e. omega arith }

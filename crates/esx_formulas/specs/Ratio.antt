@@ -1,9 +1,14 @@
 -- Who pays for the next page: shares per page, where an idle page costs more (Waldspurger, "Reclaiming Idle Memory").
-use Rattle.std.specs.Prelude.{◌≡◌, ℕ, ◌-◌, ◌*◌, ◌≤◌, ◌<◌, List, length, slice_index_or}
+use Rattle.std.specs.Prelude.{◌≡◌, ℕ, ◌-◌, ◌*◌, ◌≤◌, ◌<◌, List, length, slice_index_or, Option, Some, None}
 use Rattle.esx_types.specs.declared.config.TheConstants.{MAX_PAGES, MAX_SHARES, MAX_TAU, VM_NUMBERS}
 use Rattle.esx_formulas.specs.declared.targets.Row.{Row}
 use Rattle.esx_formulas.specs.declared.activity.TheConstants.{WHOLE}
 use Rattle.esx_formulas.specs.declared.ratio.TheConstants.{WHOLE_PRICE}
+
+-- the tax that a machine pays: its own, or else the site's
+abbrev pub tax_of : ℕ → Option ℕ → ℕ
+tax_of common None = common
+tax_of common (Some own) = own
 
 -- A fraction that a virtual machine is judged by.
 pub record Claim : Type 0 where

@@ -18,6 +18,6 @@ pub mod targets;
 mod tests;
 
 pub use activity::{Estimate, Period};
-pub use key::content_key;
+pub use key::{content_key, hint_key, short_of};
 pub use ratio::least_ratio;
 pub use targets::{Row, are_rows};

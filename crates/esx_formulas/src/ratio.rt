@@ -1,8 +1,9 @@
 //! Which virtual machine gives up the next page.
 
 ghost use Rattle.std.specs.Prelude.{◌≡◌, ◌-◌, ◌*◌, ◌≤◌, ◌↔◌, IsTrue, MatchOption, option_map, length};
-ghost use Rattle.esx_types.specs.declared.config.TheConstants.{MAX_PAGES, MAX_SHARES};
-ghost use Rattle.esx_formulas.specs.Ratio.{claim, ComesNoLater, IsRow, AreRows, AreAtFloor, HasLeastRatio, row_at};
+ghost use Rattle.esx_types.specs.declared.config.TheConstants.{MAX_PAGES, MAX_SHARES, MAX_TAU};
+ghost use Rattle.esx_types.specs.Ranges.{IsTax};
+ghost use Rattle.esx_formulas.specs.Ratio.{tax_of, claim, ComesNoLater, IsRow, AreRows, AreAtFloor, HasLeastRatio, row_at};
 ghost use Rattle.esx_formulas.specs.Targets.{first_claim};
 ghost use Rattle.esx_formulas.specs.Payers.{IsBestBelow};
 
@@ -12,6 +13,17 @@ use esx_types::VmId;
 
 /// What a page costs of a machine that uses none of its memory or pays no tax: all of it, in hundredths.
 pub const WHOLE_PRICE: u64 = 100 * WHOLE as u64;
+
+/// The tax that a machine pays: its own, or else the site's.
+pub fn tax_of(common: u32, own: Option<u32>) -> u32
+    ensures value { result ≡ tax_of common own }
+    ensures most { common ≤ MAX_TAU → IsTax own → result ≤ MAX_TAU }
+{
+    match own {
+        None => common,
+        Some(tau) => tau,
+    }
+}
 
 /// The machine of least ratio among those with pages above their floor, each at its own tax: the next page
 /// is taken from it. Of equal ratios the lower machine's is the less. It is none where no machine has pages

@@ -8,7 +8,7 @@ use Rattle.esx_types.specs.declared.level.Level.{Level}
 use Rattle.esx_events.specs.declared.event.Answer.{Answer}
 use Rattle.esx_events.specs.declared.event.Answer.TheVariants as answers
 use Rattle.esx_events.specs.declared.event.Event.{Event}
-use Rattle.esx_events.specs.declared.event.Event.TheVariants.{Admit, Start, Read, Write, Ask, Lend, TakeBack, Sample, Rebalance, Scan, SwapOut, Replace, SetShares, SetTax, Stop, DropPage, Gone}
+use Rattle.esx_events.specs.declared.event.Event.TheVariants.{Admit, Start, Read, Write, Ask, Lend, TakeBack, Sample, Rebalance, Scan, SwapOut, Replace, SetShares, SetTax, SetVmTax, Stop, DropPage, Gone}
 use Rattle.esx_model.specs.declared.scene.Site.{Site}
 use Rattle.esx_model.specs.declared.scene.Scene.{Scene}
 use Rattle.esx_model.specs.Step.{step}
@@ -27,7 +27,7 @@ use Rattle.esx_isolation.proofs.event.Balloon.{ask_turns, lend_turns, take_back_
 use Rattle.esx_isolation.proofs.event.Sharing.{scan_turns}
 use Rattle.esx_isolation.proofs.event.Paging.{swap_out_turns}
 use Rattle.esx_isolation.proofs.event.Leaving.{stop_turns, drop_page_turns, gone_turns}
-use Rattle.esx_isolation.proofs.event.Others.{admit_turns, admit_nobody, start_turns, sample_turns, set_shares_turns, set_tax_keeps, rebalance_keeps}
+use Rattle.esx_isolation.proofs.event.Others.{admit_turns, admit_nobody, start_turns, sample_turns, set_shares_turns, set_tax_keeps, set_vm_tax_turns, rebalance_keeps}
 
 admit_any : (c : Config) (s : Site) (n : ℕ) (spec : VmSpec) (r : Answer × Site) (m : ℕ) → IsSound c s → m < VM_NUMBERS → admit c s n spec ≡ Ok r → memory_at c r.1 m ≡ memory_after c m (Admit n spec) (memory_at c s m)
 unfolding memory_after
@@ -53,6 +53,7 @@ every_step_turns c s level (SwapOut n word) r m sound low h = swap_out_turns c s
 every_step_turns c s level (Replace n page word) r m sound low h = replace_turns c s n page word r h m
 every_step_turns c s level (SetShares n shares) r m sound low h = set_shares_turns c s n shares r h m
 every_step_turns c s level (SetTax tau) r m sound low h = set_tax_keeps c s tau r h m
+every_step_turns c s level (SetVmTax n tau) r m sound low h = set_vm_tax_turns c s n tau r h m
 every_step_turns c s level (Stop n) r m sound low h = stop_turns c s n r h m
 every_step_turns c s level (DropPage n page) r m sound low h = drop_page_turns c s n page r h m
 every_step_turns c s level (Gone n) r m sound low h = gone_turns c s n r h m
@@ -88,6 +89,7 @@ left_out c (SwapOut n word) o h = refl
 left_out c (Replace n page word) o h = cc
 left_out c (SetShares n shares) o h = refl
 left_out c (SetTax tau) o h = refl
+left_out c (SetVmTax n tau) o h = refl
 left_out c (Stop n) o h = cc
 left_out c (DropPage n page) o h = cc
 left_out c (Gone n) o h = cc

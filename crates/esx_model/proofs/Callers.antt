@@ -23,7 +23,7 @@ pub use Rattle.esx_model.proofs.Rooms.{IsUnused, least_unused, slot_unused, IsIn
 -- Sites after one machine changed, or one page went to another place.
 pub use Rattle.esx_model.proofs.Kept.{Becomes, row_only, placed_sound, placed_is, placed_at, site_with, site_at, with_change_is, vm_there, vm_placed_there, place_changed, places_same, overhead_same, page_is_in}
 pub use Rattle.esx_model.proofs.HintsKept.{hints_placed, hints_stay, hints_where, hints_more, no_hint, other_hint_private, all_filter}
-pub use Rattle.esx_model.proofs.Keys.{key_small}
+pub use Rattle.esx_model.proofs.Keys.{key_small, short_small}
 pub use Rattle.esx_model.proofs.OnePage.{one_page, one_hint, nothing_passes}
 -- The tables of those sites.
 pub use Rattle.esx_model.proofs.Shown.{row_by, row_same, row_clear, out_row_same, listing_is, shown_by, row_only_shown}

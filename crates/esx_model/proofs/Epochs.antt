@@ -11,7 +11,7 @@ use Rattle.esx_types.specs.declared.level.Level.TheVariants.{High, Soft, Hard, L
 use Rattle.esx_events.specs.declared.event.Answer.{Answer}
 use Rattle.esx_events.specs.declared.event.Answer.TheVariants as answers
 use Rattle.esx_events.specs.declared.event.Event.{Event}
-use Rattle.esx_events.specs.declared.event.Event.TheVariants.{Admit, Start, Read, Write, Ask, Lend, TakeBack, Sample, Rebalance, Scan, SwapOut, Replace, SetShares, SetTax, Stop, DropPage, Gone}
+use Rattle.esx_events.specs.declared.event.Event.TheVariants.{Admit, Start, Read, Write, Ask, Lend, TakeBack, Sample, Rebalance, Scan, SwapOut, Replace, SetShares, SetTax, SetVmTax, Stop, DropPage, Gone}
 use Rattle.esx_formulas.specs.declared.activity.Period.{Period}
 use Rattle.esx_formulas.specs.Targets.{targets_of}
 use Rattle.esx_model.specs.declared.look.Look.{Look}
@@ -32,7 +32,7 @@ use Rattle.esx_model.specs.event.Starting.{start_gate, with_overhead, take_overh
 use Rattle.esx_model.specs.event.Access.{access_gate, overwritten, read_frame, write_frame, after_access, settle, read, write}
 use Rattle.esx_model.specs.event.Balloon.{is_lent, popped, unless_due, lend_gate, take_back_gate, ask, lend, take_back}
 use Rattle.esx_model.specs.event.Sampling.{sample_gate, opened_period, counted_in, counted, sample}
-use Rattle.esx_model.specs.event.Rebalancing.{min_of, rows_of, with_targets, at_max, need, share_out, rebalance, shares_gate, set_shares, tax_gate, set_tax}
+use Rattle.esx_model.specs.event.Rebalancing.{min_of, rows_of, with_targets, at_max, need, share_out, rebalance, shares_gate, set_shares, tax_gate, set_tax, set_vm_tax}
 use Rattle.esx_model.specs.event.Sharing.{look, after_look, scan_gate, scan}
 use Rattle.esx_model.specs.event.Paging.{victim, swap_out_gate, to_slot, leave_by, leave, swap_out, is_above_min, replace_gate, freed_slot, trade, trade_for, replace}
 use Rattle.esx_model.specs.event.Leaving.{stop_gate, stop, drop_gate, drop_page, gone_gate, without_last, gone}
@@ -237,6 +237,15 @@ set_tax_within k s tau r within h =
     let pass = passed (tax_gate tau) _ r h in
     leads k answers.Done (record s { tau = tau }) r pass.1 within
 
+set_vm_tax_within : (k : ℕ) (s : Site) (n tau : ℕ) (r : Answer × Site) → AreEpochsWithin k s → set_vm_tax s n tau ≡ Ok r → AreEpochsWithin k r.1
+unfolding set_vm_tax
+set_vm_tax_within k s n tau r within h =
+    let m = of_vm (vm_at s n) _ r h in
+    let v = m.vm in
+    let pass = passed (tax_gate tau) _ r m.then in
+    let w : Vm = record v { spec = record v.spec { tau = Some tau } } in
+    leads k answers.Done (with_vm s n w) r pass.1 (with_row k s n w within (epoch_at k s n v within m.there))
+
 looked_within : (k : ℕ) (s : Site) (n page : ℕ) (bytes : List ℕ) (l : Look) → AreEpochsWithin k s → AreEpochsWithin k (after_look s n page bytes l)
 looked_within k s n page bytes Already within = within
 looked_within k s n page bytes (SharedFrame f) within = moved k s n page (places.Here bytes f true) within
@@ -347,6 +356,7 @@ step_within k c s level (SwapOut n word) r within h = swap_out_within (k + 1) c 
 step_within k c s level (Replace n page word) r within h = replace_within (k + 1) c s n page word r (later k s within) h
 step_within k c s level (SetShares n shares) r within h = set_shares_within (k + 1) s n shares r (later k s within) h
 step_within k c s level (SetTax tau) r within h = set_tax_within (k + 1) s tau r (later k s within) h
+step_within k c s level (SetVmTax n tau) r within h = set_vm_tax_within (k + 1) s n tau r (later k s within) h
 step_within k c s level (Stop n) r within h = stop_within (k + 1) s n r (later k s within) h
 step_within k c s level (DropPage n page) r within h = drop_page_within (k + 1) s n page r (later k s within) h
 step_within k c s level (Gone n) r within h = gone_within (k + 1) s n r (later k s within) h

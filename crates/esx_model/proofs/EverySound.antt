@@ -6,7 +6,7 @@ use Rattle.esx_types.specs.Ranges.{IsConfig}
 use Rattle.esx_types.specs.declared.level.Level.{Level}
 use Rattle.esx_events.specs.declared.event.Answer.{Answer}
 use Rattle.esx_events.specs.declared.event.Event.{Event}
-use Rattle.esx_events.specs.declared.event.Event.TheVariants.{Admit, Start, Read, Write, Ask, Lend, TakeBack, Sample, Rebalance, Scan, SwapOut, Replace, SetShares, SetTax, Stop, DropPage, Gone}
+use Rattle.esx_events.specs.declared.event.Event.TheVariants.{Admit, Start, Read, Write, Ask, Lend, TakeBack, Sample, Rebalance, Scan, SwapOut, Replace, SetShares, SetTax, SetVmTax, Stop, DropPage, Gone}
 use Rattle.esx_model.specs.declared.scene.Vm.{Vm}
 use Rattle.esx_model.specs.declared.scene.Site.{Site}
 use Rattle.esx_model.specs.declared.scene.Scene.{Scene}
@@ -20,7 +20,7 @@ use Rattle.esx_model.proofs.event.Starting.{start_sound}
 use Rattle.esx_model.proofs.event.Access.{read_sound, write_sound}
 use Rattle.esx_model.proofs.event.Balloon.{ask_sound, lend_sound, take_back_sound}
 use Rattle.esx_model.proofs.event.Sampling.{sample_sound}
-use Rattle.esx_model.proofs.event.Rebalancing.{rebalance_sound, set_shares_sound, set_tax_sound}
+use Rattle.esx_model.proofs.event.Rebalancing.{rebalance_sound, set_shares_sound, set_tax_sound, set_vm_tax_sound}
 use Rattle.esx_model.proofs.event.Sharing.{scan_sound}
 use Rattle.esx_model.proofs.event.Paging.{swap_out_sound}
 use Rattle.esx_model.proofs.event.Replacing.{replace_sound}
@@ -43,6 +43,7 @@ every_step_sound c s level (SwapOut n word) r sound h = swap_out_sound c s level
 every_step_sound c s level (Replace n page word) r sound h = replace_sound c s n page word r sound h
 every_step_sound c s level (SetShares n shares) r sound h = set_shares_sound c s n shares r sound h
 every_step_sound c s level (SetTax tau) r sound h = set_tax_sound c s tau r sound h
+every_step_sound c s level (SetVmTax n tau) r sound h = set_vm_tax_sound c s n tau r sound h
 every_step_sound c s level (Stop n) r sound h = stop_sound c s n r sound h
 every_step_sound c s level (DropPage n page) r sound h = drop_page_sound c s n page r sound h
 every_step_sound c s level (Gone n) r sound h = gone_sound c s n r sound h

@@ -5,7 +5,8 @@ use Rattle.std.proofs.lemmas.Bool.Decides.{nat_tests}
 use Rattle.esx_types.specs.declared.table.Hint.{Hint}
 use Rattle.esx_model.specs.declared.scene.Place.{Place}
 use Rattle.esx_model.specs.Places.{is_private}
-use Rattle.esx_model.specs.Hints.{IsHintKey, is_hint_of, without_hint, in_order, with_hint, hints_at, other_hint}
+use Rattle.esx_formulas.specs.Key.{IsShort}
+use Rattle.esx_model.specs.Hints.{is_hint_of, without_hint, in_order, with_hint, hints_at, other_hint}
 use Rattle.esx_model.specs.sound.Hints.{AreOrdered, AreHints}
 use Rattle.esx_model.proofs.Lists.{all_map, all_middle, find_passes, find_in, one}
 
@@ -76,7 +77,7 @@ placed_by at after n page q hints fine here others false e =
       ordered = ordered_filter p hints fine.ordered;
       one = λ m k. (let few = fewer (is_hint_of m k) p hints in let old = fine.one m k in omega (arith, few, old));
       private = all_filter (λ (h : Hint). is_private (at h.vm h.page) ≡ true) (λ (h : Hint). is_private (after h.vm h.page) ≡ true) p (λ h other old. ap is_private (others h.vm h.page (not_it (is_hint_of n page h) other)) ∙ old) hints fine.private;
-      keys = all_filter (λ (h : Hint). IsHintKey h.key) (λ (h : Hint). IsHintKey h.key) p (λ h e k. k) hints fine.keys;
+      keys = all_filter (λ (h : Hint). IsShort h.key) (λ (h : Hint). IsShort h.key) p (λ h e k. k) hints fine.keys;
     }
 
 -- where it is private in a frame its hint stays, else it ends
@@ -169,18 +170,18 @@ kept_page new h e = of (h.key == new.key) (is_hint_of new.vm new.page h) e
     of false true k = cc
     of false false k = refl
 
-pub hints_more : (at : ℕ → ℕ → Place) (new : Hint) (hints : List Hint) → AreHints at hints → is_private (at new.vm new.page) ≡ true → IsHintKey new.key → AreHints at (with_hint new hints)
+pub hints_more : (at : ℕ → ℕ → Place) (new : Hint) (hints : List Hint) → AreHints at hints → is_private (at new.vm new.page) ≡ true → IsShort new.key → AreHints at (with_hint new hints)
 unfolding kept_test
 hints_more at new hints fine here key =
     let p = kept_test new in
     let xs = filter p hints in
     record {
       ordered = in_order_ordered new xs (ordered_filter p hints fine.ordered)
-          (all_filter (λ (h : Hint). IsHintKey h.key) (λ (h : Hint). h.key ≢ new.key) p (λ h e k. kept_key new h e) hints fine.keys);
+          (all_filter (λ (h : Hint). IsShort h.key) (λ (h : Hint). h.key ≢ new.key) p (λ h e k. kept_key new h e) hints fine.keys);
       one = λ n page. one_page n page (is_hint_of n page new) refl;
       private = all_in_order (λ (h : Hint). is_private (at h.vm h.page) ≡ true) new xs here
           (all_filter (λ (h : Hint). is_private (at h.vm h.page) ≡ true) (λ (h : Hint). is_private (at h.vm h.page) ≡ true) p (λ h e k. k) hints fine.private);
-      keys = all_in_order (λ (h : Hint). IsHintKey h.key) new xs key (all_filter (λ (h : Hint). IsHintKey h.key) (λ (h : Hint). IsHintKey h.key) p (λ h e k. k) hints fine.keys);
+      keys = all_in_order (λ (h : Hint). IsShort h.key) new xs key (all_filter (λ (h : Hint). IsShort h.key) (λ (h : Hint). IsShort h.key) p (λ h e k. k) hints fine.keys);
     }
   where
     one_page : (n page : ℕ) (b : Bool) → is_hint_of n page new ≡ b → length (filter (is_hint_of n page) (with_hint new hints)) ≤ 1

@@ -1,8 +1,8 @@
--- A key is a number of 64 bits.
+-- A key is a number of 64 bits, and what a hint stands under one of 32.
 use Rattle.std.proofs.Common.{zero, suc, ℕ, ◌+◌, ◌*◌, ◌<◌, ◌≤◌, ◌^◌, List, [], ◌∷◌, take, arith, w32, slice_index}
 use Rattle.std.specs.List.{fold, AllByRecursion}
 use Rattle.std.specs.Int.{to_be_bytes}
-use Rattle.esx_formulas.specs.Key.{content_key}
+use Rattle.esx_formulas.specs.Key.{content_key, IsShort, hint_key}
 use Rattle.sha2.specs.Sha256.{digest_bytes, sha256}
 use Rattle.esx_model.proofs.Lists.{all_append}
 
@@ -33,3 +33,6 @@ bounded (suc k) (b ∷ bytes) n m low all = (let byte = all.0 in bounded k bytes
 pub key_small : (bytes : List ℕ) → content_key bytes < 2 ^ 64
 unfolding content_key sha256 more_bytes
 key_small bytes = bounded 8 (sha256 bytes) 0 1 (omega arith) (digest_of_bytes _ 8)
+
+pub short_small : (bytes : List ℕ) → IsShort (hint_key bytes)
+short_small bytes = (let small = key_small bytes in omega (arith, small))

@@ -26,7 +26,8 @@ use Rattle.esx_model.specs.event.Sharing.{hinted}
 use Rattle.esx_model.specs.event.Admission.{admitted}
 use Rattle.esx_model.specs.event.Starting.{with_overhead}
 use Rattle.esx_model.specs.event.Leaving.{without_last}
-use Rattle.esx_model.specs.Hints.{is_hint_of, in_order, with_hint, hint_key}
+use Rattle.esx_formulas.specs.Key.{hint_key}
+use Rattle.esx_model.specs.Hints.{is_hint_of, in_order, with_hint}
 use Rattle.esx_model.specs.event.Rebalancing.{with_targets}
 use Rattle.esx_model.specs.sound.Sound.{IsSound}
 use Rattle.esx_model.proofs.Lists.{Inserted, rows_same, rows_move, listed_more, counted_more, all_middle, all_map, chosen, find_passes, one, eqb_same, eqb_other}

@@ -11,6 +11,7 @@ use Rattle.esx_formulas.specs.declared.activity.TheConstants.{WHOLE}
 use Rattle.esx_formulas.specs.Average.{touched_share, slower, faster, slow_average, fast_average, is_touched, so_far, open_average}
 use Rattle.esx_formulas.specs.Estimates.{IsEstimate}
 use Rattle.esx_formulas.specs.Ratio.{IsRow, AreRows, row_at}
+use Rattle.esx_formulas.proofs.RatioLaws.{tax_most}
 use Rattle.esx_formulas.proofs.Revoking.{worked_out, only_worked_out}
 use Rattle.esx_model.specs.declared.scene.Vm.{Vm}
 use Rattle.esx_model.specs.declared.scene.Site.{Site}
@@ -70,7 +71,7 @@ row_fine c tau floor n v tax fine low least = record {
   most_pages = (let most = resident_most c v fine in omega (arith, most, fine.good.most_max));
   most_floor = least;
   most_active = active_is_share c v fine;
-  most_tau = tax;
+  most_tau = tax_most tau v.spec.tau tax fine.good.most_tau;
 }
 
 rows_fine : (c : Config) (tau : ℕ) (floor : Vm → ℕ) (n : ℕ) (vms : List (Option Vm)) → tau ≤ MAX_TAU → ((k : ℕ) (v : Vm) → get_or vms k None ≡ Some v → IsVm c v × (floor v ≤ MAX_PAGES)) → n + length vms ≤ VM_NUMBERS

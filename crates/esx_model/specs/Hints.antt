@@ -1,21 +1,12 @@
 -- Pages that others may be shared with, and how a page's change of place ends its hint (Waldspurger, "Content-Based Page Sharing").
-use Rattle.std.specs.Prelude.{ℕ, ◌<◌, ◌^◌, Bool, ◌&&◌, ◌||◌, not, ◌==◌, List, Option, option_map, slice_set, filter, find, if◌then◌else◌}
+use Rattle.std.specs.Prelude.{ℕ, Bool, ◌&&◌, ◌||◌, not, ◌==◌, List, Option, option_map, slice_set, filter, find, if◌then◌else◌}
 use Rattle.esx_types.specs.declared.table.Hint.{Hint}
 use Rattle.esx_types.specs.Listings.{with_placed}
 use Rattle.esx_model.specs.declared.scene.Place.{Place}
 use Rattle.esx_model.specs.declared.scene.Vm.{Vm}
 use Rattle.esx_model.specs.declared.scene.Site.{Site}
-use Rattle.esx_formulas.specs.Key.{content_key}
 use Rattle.esx_model.specs.Places.{is_private}
 use Rattle.esx_model.specs.Site.{vm_at}
-
--- what a hint stands under: the key of its content
-abbrev pub hint_key : List ℕ → ℕ
-hint_key bytes = content_key bytes
-
--- a key is a number of 64 bits
-abbrev pub IsHintKey : ℕ → Type 0
-IsHintKey key = key < 2 ^ 64
 
 abbrev pub is_hint_of : ℕ → ℕ → Hint → Bool
 is_hint_of n page h = (h.vm == n) && (h.page == page)

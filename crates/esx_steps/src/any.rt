@@ -10,7 +10,7 @@ use crate::event::admission::admit;
 use crate::event::balloon::{ask, lend, take_back};
 use crate::event::leaving::{drop_page, gone, stop};
 use crate::event::paging::{replace, swap_out};
-use crate::event::rebalancing::{rebalance, set_shares, set_tax};
+use crate::event::rebalancing::{rebalance, set_shares, set_tax, set_vm_tax};
 use crate::event::sampling::sample;
 use crate::event::sharing::scan;
 use crate::event::starting::start;
@@ -37,6 +37,7 @@ fn number_in(event: &Event) -> Option<u8>
         Event::SwapOut { vm, .. } => Some(vm.number()),
         Event::Replace { vm, .. } => Some(vm.number()),
         Event::SetShares { vm, .. } => Some(vm.number()),
+        Event::SetVmTax { vm, .. } => Some(vm.number()),
         Event::Stop { vm } => Some(vm.number()),
         Event::DropPage { vm, .. } => Some(vm.number()),
         Event::Gone { vm } => Some(vm.number()),
@@ -90,6 +91,7 @@ pub fn step(
         Event::Replace { vm, page, word } => replace(alloc, config, site, *vm, *page, *word),
         Event::SetShares { vm, shares } => set_shares(config, site, *vm, *shares),
         Event::SetTax { tau } => set_tax(site, *tau),
+        Event::SetVmTax { vm, tau } => set_vm_tax(config, site, *vm, *tau),
         Event::Stop { vm } => stop(config, site, *vm),
         Event::DropPage { vm, page } => drop_page(alloc, config, site, *vm, *page),
         Event::Gone { vm } => gone(alloc, config, site, *vm),

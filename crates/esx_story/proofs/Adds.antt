@@ -7,7 +7,7 @@ use Rattle.esx_types.specs.declared.vm.VmSpec.{VmSpec}
 use Rattle.esx_events.specs.declared.event.Answer.{Answer}
 use Rattle.esx_events.specs.declared.event.Answer.TheVariants as answers
 use Rattle.esx_events.specs.declared.event.Event.{Event}
-use Rattle.esx_events.specs.declared.event.Event.TheVariants.{Admit, Start, Read, Write, Ask, Lend, TakeBack, Sample, Rebalance, Scan, SwapOut, Replace, SetShares, SetTax, Stop, DropPage, Gone}
+use Rattle.esx_events.specs.declared.event.Event.TheVariants.{Admit, Start, Read, Write, Ask, Lend, TakeBack, Sample, Rebalance, Scan, SwapOut, Replace, SetShares, SetTax, SetVmTax, Stop, DropPage, Gone}
 use Rattle.esx_model.specs.declared.scene.Place.{Place}
 use Rattle.esx_model.specs.declared.scene.Place.TheVariants.{Untouched, Here, Out, Lent}
 use Rattle.esx_model.specs.declared.scene.Vm.{Vm}
@@ -81,6 +81,7 @@ all_come (SwapOut n word) s = tt
 all_come (Replace n page word) s = comes_by n page (vm_at s n)
 all_come (SetShares n shares) s = tt
 all_come (SetTax tau) s = tt
+all_come (SetVmTax n tau) s = tt
 all_come (Stop n) s = tt
 all_come (DropPage n page) s = tt
 all_come (Gone n) s = tt
@@ -120,6 +121,7 @@ all_go (SwapOut n word) a s = swap_out_goes n word a s
 all_go (Replace n page word) a s = replace_goes n page word a s
 all_go (SetShares n shares) a s = tt
 all_go (SetTax tau) a s = tt
+all_go (SetVmTax n tau) a s = tt
 all_go (Stop n) a s = tt
 all_go (DropPage n page) a s = drop_goes n page a s
 all_go (Gone n) a s = tt
@@ -179,6 +181,7 @@ fresh c s level n (SwapOut m word) r is h = cc
 fresh c s level n (Replace m page word) r is h = cc
 fresh c s level n (SetShares m shares) r is h = cc
 fresh c s level n (SetTax tau) r is h = cc
+fresh c s level n (SetVmTax m tau) r is h = cc
 fresh c s level n (Stop m) r is h = cc
 fresh c s level n (DropPage m page) r is h = cc
 fresh c s level n (Gone m) r is h = cc
@@ -202,6 +205,7 @@ admits_none n (SwapOut m word) a s is = cc
 admits_none n (Replace m page word) a s is = cc
 admits_none n (SetShares m shares) a s is = cc
 admits_none n (SetTax tau) a s is = cc
+admits_none n (SetVmTax m tau) a s is = cc
 admits_none n (Stop m) a s is = cc
 admits_none n (DropPage m page) a s is = cc
 admits_none n (Gone m) a s is = cc

@@ -8,7 +8,7 @@ use Rattle.esx_events.specs.declared.event.Answer.{Answer}
 use Rattle.esx_events.specs.declared.event.Answer.TheVariants as answers
 use Rattle.esx_events.specs.declared.event.Refusal.{Refusal}
 use Rattle.esx_events.specs.declared.event.Event.{Event}
-use Rattle.esx_events.specs.declared.event.Event.TheVariants.{Admit, Start, Read, Write, Ask, Lend, TakeBack, Sample, Rebalance, Scan, SwapOut, Replace, SetShares, SetTax, Stop, DropPage, Gone}
+use Rattle.esx_events.specs.declared.event.Event.TheVariants.{Admit, Start, Read, Write, Ask, Lend, TakeBack, Sample, Rebalance, Scan, SwapOut, Replace, SetShares, SetTax, SetVmTax, Stop, DropPage, Gone}
 use Rattle.esx_events.specs.declared.call.PageState.{PageState}
 use Rattle.esx_model.specs.declared.scene.Vm.{Vm}
 use Rattle.esx_model.specs.declared.scene.Site.{Site}
@@ -111,6 +111,7 @@ step_enough c t (SwapOut n word) a q sound h = (swap_so t.site n word a _, refl)
 step_enough c t (Replace n page word) a q sound h = (replace_so t.site n page word a _, gains_so c t n page sound (replace_names c t.site n page word q h))
 step_enough c t (SetShares n shares) a q sound h = (refl, refl)
 step_enough c t (SetTax tau) a q sound h = (refl, refl)
+step_enough c t (SetVmTax n tau) a q sound h = (refl, refl)
 step_enough c t (Stop n) a q sound h = (refl, refl)
 step_enough c t (DropPage n page) a q sound h = (drop_so c t n page a sound (drop_names t.site n page q h), refl)
 step_enough c t (Gone n) a q sound h = (refl, refl)

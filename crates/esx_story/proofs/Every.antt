@@ -4,7 +4,7 @@ use Rattle.esx_types.specs.declared.config.Config.{Config}
 use Rattle.esx_types.specs.declared.level.Level.{Level}
 use Rattle.esx_events.specs.declared.event.Answer.{Answer}
 use Rattle.esx_events.specs.declared.event.Event.{Event}
-use Rattle.esx_events.specs.declared.event.Event.TheVariants.{Admit, Start, Read, Write, Ask, Lend, TakeBack, Sample, Rebalance, Scan, SwapOut, Replace, SetShares, SetTax, Stop, DropPage, Gone}
+use Rattle.esx_events.specs.declared.event.Event.TheVariants.{Admit, Start, Read, Write, Ask, Lend, TakeBack, Sample, Rebalance, Scan, SwapOut, Replace, SetShares, SetTax, SetVmTax, Stop, DropPage, Gone}
 use Rattle.esx_model.specs.declared.scene.Site.{Site}
 use Rattle.esx_model.specs.declared.scene.Scene.{Scene}
 use Rattle.esx_model.specs.Step.{step}
@@ -18,7 +18,7 @@ use Rattle.esx_story.proofs.event.Access.{read_moves, write_moves, replace_moves
 use Rattle.esx_story.proofs.event.Balloon.{ask_moves, lend_moves, take_back_moves}
 use Rattle.esx_story.proofs.event.Paging.{scan_moves, swap_out_moves}
 use Rattle.esx_story.proofs.event.Leaving.{stop_moves, drop_page_moves, gone_moves}
-use Rattle.esx_story.proofs.event.Others.{admit_moves, start_moves, sample_moves, set_shares_moves, set_tax_moves, rebalance_moves}
+use Rattle.esx_story.proofs.event.Others.{admit_moves, start_moves, sample_moves, set_shares_moves, set_tax_moves, set_vm_tax_moves, rebalance_moves}
 
 every_step_moves : (c : Config) (s : Site) (level : Level) (e : Event) (r : Answer × Site) → IsSound c s → step c s level e ≡ Ok r → Moves s r.1 (lost e r.0 s) (gained e s)
 every_step_moves c s level (Admit n spec) r sound h = admit_moves c s n spec r h
@@ -35,6 +35,7 @@ every_step_moves c s level (SwapOut n word) r sound h = swap_out_moves c s level
 every_step_moves c s level (Replace n page word) r sound h = replace_moves c s n page word r sound h
 every_step_moves c s level (SetShares n shares) r sound h = set_shares_moves s n shares r h
 every_step_moves c s level (SetTax tau) r sound h = set_tax_moves s tau r h
+every_step_moves c s level (SetVmTax n tau) r sound h = set_vm_tax_moves s n tau r h
 every_step_moves c s level (Stop n) r sound h = stop_moves s n r h
 every_step_moves c s level (DropPage n page) r sound h = drop_page_moves s n page r h
 every_step_moves c s level (Gone n) r sound h = gone_moves s n r h

@@ -13,7 +13,7 @@ use Rattle.esx_formulas.specs.declared.activity.TheConstants.{WHOLE}
 use Rattle.esx_formulas.specs.Ratio.{Claim, claim, ComesNoLater}
 use Rattle.esx_formulas.specs.Targets.{comes_no_later, sooner, first_claim}
 use Rattle.esx_formulas.proofs.Claims.{comes_from_test, comes_from_no_test, test_from_comes}
-use Rattle.esx_formulas.proofs.RatioLaws.{no_later_self, no_later_chain, no_later_same, price_above_none}
+use Rattle.esx_formulas.proofs.RatioLaws.{tax_most, no_later_self, no_later_chain, no_later_same, price_above_none}
 use Rattle.esx_model.specs.declared.scene.Vm.{Vm}
 use Rattle.esx_model.specs.declared.scene.Site.{Site}
 use Rattle.esx_model.specs.Site.{resident}
@@ -252,7 +252,7 @@ fine_from c tau n [] low each = record { from = tt; whole = tt; rising = tt }
 fine_from c tau n (None ∷ vms) low each = fine_later n (above_of (rows_from tau target_of (n + 1) vms)) (fine_from c tau (n + 1) vms low (λ k v h. each (suc k) v h))
 fine_from c tau n (Some v ∷ vms) low each =
     let row = row_of_vm tau n (target_of v) v in
-    fine_one n row (rows_from tau target_of (n + 1) vms) (is_above row) low refl (active_is_share c v (each 0 v refl)) refl (fine_from c tau (n + 1) vms low (λ k v h. each (suc k) v h))
+    fine_one n row (rows_from tau target_of (n + 1) vms) (is_above row) (tax_most tau v.spec.tau low (each 0 v refl).good.most_tau) refl (active_is_share c v (each 0 v refl)) refl (fine_from c tau (n + 1) vms low (λ k v h. each (suc k) v h))
 
 fine_of : (c : Config) (s : Site) → IsSound c s → AreFine 0 (above s)
 unfolding rows_of

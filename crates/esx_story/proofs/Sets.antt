@@ -2,7 +2,7 @@
 use Rattle.std.proofs.Common.{zero, suc, ◌≡◌, ℕ, ◌+◌, ◌-◌, ◌<◌, Bool, true, false, List, [], ◌∷◌, take, slice_get, refl, ap, ◌∙◌, subst, arith, cond, Option, Some, None, ◌⊎◌, inl, inr}
 use Rattle.std.proofs.lemmas.Option.{none-some}
 use Rattle.esx_events.specs.declared.event.Event.{Event}
-use Rattle.esx_events.specs.declared.event.Event.TheVariants.{Admit, Start, Read, Write, Ask, Lend, TakeBack, Sample, Rebalance, Scan, SwapOut, Replace, SetShares, SetTax, Stop, DropPage, Gone}
+use Rattle.esx_events.specs.declared.event.Event.TheVariants.{Admit, Start, Read, Write, Ask, Lend, TakeBack, Sample, Rebalance, Scan, SwapOut, Replace, SetShares, SetTax, SetVmTax, Stop, DropPage, Gone}
 use Rattle.esx_model.proofs.Callers.{some_same}
 use Rattle.esx_story.specs.Moments.{Moment}
 use Rattle.esx_story.specs.Counts.{admits}
@@ -25,6 +25,7 @@ admits_not n (SwapOut m word) h = cc
 admits_not n (Replace m page word) h = cc
 admits_not n (SetShares m shares) h = cc
 admits_not n (SetTax tau) h = cc
+admits_not n (SetVmTax m tau) h = cc
 admits_not n (Stop m) h = cc
 admits_not n (DropPage m page) h = cc
 admits_not n (Gone m) h = cc

@@ -10,6 +10,7 @@ pub mod level;
 pub mod rows;
 pub mod small;
 pub mod table;
+pub mod version;
 pub mod vm;
 
 pub use config::{
@@ -25,4 +26,5 @@ pub use level::Level;
 pub use rows::{Bytes, Rows};
 pub use small::{FEW, SmallBytes};
 pub use table::{FrameRow, Hint, KeyRow, Listing, MapRow, SlotRow};
+pub use version::Version;
 pub use vm::{VmId, VmSpec, VmState};

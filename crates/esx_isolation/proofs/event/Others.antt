@@ -16,7 +16,7 @@ use Rattle.esx_model.specs.event.Outcome.{standing}
 use Rattle.esx_model.specs.event.Admission.{memory_with, swap_with, admit_gate, reserves_in, admitted, admit}
 use Rattle.esx_model.specs.event.Starting.{start_gate, with_overhead, take_overhead, start}
 use Rattle.esx_model.specs.event.Sampling.{sample_gate, opened_period, sample}
-use Rattle.esx_model.specs.event.Rebalancing.{with_targets, at_max, rows_of, min_of, need, share_out, rebalance, shares_gate, set_shares, tax_gate, set_tax}
+use Rattle.esx_model.specs.event.Rebalancing.{with_targets, at_max, rows_of, min_of, need, share_out, rebalance, shares_gate, set_shares, tax_gate, set_tax, set_vm_tax}
 use Rattle.esx_model.specs.sound.Sound.{IsSound}
 use Rattle.esx_model.proofs.Callers.{admitted_nowhere, of_vm, passed, accepted, same_site}
 use Rattle.esx_model.specs.Memory.{Memory, memory_of, with_frame}
@@ -85,6 +85,14 @@ set_tax_keeps c s tau r h =
     let pass = passed (tax_gate tau) _ r h in
     let P : Site → Type 0 = Keeps c s in
     subst P (same_site answers.Done (record s { tau = tau }) r pass.1) (λ m. refl)
+
+pub set_vm_tax_turns : (c : Config) (s : Site) (n tau : ℕ) (r : Answer × Site) → set_vm_tax s n tau ≡ Ok r → Turns c s n (λ o. o) r.1
+unfolding set_vm_tax
+set_vm_tax_turns c s n tau r h =
+    let own = of_vm (vm_at s n) _ r h in
+    let v = own.vm in
+    let pass = passed (tax_gate tau) _ r own.then in
+    row_keeps c s n v (record v { spec = record v.spec { tau = Some tau } }) answers.Done r own.there refl pass.1
 
 -- Targets are no matter of memories.
 

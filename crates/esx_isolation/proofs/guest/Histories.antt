@@ -3,7 +3,7 @@ use Rattle.std.proofs.Common.{◌≡◌, ℕ, nat_le, Bool, true, false, List, l
 use Rattle.esx_types.specs.declared.config.Config.{Config}
 use Rattle.esx_types.specs.Ranges.{IsConfig}
 use Rattle.esx_events.specs.declared.event.Event.{Event}
-use Rattle.esx_events.specs.declared.event.Event.TheVariants.{Admit, Start, Read, Write, Ask, Lend, TakeBack, Sample, Rebalance, Scan, SwapOut, Replace, SetShares, SetTax, Stop, DropPage, Gone}
+use Rattle.esx_events.specs.declared.event.Event.TheVariants.{Admit, Start, Read, Write, Ask, Lend, TakeBack, Sample, Rebalance, Scan, SwapOut, Replace, SetShares, SetTax, SetVmTax, Stop, DropPage, Gone}
 use Rattle.esx_events.specs.declared.event.Answer.{Answer}
 use Rattle.esx_events.specs.declared.event.Refusal.{Refusal}
 use Rattle.esx_events.specs.declared.event.Refusal.TheVariants.{Full}
@@ -137,6 +137,7 @@ refused_silent (SwapOut n word) r later = refl
 refused_silent (Replace n page word) r later = refl
 refused_silent (SetShares n shares) r later = refl
 refused_silent (SetTax tau) r later = refl
+refused_silent (SetVmTax n tau) r later = refl
 refused_silent (Stop n) r later = refl
 refused_silent (DropPage n page) r later = refl
 refused_silent (Gone n) r later = refl

@@ -4,7 +4,7 @@ use Rattle.std.specs.List.{AllByRecursion}
 use Rattle.esx_types.specs.declared.config.Config.{Config}
 use Rattle.esx_types.specs.declared.vm.VmState.TheVariants.{Running}
 use Rattle.esx_events.specs.declared.event.Event.{Event}
-use Rattle.esx_events.specs.declared.event.Event.TheVariants.{Admit, Start, Read, Write, Ask, Lend, TakeBack, Sample, Rebalance, Scan, SwapOut, Replace, SetShares, SetTax, Stop, DropPage, Gone}
+use Rattle.esx_events.specs.declared.event.Event.TheVariants.{Admit, Start, Read, Write, Ask, Lend, TakeBack, Sample, Rebalance, Scan, SwapOut, Replace, SetShares, SetTax, SetVmTax, Stop, DropPage, Gone}
 use Rattle.esx_events.specs.declared.event.Answer.{Answer}
 use Rattle.esx_events.specs.declared.event.Answer.TheVariants as answers
 use Rattle.esx_events.specs.declared.event.Refusal.{Refusal}
@@ -61,6 +61,7 @@ tidy_rest c (SwapOut n word) es h = h
 tidy_rest c (Replace n page word) es h = h
 tidy_rest c (SetShares n shares) es h = h
 tidy_rest c (SetTax tau) es h = h
+tidy_rest c (SetVmTax n tau) es h = h
 tidy_rest c (Stop n) es h = h
 tidy_rest c (DropPage n page) es h = h
 tidy_rest c (Gone n) es h = h

@@ -8,7 +8,7 @@ use Rattle.esx_types.specs.declared.vm.VmSpec.{VmSpec}
 use Rattle.esx_types.specs.declared.vm.VmState.{VmState}
 use Rattle.esx_types.specs.declared.vm.VmState.TheVariants.{Starting, Running, Stopping}
 use Rattle.esx_events.specs.declared.event.Event.{Event}
-use Rattle.esx_events.specs.declared.event.Event.TheVariants.{Admit, Start, Read, Write, Ask, Lend, TakeBack, Sample, Rebalance, Scan, SwapOut, Replace, SetShares, SetTax, Stop, DropPage, Gone}
+use Rattle.esx_events.specs.declared.event.Event.TheVariants.{Admit, Start, Read, Write, Ask, Lend, TakeBack, Sample, Rebalance, Scan, SwapOut, Replace, SetShares, SetTax, SetVmTax, Stop, DropPage, Gone}
 use Rattle.esx_events.specs.declared.call.Call.{Call}
 use Rattle.esx_events.specs.declared.call.Call.TheVariants as calls
 use Rattle.esx_events.specs.declared.call.Line.{Line}
@@ -87,6 +87,7 @@ fresh_by c n (SwapOut m word) o is fresh x h q = cc
 fresh_by c n (Replace m page word) o is fresh x h q = cc
 fresh_by c n (SetShares m shares) o is fresh x h q = cc
 fresh_by c n (SetTax tau) o is fresh x h q = cc
+fresh_by c n (SetVmTax m tau) o is fresh x h q = cc
 fresh_by c n (Stop m) o is fresh x h q = cc
 fresh_by c n (DropPage m page) o is fresh x h q = cc
 fresh_by c n (Gone m) o is fresh x h q = cc

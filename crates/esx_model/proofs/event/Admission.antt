@@ -10,7 +10,7 @@ use Rattle.esx_lists.proofs.Counts.{count_by-replicate}
 use Rattle.esx_types.specs.declared.config.Config.{Config}
 use Rattle.esx_types.specs.declared.config.TheConstants.{VM_NUMBERS}
 use Rattle.esx_types.specs.declared.vm.VmSpec.{VmSpec}
-use Rattle.esx_types.specs.Ranges.{is_good, IsGood}
+use Rattle.esx_types.specs.Ranges.{is_good, IsGood, IsTax, is_tax}
 use Rattle.esx_events.specs.declared.event.Answer.{Answer}
 use Rattle.esx_events.specs.declared.event.Answer.TheVariants as answers
 use Rattle.esx_model.specs.declared.scene.Place.{Place}
@@ -29,6 +29,10 @@ use Rattle.esx_model.proofs.HintsKept.{hints_stay}
 use Rattle.esx_model.proofs.Kept.{vm_after, vm_changed}
 use Rattle.esx_model.proofs.Gates.{passed, gives, not_not}
 
+tax_by_test : (own : Option ℕ) → is_tax own ≡ true → IsTax own
+tax_by_test None h = tt
+tax_by_test (Some tau) h = grind (arith, nat_tests)
+
 pub good_by_test : (spec : VmSpec) → is_good spec ≡ true → IsGood spec
 good_by_test spec h = record {
   least_min = grind (arith, nat_tests);
@@ -39,6 +43,7 @@ good_by_test spec h = record {
   least_shares = grind (arith, nat_tests);
   most_shares = grind (arith, nat_tests);
   most_balloon = grind (arith, nat_tests);
+  most_tau = tax_by_test spec.tau (grind (arith, nat_tests));
 }
 
 untouched_places : (c : Config) (n : ℕ) → AllByRecursion (IsPlace c 0) (replicate n Untouched)

@@ -19,7 +19,7 @@ use Rattle.esx_model.specs.declared.scene.Place.{Place}
 use Rattle.esx_model.specs.declared.scene.Vm.{Vm}
 use Rattle.esx_model.specs.declared.scene.Site.{Site}
 use Rattle.esx_model.specs.Site.{vm_at, with_vm, place_in, place_of, vm_places, vm_overhead, all_places, all_overhead, memory_reserve, swap_reserve}
-use Rattle.esx_model.specs.event.Rebalancing.{min_of, rows_from, rows_of, with_targets, at_max, need, share_out, rebalance, shares_gate, set_shares, tax_gate, set_tax}
+use Rattle.esx_model.specs.event.Rebalancing.{min_of, rows_from, rows_of, with_targets, at_max, need, share_out, rebalance, shares_gate, set_shares, tax_gate, set_tax, set_vm_tax}
 use Rattle.esx_model.specs.sound.Machines.{IsVm}
 use Rattle.esx_model.specs.sound.Frames.{AreFrames}
 use Rattle.esx_model.specs.sound.Sound.{IsSound}
@@ -39,6 +39,7 @@ good_shares spec shares good h = record {
   least_shares = grind (arith, nat_tests);
   most_shares = grind (arith, nat_tests);
   most_balloon = good.most_balloon;
+  most_tau = good.most_tau;
 }
 
 shares_becomes : (c : Config) (v : Vm) (shares : ℕ) → IsVm c v → (nat_le 1 shares && nat_le shares MAX_SHARES) ≡ true → Becomes c v (record v { spec = record v.spec { shares = shares } })
@@ -88,6 +89,48 @@ unfolding set_tax
 set_tax_sound c s tau r sound h =
     let pass = passed (tax_gate tau) _ r h in
     gives c answers.Done (record s { tau = tau }) r pass.1 (taxed c s tau sound (most_tax tau pass.0.0))
+
+-- A machine's own tax.
+
+good_tax : (spec : VmSpec) (tau : ℕ) → IsGood spec → tau ≤ MAX_TAU → IsGood (record spec { tau = Some tau })
+good_tax spec tau good most = record {
+  least_min = good.least_min;
+  min_max = good.min_max;
+  most_max = good.most_max;
+  least_overhead = good.least_overhead;
+  most_overhead = good.most_overhead;
+  least_shares = good.least_shares;
+  most_shares = good.most_shares;
+  most_balloon = good.most_balloon;
+  most_tau = most;
+}
+
+tax_becomes : (c : Config) (v : Vm) (tau : ℕ) → IsVm c v → tau ≤ MAX_TAU → Becomes c v (record v { spec = record v.spec { tau = Some tau } })
+tax_becomes c v tau fine most = record {
+  fine = record {
+    good = good_tax v.spec tau fine.good most;
+    pages = fine.pages;
+    least_target = fine.least_target;
+    most_target = fine.most_target;
+    state = fits_as v (record v { spec = record v.spec { tau = Some tau } }) v.state refl refl refl refl refl fine.state;
+    places = fine.places;
+    out = fine.out;
+    lends = fine.lends;
+    closed = fine.closed;
+    period = fine.period;
+  };
+  memory = refl;
+  swap = refl;
+}
+
+pub set_vm_tax_sound : (c : Config) (s : Site) (n tau : ℕ) (r : Answer × Site) → IsSound c s → set_vm_tax s n tau ≡ Ok r → IsSound c r.1
+unfolding set_vm_tax
+set_vm_tax_sound c s n tau r sound h =
+    let m = of_vm (vm_at s n) _ r h in
+    let v = m.vm in
+    let pass = passed (tax_gate tau) _ r m.then in
+    let w : Vm = record v { spec = record v.spec { tau = Some tau } } in
+    gives c answers.Done (with_vm s n w) r pass.1 (row_only c s n v w sound m.there (tax_becomes c v tau (sound.each n v m.there) (most_tax tau pass.0.0)) refl refl)
 
 -- New targets for the machines in order.
 

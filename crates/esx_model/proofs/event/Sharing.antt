@@ -12,7 +12,7 @@ use Rattle.esx_types.specs.declared.vm.VmState.{VmState}
 use Rattle.esx_types.specs.declared.vm.VmState.TheVariants.{Starting}
 use Rattle.esx_events.specs.declared.event.Answer.{Answer}
 use Rattle.esx_events.specs.declared.event.Answer.TheVariants as answers
-use Rattle.esx_formulas.specs.Key.{content_key}
+use Rattle.esx_formulas.specs.Key.{content_key, hint_key}
 use Rattle.esx_model.specs.declared.look.Look.{Look}
 use Rattle.esx_model.specs.declared.look.Look.TheVariants.{Already, SharedFrame, OtherPage, Changed, OtherBytes, Nothing}
 use Rattle.esx_types.specs.declared.table.Hint.{Hint}
@@ -23,7 +23,7 @@ use Rattle.esx_model.specs.declared.scene.Site.{Site}
 use Rattle.esx_model.specs.Places.{is_here, is_here_at, is_private, contents}
 use Rattle.esx_model.specs.Site.{vm_at, place_at, place_in, place_of, vm_places, all_places, all_overhead}
 use Rattle.esx_model.specs.Show.{pages_in, row_of}
-use Rattle.esx_model.specs.Hints.{hint_key, is_hint_of, other_hint, with_place, placed}
+use Rattle.esx_model.specs.Hints.{is_hint_of, other_hint, with_place, placed}
 use Rattle.esx_model.specs.event.Outcome.{standing}
 use Rattle.esx_model.specs.event.Sharing.{is_shared_under, shared_under, look_at_shared, look_at_hinted, look_at_hint, look_private, look, hinted, after_look, said_of, scan_gate, scan}
 use Rattle.esx_model.specs.sound.Machines.{IsVm, IsPlace, FitsState}
@@ -32,7 +32,7 @@ use Rattle.esx_model.specs.sound.Sound.{IsSound}
 use Rattle.esx_model.proofs.Lists.{all_append, all_middle, chosen, one, find_passes, find_in, all_map}
 use Rattle.esx_model.proofs.Machines.{not_out, not_lent, old_place}
 use Rattle.esx_model.proofs.HintsKept.{hints_more, other_hint_private}
-use Rattle.esx_model.proofs.Keys.{key_small}
+use Rattle.esx_model.proofs.Keys.{short_small}
 use Rattle.esx_model.proofs.Kept.{placed_sound, placed_is, page_is_in, vm_placed_there}
 use Rattle.esx_model.proofs.Rooms.{Room, IsIn, room_to_share, room_shared, private_alone, row_here, shared_row, apart_frames}
 use Rattle.esx_model.proofs.Gates.{of_vm, passed, gives, not_not}
@@ -267,7 +267,7 @@ hinted_sound c s n page v bytes sound there here = record {
   swap = sound.swap;
   tau = sound.tau;
   frames = sound.frames;
-  hints = hints_more (place_of s) (record { key = hint_key bytes; vm = n; page = page }) s.hints sound.hints (ap (λ o. is_private (place_in o page)) there ∙ here) (key_small bytes);
+  hints = hints_more (place_of s) (record { key = hint_key bytes; vm = n; page = page }) s.hints sound.hints (ap (λ o. is_private (place_in o page)) there ∙ here) (short_small bytes);
 }
 
 private_look : (c : Config) (s : Site) (n page : ℕ) (v : Vm) (bytes : List ℕ) (g : ℕ) (l : Look) → IsSound c s → vm_at s n ≡ Some v → page < v.spec.max → place_at v page ≡ Here bytes g false → Sees s n page bytes l

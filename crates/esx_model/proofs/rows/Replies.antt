@@ -1,5 +1,5 @@
 -- What calls from the opening on are answered, and short ways to write the values of worked examples.
-use Rattle.std.specs.Prelude.{◌≡◌, ℕ, List, [], ◌∷◌, map, Result}
+use Rattle.std.specs.Prelude.{◌≡◌, ℕ, List, [], ◌∷◌, map, Result, Some, None}
 use Rattle.esx_types.specs.declared.config.Config.{Config}
 use Rattle.esx_types.specs.declared.level.Level.{Level}
 use Rattle.esx_types.specs.declared.vm.VmSpec.{VmSpec}
@@ -28,7 +28,7 @@ use Rattle.esx_model.specs.event.Starting.{start}
 use Rattle.esx_model.specs.event.Access.{read, write}
 use Rattle.esx_model.specs.event.Balloon.{ask, lend, take_back}
 use Rattle.esx_model.specs.event.Sampling.{sample}
-use Rattle.esx_model.specs.event.Rebalancing.{rows_of, rebalance, set_shares, set_tax}
+use Rattle.esx_model.specs.event.Rebalancing.{rows_of, rebalance, set_shares, set_tax, set_vm_tax}
 use Rattle.esx_model.specs.event.Sharing.{shared_under, look, scan}
 use Rattle.esx_model.specs.event.Paging.{swap_out, replace}
 use Rattle.esx_model.specs.event.Leaving.{stop, drop_page, gone}
@@ -47,7 +47,11 @@ abbrev pub site : ℕ → ℕ → ℕ → ℕ → ℕ → ℕ → ℕ → ℕ �
 site frames page slots tau high soft hard low nodes = record { frames = frames; page = page; slots = slots; tau = tau; high = high; soft = soft; hard = hard; low = low; nodes = nodes }
 
 abbrev pub spec : ℕ → ℕ → ℕ → ℕ → ℕ → VmSpec
-spec min max overhead shares balloon = record { min = min; max = max; overhead = overhead; shares = shares; balloon_max = balloon }
+spec min max overhead shares balloon = record { min = min; max = max; overhead = overhead; shares = shares; balloon_max = balloon; tau = None }
+
+-- with a tax of its own
+abbrev pub taxed : VmSpec → ℕ → VmSpec
+taxed asked tau = record asked { tau = Some tau }
 
 abbrev pub reserved : ℕ → ℕ → ℕ → ℕ → Reserves
 reserved memory frames swap slots = record { memory = memory; frames = frames; swap = swap; slots = slots }
@@ -79,7 +83,7 @@ replies_from (call ∷ calls) h = reply_to h call ∷ replies_from calls (after 
 
 -- the replies to calls from the opening on
 unfoldable pub replies_of : Config → List Call → List Reply
-unfolding slow_average fast_average content_key next_level first_claim after_revoking targets_of least_free free_count least_slot pages_at all_places all_overhead placed frame_row slot_row shared_rows admit start read write ask lend take_back sample rows_of rebalance set_shares set_tax shared_under look scan swap_out replace stop drop_page gone next run_from sum_of page_state table_of readings.activity advice parent alive path on_way at last_descent done do_event up_once child down_once undone redone undo redo line goto visit mark dropped standing_below prune replies_to scene_of what_if outcome first_words schedule rounds compress hash_after digest_bytes sha256
+unfolding slow_average fast_average content_key next_level first_claim after_revoking targets_of least_free free_count least_slot pages_at all_places all_overhead placed frame_row slot_row shared_rows admit start read write ask lend take_back sample rows_of rebalance set_shares set_tax set_vm_tax shared_under look scan swap_out replace stop drop_page gone next run_from sum_of page_state table_of readings.activity advice parent alive path on_way at last_descent done do_event up_once child down_once undone redone undo redo line goto visit mark dropped standing_below prune replies_to scene_of what_if outcome first_words schedule rounds compress hash_after digest_bytes sha256
 replies_of c calls = replies_from calls (opened c)
 
 -- each call has that reply, one after another

@@ -11,6 +11,7 @@ use Rattle.esx_model.specs.declared.scene.Site.{Site}
 use Rattle.esx_formulas.specs.declared.targets.Row.{Row}
 use Rattle.esx_formulas.specs.Average.{slow_average, fast_average, so_far, active_share}
 use Rattle.esx_formulas.specs.Level.{high_threshold, margin}
+use Rattle.esx_formulas.specs.Ratio.{tax_of}
 use Rattle.esx_formulas.specs.Targets.{spare, targets_of}
 use Rattle.esx_model.specs.Site.{free_count, vm_at, with_vm, resident}
 use Rattle.esx_model.specs.event.Outcome.{Outcome, Gate, at_vm, unless}
@@ -19,9 +20,9 @@ use Rattle.esx_model.specs.event.Outcome.{Outcome, Gate, at_vm, unless}
 abbrev pub active : Vm → ℕ
 active v = active_share (slow_average v.closed) (fast_average v.closed) (option_map so_far v.period)
 
--- what a machine has at the site's tax, of which it keeps so many pages in any case
+-- what a machine has, where the site has that tax, of which it keeps so many pages in any case
 abbrev pub row_of_vm : ℕ → ℕ → ℕ → Vm → Row
-row_of_vm tau n floor v = record { vm = n; shares = v.spec.shares; pages = resident v; floor = floor; active = active v; tau = tau }
+row_of_vm tau n floor v = record { vm = n; shares = v.spec.shares; pages = resident v; floor = floor; active = active v; tau = tax_of tau v.spec.tau }
 
 -- a row for each machine from number n on, each with its floor
 abbrev pub rows_from : ℕ → (Vm → ℕ) → ℕ → List (Option Vm) → List Row
@@ -74,3 +75,8 @@ tax_gate tau = (nat_lt MAX_TAU tau, BadSpec) ∷ []
 
 unfoldable pub set_tax : Site → ℕ → Outcome
 set_tax s tau = unless (tax_gate tau) (Ok (answers.Done, record s { tau = tau }))
+
+-- from now on a machine has a tax of its own, whatever the site's becomes
+unfoldable pub set_vm_tax : Site → ℕ → ℕ → Outcome
+set_vm_tax s n tau = at_vm (vm_at s n) (λ v. unless (tax_gate tau)
+    (Ok (answers.Done, with_vm s n (record v { spec = record v.spec { tau = Some tau } }))))

@@ -12,10 +12,10 @@ use Rattle.esx_model.specs.declared.scene.Place.{Place}
 use Rattle.esx_model.specs.declared.scene.Place.TheVariants.{Untouched, Here, Out, Lent}
 use Rattle.esx_types.specs.declared.table.Hint.{Hint}
 use Rattle.esx_model.specs.declared.scene.Site.{Site}
-use Rattle.esx_formulas.specs.Key.{content_key}
+use Rattle.esx_formulas.specs.Key.{content_key, hint_key}
 use Rattle.esx_model.specs.Places.{is_here, contents}
 use Rattle.esx_model.specs.Site.{vm_at, place_at, place_of, pages_at, all_places}
-use Rattle.esx_model.specs.Hints.{hint_key, with_hint, other_hint, placed}
+use Rattle.esx_model.specs.Hints.{with_hint, other_hint, placed}
 use Rattle.esx_model.specs.event.Outcome.{Outcome, Gate, at_vm, unless, standing, is_running}
 
 -- the page is shared, and its content has that key
@@ -36,7 +36,7 @@ look_at_shared bytes Untouched = Nothing
 look_at_shared bytes (Out others slot) = Nothing
 look_at_shared bytes (Lent epoch) = Nothing
 
--- at the page of a hint under the same key
+-- at the page of a hint under the same upper bits: it is another content where its bytes say so, and stale only where those bits are other ones now
 abbrev pub look_at_hinted : List ℕ → Hint → Place → Look
 look_at_hinted bytes h (Here others f shared) =
     if not (hint_key others == h.key) then Changed
@@ -61,7 +61,7 @@ look s n page Untouched = Nothing
 look s n page (Out bytes slot) = Nothing
 look s n page (Lent epoch) = Nothing
 
--- the site where the page is the hint under its key
+-- the site where the page is the hint under the upper bits of its key
 abbrev pub hinted : Site → ℕ → ℕ → List ℕ → Site
 hinted s n page bytes = record s { hints = with_hint (record { key = hint_key bytes; vm = n; page = page }) s.hints }
 

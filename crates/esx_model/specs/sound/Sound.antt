@@ -3,7 +3,7 @@ use Rattle.std.specs.Prelude.{◌≡◌, ℕ, ◌≤◌, ◌<◌, length, Some}
 use Rattle.esx_types.specs.declared.config.Config.{Config}
 use Rattle.esx_types.specs.declared.config.TheConstants.{MAX_TAU, VM_NUMBERS}
 use Rattle.esx_events.specs.declared.event.Event.{Event}
-use Rattle.esx_events.specs.declared.event.Event.TheVariants.{Admit, Start, Read, Write, Ask, Lend, TakeBack, Sample, Rebalance, Scan, SwapOut, Replace, SetShares, SetTax, Stop, DropPage, Gone}
+use Rattle.esx_events.specs.declared.event.Event.TheVariants.{Admit, Start, Read, Write, Ask, Lend, TakeBack, Sample, Rebalance, Scan, SwapOut, Replace, SetShares, SetTax, SetVmTax, Stop, DropPage, Gone}
 use Rattle.esx_model.specs.declared.scene.Vm.{Vm}
 use Rattle.esx_model.specs.declared.scene.Site.{Site}
 use Rattle.esx_model.specs.Site.{vm_at, place_of, all_places, all_overhead, memory_reserved, swap_reserved}
@@ -36,6 +36,7 @@ NamesVm (SwapOut n word) = n < VM_NUMBERS
 NamesVm (Replace n page word) = n < VM_NUMBERS
 NamesVm (SetShares n shares) = n < VM_NUMBERS
 NamesVm (SetTax tau) = Unit {0}
+NamesVm (SetVmTax n tau) = n < VM_NUMBERS
 NamesVm (Stop n) = n < VM_NUMBERS
 NamesVm (DropPage n page) = n < VM_NUMBERS
 NamesVm (Gone n) = n < VM_NUMBERS

@@ -1,15 +1,15 @@
 //! Targets, and what they are made from.
 
-ghost use Rattle.std.specs.Prelude.{◌≡◌, ◌<◌, ◌≤◌, ◌+◌, ◌-◌, ◌^◌, min, length, map, option_map, sum_by, Some, None, Ok, IfOk};
+ghost use Rattle.std.specs.Prelude.{◌≡◌, ◌<◌, nat_lt, ◌≤◌, ◌+◌, ◌-◌, ◌^◌, min, length, map, option_map, sum_by, Some, None, Ok, IfOk};
 ghost use Rattle.esx_types.specs.Ranges.{IsConfig};
-ghost use Rattle.esx_types.specs.declared.config.TheConstants.{VM_NUMBERS};
+ghost use Rattle.esx_types.specs.declared.config.TheConstants.{MAX_TAU, VM_NUMBERS};
 ghost use Rattle.esx_formulas.specs.declared.activity.TheConstants.{WHOLE};
 ghost use Rattle.esx_formulas.specs.Targets.{spare};
 ghost use Rattle.esx_events.specs.declared.event.Answer.TheVariants as answers;
 ghost use Rattle.esx_model.specs.declared.scene.Vm.{Vm};
 ghost use Rattle.esx_model.specs.Hints.{with_change};
 ghost use Rattle.esx_model.specs.sound.Sound.{IsSound};
-ghost use Rattle.esx_model.specs.event.Rebalancing.{active, row_of_vm, rows_of, min_of, at_max, with_targets, need, share_out, rebalance, set_shares, set_tax};
+ghost use Rattle.esx_model.specs.event.Rebalancing.{active, row_of_vm, rows_of, min_of, at_max, with_targets, need, share_out, rebalance, set_shares, set_tax, set_vm_tax};
 ghost use Rattle.esx_steps.specs.Gives.{Gives};
 ghost use Rattle.esx_steps.specs.Numbers.{HasNumbers};
 
@@ -20,6 +20,7 @@ use esx_events::{Answer, Refusal};
 use esx_formulas::Row;
 use esx_formulas::activity::{active_share, fast_average, slow_average};
 use esx_formulas::level::{margin, threshold};
+use esx_formulas::ratio::tax_of;
 use esx_formulas::targets::targets;
 use esx_model::{Site, Vm};
 use esx_types::{Config, Level, MAX_SHARES, MAX_TAU, Rows, VM_NUMBERS, VmId};
@@ -57,17 +58,56 @@ pub fn set_shares(
     Ok((Answer::Done, with_shares(site, number, shares)))
 }
 
-/// The tax is set.
+/// Is it more than a tax may be?
+fn is_too_much(tau: u32) -> bool
+    ensures { result ≡ nat_lt MAX_TAU tau }
+{
+    MAX_TAU < tau
+}
+
+/// The site's tax is set.
 #[tactic(auto, unfolding(esx_model::specs::event::Rebalancing::set_tax))]
 pub fn set_tax(site: Site, tau: u32) -> Result<(Answer, Site), Refusal>
     ensures { Gives result (set_tax site tau) }
 {
-    if MAX_TAU < tau {
+    if is_too_much(tau) {
         return Err(Refusal::BadSpec);
     }
     let mut site = site;
     site.tau = tau;
     Ok((Answer::Done, site))
+}
+
+fn with_tax(site: Site, number: usize, tau: u32) -> Site
+    requires { number < length site.vms }
+    ensures { result ≡ with_change site number (λ v. record v { spec = record v.spec { tau = Some tau } }) }
+{
+    let mut site = site;
+    if let Some(vm) = site.vms.row_mut(number) {
+        vm.spec.tau = Some(tau);
+    }
+    site
+}
+
+/// A machine has a tax of its own from now on.
+#[tactic(auto, unfolding(esx_model::specs::event::Rebalancing::set_vm_tax))]
+pub fn set_vm_tax(
+    config: &Config,
+    site: Site,
+    vm: VmId,
+    tau: u32,
+) -> Result<(Answer, Site), Refusal>
+    requires { IsSound config.now site }
+    ensures { Gives result (set_vm_tax site vm tau) }
+{
+    let number = usize::from(vm.number());
+    if vm_of(config, &site, number).is_none() {
+        return Err(Refusal::NoVm);
+    }
+    if is_too_much(tau) {
+        return Err(Refusal::BadSpec);
+    }
+    Ok((Answer::Done, with_tax(site, number, tau)))
 }
 
 /// The active share of a machine's memory at present.
@@ -95,7 +135,7 @@ fn row_of_vm(tau: u32, number: VmId, vm: &Vm) -> Row
         pages: resident(vm) as u32,
         floor: vm.spec.min,
         active: active(vm),
-        tau,
+        tau: tax_of(tau, vm.spec.tau),
     }
 }
 
@@ -107,11 +147,8 @@ fn rows(alloc: Global, config: &Config, site: &Site) -> Result<Vec<Row>, AllocEr
 {
     let mut rows = Vec::new(alloc);
     for number in 0..VM_NUMBERS {
-        let vm = vm_of(config, site, number);
-        if let Some(id) = VmId::new(number as u8) {
-            if let Some(vm) = vm {
-                rows.push(row_of_vm(site.tau, id, vm))?;
-            }
+        if let Some(vm) = vm_of(config, site, number) {
+            rows.push(row_of_vm(site.tau, VmId::new(number as u8), vm))?;
         }
     }
     Ok(rows)

@@ -18,7 +18,7 @@ use crate::event::access::contents;
 use crate::site::{is_hint_of, pages_at, put, vm_at, vm_of};
 use crate::vm::{is_here, place_at};
 use esx_events::{Answer, Refusal, Scanned};
-use esx_formulas::content_key;
+use esx_formulas::{content_key, hint_key, short_of};
 use esx_model::{Look, Place, Site, Vm};
 use esx_types::{Bytes, Config, Hint, Rows, VmId, VmState};
 use std::alloc::{AllocError, Global};
@@ -65,7 +65,7 @@ fn shared_under(site: &Site, key: u64) -> Option<&Place>
 }
 
 /// The hint of another page under a key.
-fn other_hint(hints: &[Hint], key: u64, number: usize, page: u32) -> Option<Hint>
+fn other_hint(hints: &[Hint], key: u32, number: usize, page: u32) -> Option<Hint>
     ensures { result ≡ other_hint key number page hints.now }
 {
     hints
@@ -114,7 +114,7 @@ fn look_at_hinted(bytes: &[u8], hint: Hint, place: Option<&Place>) -> Look
                 ..
             },
         ) => {
-            if content_key(others.as_slice()) != hint.key {
+            if hint_key(others.as_slice()) != hint.key {
                 Look::Changed
             } else if bytes == others.as_slice() {
                 Look::OtherPage {
@@ -150,7 +150,7 @@ fn look_private(site: &Site, number: usize, page: u32, bytes: &[u8]) -> Look
     match shared_under(site, key) {
         Some(place) => look_at_shared(bytes, place),
         None => {
-            let hint = other_hint(site.hints.as_slice(), key, number, page);
+            let hint = other_hint(site.hints.as_slice(), short_of(key), number, page);
             look_at_hint(site, bytes, hint)
         }
     }
@@ -174,7 +174,7 @@ pub fn look(site: &Site, number: usize, page: u32, place: Option<&Place>) -> Loo
 }
 
 /// The first hint whose key is not below a key.
-fn first_from(hints: &[Hint], key: u64) -> Option<usize>
+fn first_from(hints: &[Hint], key: u32) -> Option<usize>
     ensures place { result ≡ position_from (λ own. nat_le key own.key) 0 hints.now }
     ensures within { IfSome result (λ at. at < length hints.now) }
 {
@@ -218,7 +218,7 @@ fn hinted(alloc: Global, site: Site, vm: VmId, page: u32, bytes: &[u8]) -> Resul
     ensures { IfOk result (λ t. t ≡ hinted site vm page bytes.now) }
 {
     let new = Hint {
-        key: content_key(bytes),
+        key: hint_key(bytes),
         vm,
         page,
     };

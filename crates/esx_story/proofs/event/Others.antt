@@ -20,7 +20,7 @@ use Rattle.esx_model.specs.event.Outcome.{standing}
 use Rattle.esx_model.specs.event.Admission.{memory_with, swap_with, admit_gate, reserves_in, admitted, admit}
 use Rattle.esx_model.specs.event.Starting.{start_gate, with_overhead, take_overhead, start}
 use Rattle.esx_model.specs.event.Sampling.{sample_gate, opened_period, sample}
-use Rattle.esx_model.specs.event.Rebalancing.{with_targets, at_max, rows_of, min_of, need, share_out, rebalance, shares_gate, set_shares, tax_gate, set_tax}
+use Rattle.esx_model.specs.event.Rebalancing.{with_targets, at_max, rows_of, min_of, need, share_out, rebalance, shares_gate, set_shares, tax_gate, set_tax, set_vm_tax}
 use Rattle.esx_model.proofs.Callers.{of_vm, passed, accepted, same_site}
 use Rattle.esx_story.proofs.Bits.{bits, bits_in, trues, has_set, has_vm, keeps_of}
 use Rattle.esx_story.proofs.Moves.{Moves, moves_none}
@@ -89,6 +89,14 @@ set_tax_moves s tau r h =
     let pass = passed (tax_gate tau) _ r h in
     let P : Site → Type 0 = λ t. Moves s t None None in
     subst P (same_site answers.Done (record s { tau = tau }) r pass.1) (moves_none s (record s { tau = tau }) (λ m. refl))
+
+pub set_vm_tax_moves : (s : Site) (n tau : ℕ) (r : Answer × Site) → set_vm_tax s n tau ≡ Ok r → Moves s r.1 None None
+unfolding set_vm_tax
+set_vm_tax_moves s n tau r h =
+    let own = of_vm (vm_at s n) _ r h in
+    let v = own.vm in
+    let pass = passed (tax_gate tau) _ r own.then in
+    row_moves s n v (record v { spec = record v.spec { tau = Some tau } }) answers.Done r own.there refl pass.1
 
 at_max_keeps : (vms : List (Option Vm)) (m : ℕ) → bits_in (get_or (map (option_map at_max) vms) m None) ≡ bits_in (get_or vms m None)
 at_max_keeps [] m = refl
