@@ -1,0 +1,5 @@
+pub mod Sharing
+pub mod Paging
+pub mod Rebalancing
+pub mod Step
+pub mod Replay

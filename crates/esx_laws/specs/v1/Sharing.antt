@@ -1,0 +1,59 @@
+-- The look at hints of version 1: a hint stands under the whole key of its content, and is stale where its page has another key.
+use Rattle.std.specs.Prelude.{ℕ, true, false, not, ◌==◌, List, Option, Some, None, bytes_eq, if◌then◌else◌}
+use Rattle.esx_types.specs.declared.config.Config.{Config}
+use Rattle.esx_types.specs.declared.table.Hint.{Hint}
+use Rattle.esx_model.specs.declared.look.Look.{Look}
+use Rattle.esx_model.specs.declared.look.Look.TheVariants.{Already, SharedFrame, OtherPage, Changed, OtherBytes, Nothing}
+use Rattle.esx_model.specs.declared.scene.Place.{Place}
+use Rattle.esx_model.specs.declared.scene.Place.TheVariants.{Untouched, Here, Out, Lent}
+use Rattle.esx_model.specs.declared.scene.Site.{Site}
+use Rattle.esx_formulas.specs.Key.{content_key}
+use Rattle.esx_model.specs.Places.{is_here, contents}
+use Rattle.esx_model.specs.Site.{vm_at, place_at, place_of}
+use Rattle.esx_model.specs.Hints.{with_hint, other_hint, placed}
+use Rattle.esx_model.specs.event.Outcome.{Outcome, at_vm, unless, standing}
+use Rattle.esx_model.specs.event.Sharing.{shared_under, look_at_shared, looked, scan_gate}
+
+-- at the page of a hint under the same key
+abbrev pub look_at_hinted : List ℕ → Hint → Place → Look
+look_at_hinted bytes h (Here others f shared) =
+    if not (content_key others == h.key) then Changed
+    else (if bytes_eq bytes others then OtherPage h.vm h.page f else OtherBytes)
+look_at_hinted bytes h Untouched = Changed
+look_at_hinted bytes h (Out others slot) = Changed
+look_at_hinted bytes h (Lent epoch) = Changed
+
+abbrev pub look_at_hint : Site → List ℕ → Option Hint → Look
+look_at_hint s bytes None = Nothing
+look_at_hint s bytes (Some h) = look_at_hinted bytes h (place_of s h.vm h.page)
+
+-- a shared page comes before a hint
+abbrev pub look_private : Site → ℕ → ℕ → List ℕ → Option Place → Look
+look_private s n page bytes (Some p) = look_at_shared bytes p
+look_private s n page bytes None = look_at_hint s bytes (other_hint (content_key bytes) n page s.hints)
+
+unfoldable pub look : Site → ℕ → ℕ → Place → Look
+look s n page (Here bytes f true) = Already
+look s n page (Here bytes f false) = look_private s n page bytes (shared_under (content_key bytes) s)
+look s n page Untouched = Nothing
+look s n page (Out bytes slot) = Nothing
+look s n page (Lent epoch) = Nothing
+
+-- the site where the page is the hint under its key
+abbrev pub hinted : Site → ℕ → ℕ → List ℕ → Site
+hinted s n page bytes = record s { hints = with_hint (record { key = content_key bytes; vm = n; page = page }) s.hints }
+
+-- the site after a look: equal pages come into one frame, and what finds nothing is remembered
+abbrev pub after_look : Site → ℕ → ℕ → List ℕ → Look → Site
+after_look s n page bytes Already = s
+after_look s n page bytes (SharedFrame f) = placed s n page (Here bytes f true)
+after_look s n page bytes (OtherPage m q f) = placed (placed s m q (Here bytes f true)) n page (Here bytes f true)
+after_look s n page bytes Changed = hinted s n page bytes
+after_look s n page bytes OtherBytes = s
+after_look s n page bytes Nothing = hinted s n page bytes
+
+abbrev pub scan_place : Config → Site → ℕ → ℕ → Place → Outcome
+scan_place c s n page p = looked (look s n page p) (after_look s n page (contents c p) (look s n page p))
+
+unfoldable pub scan : Config → Site → ℕ → ℕ → Outcome
+scan c s n page = at_vm (vm_at s n) (λ v. unless (scan_gate (standing v) page (is_here (place_at v page))) (scan_place c s n page (place_at v page)))
