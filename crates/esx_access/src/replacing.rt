@@ -34,7 +34,7 @@ fn replace_gate(tables: &SiteTables, row: &VmTable, page: u32) -> Option<Refusal
     if standing.spec.max <= page {
         return Some(Refusal::OutOfRange);
     }
-    if row.page(page).is_here() || 0 < tables.counts().free || any_spare(tables.vms()) {
+    if row.page(page).is_here() || 0 < tables.counts().free || any_spare(tables) {
         return Some(Refusal::NotNeeded);
     }
     None

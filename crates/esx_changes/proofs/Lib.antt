@@ -1,3 +1,4 @@
 pub mod Rows
 pub mod Turned
 pub mod Draws
+pub mod Spares

@@ -7,7 +7,7 @@ use Rattle.esx_keys.specs.declared.entry.Entry.TheVariants.{Shared, Hint}
 use Rattle.esx_keys.specs.declared.entry.Kind.{Kind}
 use Rattle.esx_keys.specs.declared.arena.Slot.{Slot}
 use Rattle.esx_keys.specs.Kinds.{kind_of}
-use Rattle.esx_keys.specs.Table.{with_entry}
+use Rattle.esx_keys.specs.Table.{with_entry_at}
 use Rattle.esx_keys.specs.Arena.{Holds, IsDistinct, shared_of, hint_of, shared_in, hint_in, slot_at, slot_group, group_of, table_of, vacant_slot}
 use Rattle.esx_keys.proofs.Picked.{filter_map-set_same, from_entries-set}
 use Rattle.esx_keys.proofs.Tables.{IsKeyed-shared, IsKeyed-hint}
@@ -66,7 +66,7 @@ module _ (slots : List Slot) (f key next : ℕ) (entry : Entry) (within : f < le
   no_page : hint_in (slot_at slots f) ≡ None
   no_page = ap (hint_of (slot_at slots f).key) free
 
-  table_with : (o : Entry) → o ≡ entry → IsDistinct (set slots f (record { key = key; entry = Some o; next = next })) → table_of (set slots f (record { key = key; entry = Some o; next = next })) ≡ with_entry (table_of slots) key o
+  table_with : (o : Entry) → o ≡ entry → IsDistinct (set slots f (record { key = key; entry = Some o; next = next })) → table_of (set slots f (record { key = key; entry = Some o; next = next })) ≡ with_entry_at (table_of slots) key o
   table_with (Shared frame) e distinct_after =
       let y : Slot = record { key = key; entry = Some (Shared frame); next = next } in
       let shared = from_entries-set shared_in vacant_slot refl slots f y key frame within no_frame refl (IsKeyed-shared slots distinct) (IsKeyed-shared _ distinct_after) in
@@ -78,5 +78,5 @@ module _ (slots : List Slot) (f key next : ℕ) (entry : Entry) (within : f < le
       let hints = from_entries-set hint_in vacant_slot refl slots f y key (vm, page) within no_page refl (IsKeyed-hint slots distinct) (IsKeyed-hint _ distinct_after) in
       λ t. record { room = length-set slots f y t; shared = shared t; hints = hints t }
 
-  pub table_of-put : table_of (set slots f (record { key = key; entry = Some entry; next = next })) ≡ with_entry (table_of slots) key entry
+  pub table_of-put : table_of (set slots f (record { key = key; entry = Some entry; next = next })) ≡ with_entry_at (table_of slots) key entry
   table_of-put = table_with entry refl IsDistinct-put

@@ -14,7 +14,7 @@ use Rattle.esx_keys.specs.declared.entry.Kind.{Kind}
 use Rattle.esx_keys.specs.declared.entry.Kind.TheVariants.{Shared as SharedKind, Hint as HintKind}
 use Rattle.esx_keys.specs.declared.arena.Slot.{Slot}
 use Rattle.esx_keys.specs.Kinds.{kind_of}
-use Rattle.esx_keys.specs.Table.{KeyTable, entry_count, entry_under, without_entry, head_count, falls_to, chain_length}
+use Rattle.esx_keys.specs.Table.{KeyTable, entry_count, entry_at, without_entry_at, head_count, falls_to, chain_length}
 use Rattle.esx_keys.specs.Arena.{Holds, IsDistinct, shared_of, hint_of, shared_in, hint_in, slot_at, slot_group, group_of, table_of, vacant_slot}
 use Rattle.esx_keys.proofs.Lists.{count_by-true, option_map-none}
 use Rattle.esx_keys.proofs.Picked.{IsKeyed, find-found, find-absent, passes, count_by-keys, tie_same, tie_apart}
@@ -63,28 +63,28 @@ one_hint slots distinct i q v a j w b =
     let same = IsKeyed-hint slots distinct j i q w v b a in
     (some_pair_parts q q w v (sym b ∙ ap (λ k. hint_in (slot_at slots k)) same ∙ a)).1
 
-pub entry_under-found : (slots : List Slot) (i q : ℕ) (kind : Kind) → IsDistinct slots → Holds (slot_at slots i) q kind → entry_under (table_of slots) q kind ≡ (slot_at slots i).entry
-entry_under-found slots i q SharedKind distinct holds =
+pub entry_at-found : (slots : List Slot) (i q : ℕ) (kind : Kind) → IsDistinct slots → Holds (slot_at slots i) q kind → entry_at (table_of slots) q kind ≡ (slot_at slots i).entry
+entry_at-found slots i q SharedKind distinct holds =
     let s = slot_at slots i in
     let here = shared_of-entry s.key s.entry holds.same_kind in
     let there : shared_in s ≡ Some (q, here.0) = here.1 ∙ ap (λ k. Some (k, here.0)) holds.same_key in
     ap (option_map (λ frame. Shared frame)) (get-from_entries nat_cmp_total _ q ∙ find-found shared_in vacant_slot refl slots q here.0 i there (one_shared slots distinct i q here.0 there)) ∙ sym here.2
-entry_under-found slots i q HintKind distinct holds =
+entry_at-found slots i q HintKind distinct holds =
     let s = slot_at slots i in
     let here = hint_of-entry s.key s.entry holds.same_kind in
     let there : hint_in s ≡ Some (q, here.0) = here.1 ∙ ap (λ k. Some (k, here.0)) holds.same_key in
     ap (option_map (λ hint. Hint hint.0 hint.1)) (get-from_entries nat_cmp_total _ q ∙ find-found hint_in vacant_slot refl slots q here.0 i there (one_hint slots distinct i q here.0 there)) ∙ sym here.2
 
-pub entry_under-absent : (slots : List Slot) (q : ℕ) (kind : Kind) → ((i : ℕ) → Holds (slot_at slots i) q kind → ⊥) → entry_under (table_of slots) q kind ≡ None
-entry_under-absent slots q SharedKind absent =
+pub entry_at-absent : (slots : List Slot) (q : ℕ) (kind : Kind) → ((i : ℕ) → Holds (slot_at slots i) q kind → ⊥) → entry_at (table_of slots) q kind ≡ None
+entry_at-absent slots q SharedKind absent =
     ap (option_map (λ frame. Shared frame)) (get-from_entries nat_cmp_total _ q ∙ find-absent shared_in vacant_slot refl slots q (λ j w e. absent j (shared_holds _ q w e)))
-entry_under-absent slots q HintKind absent =
+entry_at-absent slots q HintKind absent =
     ap (option_map (λ hint. Hint hint.0 hint.1)) (get-from_entries nat_cmp_total _ q ∙ find-absent hint_in vacant_slot refl slots q (λ j w e. absent j (hint_holds _ q w e)))
 
 -- where a look-up finds nothing, no slot has the entry
-pub absent_from_entry_under : (slots : List Slot) (q : ℕ) (kind : Kind) → IsDistinct slots → entry_under (table_of slots) q kind ≡ None → (i : ℕ) → Holds (slot_at slots i) q kind → ⊥
-absent_from_entry_under slots q kind distinct nothing i holds =
-    let found = entry_under-found slots i q kind distinct holds in
+pub absent_from_entry_at : (slots : List Slot) (q : ℕ) (kind : Kind) → IsDistinct slots → entry_at (table_of slots) q kind ≡ None → (i : ℕ) → Holds (slot_at slots i) q kind → ⊥
+absent_from_entry_at slots q kind distinct nothing i holds =
+    let found = entry_at-found slots i q kind distinct holds in
     let is_kind = holds.same_kind in
     let no_entry : None ≡ (slot_at slots i).entry = sym nothing ∙ found in
     let no_kind : option_map kind_of None ≡ Some kind = ap (option_map kind_of) no_entry ∙ is_kind in
@@ -101,9 +101,9 @@ remove-absent m k nothing = same_map nat_cmp_total nat_cmp-IsAntisymmetric _ _ (
         ]
 
 -- to take out what is not there changes nothing
-pub without_entry-absent : (t : KeyTable) (q : ℕ) (kind : Kind) → entry_under t q kind ≡ None → without_entry t q kind ≡ t
-without_entry-absent t q SharedKind nothing = ap (λ m. record t { shared = m }) (remove-absent t.shared q (option_map-none _ _ nothing))
-without_entry-absent t q HintKind nothing = ap (λ m. record t { hints = m }) (remove-absent t.hints q (option_map-none _ _ nothing))
+pub without_entry_at-absent : (t : KeyTable) (q : ℕ) (kind : Kind) → entry_at t q kind ≡ None → without_entry_at t q kind ≡ t
+without_entry_at-absent t q SharedKind nothing = ap (λ m. record t { shared = m }) (remove-absent t.shared q (option_map-none _ _ nothing))
+without_entry_at-absent t q HintKind nothing = ap (λ m. record t { hints = m }) (remove-absent t.hints q (option_map-none _ _ nothing))
 
 -- an entry of a head's chain is a shared frame or a hint whose key falls to the head
 chain_share : (room h key : ℕ) (o : Option Entry) → h < head_count room → cond {A = ℕ} (eqb (group_of (head_count room) key o) h) 1 0 ≡ cond (passes (falls_to room h) (shared_of key o)) 1 0 + cond (passes (falls_to room h) (hint_of key o)) 1 0

@@ -9,7 +9,7 @@ use Rattle.esx_keys.specs.declared.entry.Kind.{Kind}
 use Rattle.esx_keys.specs.declared.entry.Kind.TheVariants.{Shared as SharedKind, Hint as HintKind}
 use Rattle.esx_keys.specs.declared.arena.Slot.{Slot}
 use Rattle.esx_keys.specs.Kinds.{kind_of}
-use Rattle.esx_keys.specs.Table.{without_entry}
+use Rattle.esx_keys.specs.Table.{without_entry_at}
 use Rattle.esx_keys.specs.Arena.{Holds, IsDistinct, shared_of, hint_of, shared_in, hint_in, slot_at, table_of, vacant_slot}
 use Rattle.esx_keys.proofs.Picked.{Refills, from_entries-taken, from_entries-refilled}
 use Rattle.esx_keys.proofs.Tables.{IsKeyed-shared, IsKeyed-hint, shared_of-entry, hint_of-entry}
@@ -90,7 +90,7 @@ module _ (slots : List Slot) (at f : ℕ) (moved freed : Slot) (at_within : at <
   room_kept : length (set (set slots at moved) f freed) ≡ length slots
   room_kept = length-set (set slots at moved) f freed ∙ length-set slots at moved
 
-  pub table_of-taken : (q : ℕ) (kind : Kind) → IsDistinct slots → Holds (slot_at slots at) q kind → table_of (set (set slots at moved) f freed) ≡ without_entry (table_of slots) q kind
+  pub table_of-taken : (q : ℕ) (kind : Kind) → IsDistinct slots → Holds (slot_at slots at) q kind → table_of (set (set slots at moved) f freed) ≡ without_entry_at (table_of slots) q kind
   table_of-taken q SharedKind distinct holds =
       let s = slot_at slots at in
       let here = shared_of-entry s.key s.entry holds.same_kind in

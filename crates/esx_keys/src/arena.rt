@@ -1,9 +1,10 @@
-//! The arena: slots for entries, each in one chain.
+//! The arena: slots for entries, each in one chain. What is called a key here is the number that an entry
+//! stands under.
 
 ghost use Rattle.std.specs.Prelude.{◌≡◌, ◌≢◌, ◌-◌, ◌%◌, ◌<◌, ℕ, length, IsTrue, ◌↔◌, MatchOption, ⊤, slice_set, replicate, None, IfOk, IfNone, OnSome, ◌+◌, ◌≤◌, ◌^◌};
 ghost use Rattle.std.specs.Int.{IsPowerOfTwo};
 ghost use Rattle.esx_keys.specs.Kinds.{kind_of};
-ghost use Rattle.esx_keys.specs.Table.{entry_count, entry_under, with_entry, without_entry};
+ghost use Rattle.esx_keys.specs.Table.{entry_count, entry_at, with_entry_at, without_entry_at};
 ghost use Rattle.esx_keys.specs.Arena.{IsLinked, IsArena, Holds, group_of, slot_at, chain_at, no_chain, AreFree, table_of};
 
 use crate::entry::{Entry, Kind};
@@ -133,7 +134,7 @@ fn move_first(
 /// The entry of this kind under this key.
 pub(crate) fn look_up(slots: &[Slot], chains: &[Chain], key: u64, kind: Kind) -> Option<Entry>
     requires { IsArena slots.now chains.now }
-    ensures { result ≡ entry_under (table_of slots.now) key kind }
+    ensures { result ≡ entry_at (table_of slots.now) key kind }
 {
     let at = find(slots, chains, key, kind)?;
     slots[at].entry
@@ -143,9 +144,9 @@ pub(crate) fn look_up(slots: &[Slot], chains: &[Chain], key: u64, kind: Kind) ->
 pub(crate) fn insert(slots: &mut [Slot], chains: &mut [Chain], key: u64, entry: Entry)
     requires arena { IsArena slots.old chains.old }
     requires room { entry_count (table_of slots.old) < length slots.old }
-    requires vacant { entry_under (table_of slots.old) key (kind_of entry) ≡ None }
+    requires vacant { entry_at (table_of slots.old) key (kind_of entry) ≡ None }
     ensures arena { IsArena slots.new chains.new }
-    ensures table { table_of slots.new ≡ with_entry (table_of slots.old) key entry }
+    ensures table { table_of slots.new ≡ with_entry_at (table_of slots.old) key entry }
     ensures room { length slots.new ≡ length slots.old }
     ensures count { entry_count (table_of slots.new) ≡ entry_count (table_of slots.old) + 1 }
 {
@@ -163,11 +164,11 @@ pub(crate) fn remove(
 ) -> Option<Entry>
     requires { IsArena slots.old chains.old }
     ensures arena { IsArena slots.new chains.new }
-    ensures value { result ≡ entry_under (table_of slots.old) key kind }
-    ensures table { table_of slots.new ≡ without_entry (table_of slots.old) key kind }
+    ensures value { result ≡ entry_at (table_of slots.old) key kind }
+    ensures table { table_of slots.new ≡ without_entry_at (table_of slots.old) key kind }
     ensures room { length slots.new ≡ length slots.old }
     ensures none { IfNone result (table_of slots.new ≡ table_of slots.old) }
-    ensures gone { entry_under (table_of slots.new) key kind ≡ None }
+    ensures gone { entry_at (table_of slots.new) key kind ≡ None }
     ensures count { OnSome result (entry_count (table_of slots.new) + 1 ≡ entry_count (table_of slots.old)) }
 {
     let at = find(slots, chains, key, kind)?;

@@ -5,8 +5,8 @@ ghost use Rattle.esx_keys.specs.Kinds.{kind_of};
 
 use esx_types::VmId;
 
-/// What a key leads to: the frame that holds the shared content, or a page that had this key when it was
-/// scanned and was not shared then.
+/// What a key leads to: the frame that holds the shared content, or a page whose key had the same short when
+/// it was scanned and that was not shared then.
 #[derive(Clone, Copy, Debug, PartialEq, Eq)]
 pub enum Entry {
     Shared { frame: u32 },
@@ -22,8 +22,8 @@ pub enum Kind {
 
 impl Entry {
     /// The look-up that finds this entry.
-    pub fn kind(self) -> Kind
-        ensures { result ≡ kind_of self }
+    pub fn kind(&self) -> Kind
+        ensures { result ≡ kind_of self.now }
     {
         match self {
             Entry::Shared { .. } => Kind::Shared,

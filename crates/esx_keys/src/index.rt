@@ -1,4 +1,5 @@
-//! The index over listings: chains of frames in ascending order, one for the keys of each head.
+//! The index over listings: chains of frames in ascending order, one for the numbers of each head. The number
+//! that a shared frame stands under is its key, that of a hint its short.
 
 ghost use Rattle.std.specs.Prelude.{◌≡◌, ◌<◌, ℕ, Option, Some, None, length, slice_set, IfOk, IfSome, replicate};
 ghost use Rattle.std.specs.Int.{IsPowerOfTwo};
@@ -35,18 +36,19 @@ fn chain_of(listing: &Listing, heads: usize) -> Option<usize>
 {
     match listing {
         Listing::Unlisted => None,
-        Listing::Shared { key } | Listing::Hinted { key, .. } => Some(head_of(*key, heads)),
+        Listing::Shared { key } => Some(head_of(*key, heads)),
+        Listing::Hinted { key, .. } => Some(head_of(u64::from(*key), heads)),
     }
 }
 
-/// Is this what stands under the key?
-fn is_under(listing: &Listing, kind: Kind, key: u64) -> bool
-    ensures { result ≡ is_under kind key listing.now }
+/// Is this what stands under the number?
+fn is_under(listing: &Listing, kind: Kind, number: u64) -> bool
+    ensures { result ≡ is_under kind number listing.now }
 {
     match listing {
         Listing::Unlisted => false,
-        Listing::Shared { key: own } => kind == Kind::Shared && *own == key,
-        Listing::Hinted { key: own, .. } => kind == Kind::Hint && *own == key,
+        Listing::Shared { key } => kind == Kind::Shared && *key == number,
+        Listing::Hinted { key, .. } => kind == Kind::Hint && u64::from(*key) == number,
     }
 }
 
@@ -80,15 +82,15 @@ impl Index {
         chains::spread(&mut self.heads, self.chains);
     }
 
-    /// The least frame of this kind under a key.
-    pub(crate) fn find(&self, kind: Kind, key: u64) -> Option<u32>
+    /// The least frame of this kind under a number.
+    pub(crate) fn find(&self, kind: Kind, number: u64) -> Option<u32>
         requires { IsIndex self.now }
-        ensures { result ≡ position_from (is_under kind key) 0 self.now.listings }
+        ensures { result ≡ position_from (is_under kind number) 0 self.now.listings }
     {
         let listings = self.listings.used();
-        let mut at = self.heads[head_of(key, self.heads.len())];
+        let mut at = self.heads[head_of(number, self.heads.len())];
         while (at as usize) < listings.len() {
-            if is_under(&listings[at as usize], kind, key) {
+            if is_under(&listings[at as usize], kind, number) {
                 return Some(at);
             }
             at = *self.next.row(at as usize);

@@ -1,5 +1,6 @@
-//! Shared frames and hints under content keys, from Waldspurger's section on content-based page sharing:
-//! `Listings` by frame, with an index by key, and `Keys` by key alone.
+//! Shared frames under content keys, and hints under the upper 32 bits of them, their shorts, from
+//! Waldspurger's section on content-based page sharing: `Listings` by frame, with an index by key and short,
+//! and `Keys` by key alone.
 #![tactic(auto)]
 
 mod arena;
@@ -12,6 +13,6 @@ mod order;
 mod table;
 
 pub use entry::{Entry, Kind};
-pub use esx_formulas::content_key as key;
+pub use esx_formulas::{content_key as key, short_of};
 pub use listings::Listings;
 pub use table::Keys;

@@ -15,8 +15,8 @@ use esx_types::{Hint, KeyRow, Listing, Rows};
 use std::alloc::{AllocError, Global};
 use std::marker::Model;
 
-/// What each frame stands under, seen as the list of it, and an index by key over it; a frame's number is
-/// its place.
+/// What each frame stands under, seen as the list of it, and an index by key and short over it; a frame's
+/// number is its place. A shared frame stands under its key, a hint under its short.
 ///
 /// No call but `new` and the two that list what stands takes memory. A listing takes 16 bytes, and a frame
 /// 8 to 12 more, for the next of its chain and for the heads of chains, of which there are the least power
@@ -94,14 +94,14 @@ impl Listings {
         self.index.find(Kind::Shared, key)
     }
 
-    /// The least frame whose page is a hint under a key.
-    pub fn hinted_under(&self, key: u64) -> Option<u32>
-        ensures least { result ≡ position_from (is_hinted_under key) 0 self.now }
-        ensures found { IfSome result (λ frame. IsHintedUnder key (listing_at self.now frame)) }
+    /// The least frame whose page is a hint under a short.
+    pub fn hinted_under(&self, short: u32) -> Option<u32>
+        ensures least { result ≡ position_from (is_hinted_under short) 0 self.now }
+        ensures found { IfSome result (λ frame. IsHintedUnder short (listing_at self.now frame)) }
         ensures within { IfSome result (λ frame. frame < length self.now) }
-        ensures none { IfNone result ((frame : ℕ) → ¬ IsHintedUnder key (listing_at self.now frame)) }
+        ensures none { IfNone result ((frame : ℕ) → ¬ IsHintedUnder short (listing_at self.now frame)) }
     {
-        self.index.find(Kind::Hint, key)
+        self.index.find(Kind::Hint, u64::from(short))
     }
 
     /// The shared frames in order of key, and those under one key in order of number.
@@ -111,7 +111,7 @@ impl Listings {
         order::shared_in_order(alloc, self.index.listings.used())
     }
 
-    /// The hints in order of key, and those under one key in order of their frames.
+    /// The hints in order of short, and those under one short in order of their frames.
     pub fn hints(&self, alloc: Global) -> Result<Rows<Hint>, AllocError>
         ensures { IfOk result (λ rows. rows ≡ in_order (λ (hint : Hint). hint.key) (hints_of self.now)) }
     {

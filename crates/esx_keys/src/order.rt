@@ -1,4 +1,4 @@
-//! What stands under keys, in order of key.
+//! What stands under keys and shorts, in order of these.
 
 ghost use Rattle.std.specs.Prelude.{◌≡◌, ◌<◌, ◌^◌, IfOk, length};
 ghost use Rattle.esx_types.specs.declared.table.KeyRow.{KeyRow};
@@ -66,7 +66,7 @@ pub(crate) fn shared_in_order(
     Ok(Rows::from_vec(rows))
 }
 
-/// The hints, in order of key.
+/// The hints, in order of short.
 pub(crate) fn hints_in_order(alloc: Global, listings: &[Listing]) -> Result<Rows<Hint>, AllocError>
     ensures { IfOk result (λ rows. rows ≡ in_order (λ (hint : Hint). hint.key) (hints_of listings.now)) }
 {

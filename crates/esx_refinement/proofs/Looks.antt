@@ -14,7 +14,7 @@ use Rattle.esx_types.specs.declared.table.Hint.{Hint}
 use Rattle.esx_types.specs.declared.table.Listing.TheVariants as listings
 use Rattle.esx_types.specs.Frames.{frame_at, bytes_of}
 use Rattle.esx_types.specs.Listings.{listing_at, is_shared_under, is_hinted_under}
-use Rattle.esx_formulas.specs.Key.{content_key}
+use Rattle.esx_formulas.specs.Key.{content_key, hint_key}
 use Rattle.esx_model.specs.declared.look.Look.TheVariants.{OtherPage, Changed, OtherBytes, Nothing}
 use Rattle.esx_model.specs.declared.scene.Place.{Place}
 use Rattle.esx_model.specs.declared.scene.Place.TheVariants.{Untouched, Here, Out, Lent}
@@ -287,21 +287,21 @@ by_shared c s n page bytes key p sound known =
     ∙ ap (λ r. look_at_shared bytes (bytes_of r) g) (row_at_frame c s g known.below ∙ row.1)
     ∙ sym (ap (model.look_at_shared bytes) known.is)
 
--- the keys of equal bytes are one, so that bytes may be compared before keys
-hinted_same : (n page : ℕ) (bytes others : List ℕ) (key g : ℕ) (h : Hint) → key ≡ content_key bytes → h.key ≡ key → is_hint_of n page h ≡ false
+-- the upper bits of the keys of equal bytes are one, so that bytes may be compared before keys
+hinted_same : (n page : ℕ) (bytes others : List ℕ) (key g : ℕ) (h : Hint) → key ≡ hint_key bytes → h.key ≡ key → is_hint_of n page h ≡ false
     → look_at_hinted n page bytes key others g (listings.Hinted h.vm h.page h.key) ≡ model.look_at_hinted bytes h (Here others g false)
 hinted_same n page bytes others key g h own under other =
-    ap (λ b. cond b Nothing (cond (bytes_eq bytes others) (OtherPage h.vm h.page g) (cond (content_key others == key) OtherBytes Changed))) other
-    ∙ of (bytes_eq bytes others) (content_key others == key) refl refl
-    ∙ sym (ap (λ k. cond (not (content_key others == k)) Changed (cond (bytes_eq bytes others) (OtherPage h.vm h.page g) OtherBytes)) under)
+    ap (λ b. cond b Nothing (cond (bytes_eq bytes others) (OtherPage h.vm h.page g) (cond (hint_key others == key) OtherBytes Changed))) other
+    ∙ of (bytes_eq bytes others) (hint_key others == key) refl refl
+    ∙ sym (ap (λ k. cond (not (hint_key others == k)) Changed (cond (bytes_eq bytes others) (OtherPage h.vm h.page g) OtherBytes)) under)
   where
-    of : (a b : Bool) → bytes_eq bytes others ≡ a → (content_key others == key) ≡ b → cond a (OtherPage h.vm h.page g) (cond b OtherBytes Changed) ≡ cond (not b) Changed (cond a (OtherPage h.vm h.page g) OtherBytes)
+    of : (a b : Bool) → bytes_eq bytes others ≡ a → (hint_key others == key) ≡ b → cond a (OtherPage h.vm h.page g) (cond b OtherBytes Changed) ≡ cond (not b) Changed (cond a (OtherPage h.vm h.page g) OtherBytes)
     of true true d e = refl
-    of true false d e = absurd (let same : key ≡ content_key others = own ∙ ap content_key (equal_bytes bytes others d) in grind (arith, nat_tests))
+    of true false d e = absurd (let same : key ≡ hint_key others = own ∙ ap hint_key (equal_bytes bytes others d) in grind (arith, nat_tests))
     of false true d e = refl
     of false false d e = refl
 
-by_hint : (c : Config) (s : Site) (n page : ℕ) (bytes : List ℕ) (key : ℕ) (h : Hint) → IsSound c s → key ≡ content_key bytes → HintFrame c s key h → h.key ≡ key → is_hint_of n page h ≡ false
+by_hint : (c : Config) (s : Site) (n page : ℕ) (bytes : List ℕ) (key : ℕ) (h : Hint) → IsSound c s → key ≡ hint_key bytes → HintFrame c s key h → h.key ≡ key → is_hint_of n page h ≡ false
     → look_at_hint (tables_of c s) n page bytes key (position_from (is_hinted_under key) 0 (listing_rows c.frames s)) ≡ model.look_at_hint s bytes (Some h)
 by_hint c s n page bytes key h sound own known under other =
     let g = known.page.frame in
@@ -320,7 +320,7 @@ own_hint_at c s n page bytes key h sound known own =
     let others = bytes_of (frame_at (tables_of c s).frames g) in
     ap (look_at_hint (tables_of c s) n page bytes key) (only_found (is_hinted_under key) (listing_row s) c.frames listings.Unlisted (Some g) known.only)
     ∙ ap (look_at_hinted n page bytes key others g) (row_in_rows (listing_row s) c.frames g listings.Unlisted known.below ∙ known.listing)
-    ∙ ap (λ b. cond b Nothing (cond (bytes_eq bytes others) (OtherPage h.vm h.page g) (cond (content_key others == key) OtherBytes Changed))) own
+    ∙ ap (λ b. cond b Nothing (cond (bytes_eq bytes others) (OtherPage h.vm h.page g) (cond (hint_key others == key) OtherBytes Changed))) own
 
 both_true : (a b : Bool) → a ≡ true → b ≡ false → (a && not b) ≡ true
 both_true true true d e = cc
@@ -339,7 +339,7 @@ no_other c s n page bytes key (Some h) sound none found = own_hint_at c s n page
         absurd (found_some (λ (x : Hint). (x.key == key) && not (is_hint_of n page x)) (λ (x : Hint). x.key == key) s.hints h found
         (both_true (h.key == key) (is_hint_of n page h) (find_passes (λ (x : Hint). x.key == key) s.hints h found) e) none)
 
-hints_meet : (c : Config) (s : Site) (n page : ℕ) (bytes : List ℕ) (key : ℕ) (o : Option Hint) → IsSound c s → key ≡ content_key bytes → other_hint key n page s.hints ≡ o
+hints_meet : (c : Config) (s : Site) (n page : ℕ) (bytes : List ℕ) (key : ℕ) (o : Option Hint) → IsSound c s → key ≡ hint_key bytes → other_hint key n page s.hints ≡ o
     → look_at_hint (tables_of c s) n page bytes key (position_from (is_hinted_under key) 0 (listing_rows c.frames s)) ≡ model.look_at_hint s bytes o
 hints_meet c s n page bytes key None sound own found = no_other c s n page bytes key (hint_under key s.hints) sound found refl
 hints_meet c s n page bytes key (Some h) sound own found =
@@ -355,7 +355,7 @@ keys_meet c s n page bytes (Some p) sound found = by_shared c s n page bytes (co
 keys_meet c s n page bytes None sound found =
     ap (look_by_key (tables_of c s) n page bytes (content_key bytes))
     (only_found (is_shared_under (content_key bytes)) (listing_row s) c.frames listings.Unlisted None (shares_none c s (content_key bytes) found))
-    ∙ hints_meet c s n page bytes (content_key bytes) (other_hint (content_key bytes) n page s.hints) sound refl refl
+    ∙ hints_meet c s n page bytes (hint_key bytes) (other_hint (hint_key bytes) n page s.hints) sound refl refl
 
 -- a look by the row of a page's frame is a look at the page
 pub look_shown : (c : Config) (s : Site) (n page : ℕ) (v : Vm) (bytes : List ℕ) (f : ℕ) (shared : Bool) → IsSound c s → vm_at s n ≡ Some v → place_at v page ≡ Here bytes f shared

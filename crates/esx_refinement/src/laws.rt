@@ -14,7 +14,7 @@ ghost use Rattle.esx_model.specs.Tables.{vm_table, standing_of, tables_of};
 ghost use Rattle.esx_model.specs.event.Outcome.{standing};
 ghost use Rattle.esx_model.specs.event.Admission.{admit};
 ghost use Rattle.esx_model.specs.event.Leaving.{stop, drop_page, gone};
-ghost use Rattle.esx_model.specs.event.Rebalancing.{rebalance, set_tax, set_shares};
+ghost use Rattle.esx_model.specs.event.Rebalancing.{rebalance, set_tax, set_vm_tax, set_shares};
 ghost use Rattle.esx_model.specs.event.Sampling.{sample};
 ghost use Rattle.esx_model.specs.event.Starting.{start};
 ghost use Rattle.esx_model.specs.event.Access.{read, write};
@@ -29,7 +29,7 @@ ghost use Rattle.esx_refinement.specs.Refinement.{Refines};
 ghost use Rattle.esx_plans.specs.plan.Admission.{admit_plan};
 ghost use Rattle.esx_plans.specs.plan.Leaving.{stop_plan, drop_plan, gone_plan};
 ghost use Rattle.esx_plans.specs.plan.Ratios.{HaveRatios};
-ghost use Rattle.esx_plans.specs.plan.Rebalancing.{rebalance_plan, tax_plan, shares_plan};
+ghost use Rattle.esx_plans.specs.plan.Rebalancing.{rebalance_plan, tax_plan, vm_tax_plan, shares_plan};
 ghost use Rattle.esx_plans.specs.plan.Sampling.{sample_plan};
 ghost use Rattle.esx_model.specs.event.Balloon.{ask, lend, take_back};
 ghost use Rattle.esx_plans.specs.plan.Balloon.{ask_plan, lend_plan, take_back_plan};
@@ -46,9 +46,10 @@ pub fn rows_stand_as_machines()
     ensures { (v : Vm) → standing_of (vm_table v) ≡ standing v }
 {}
 
-/// The plan of a tax, of shares and of a stop does to the tables what the event does to the site.
+/// The plan of a tax, of a machine's own tax, of shares and of a stop does to the tables what the event does to the site.
 pub fn settings_refine()
     ensures tax { (c : Config) (s : Site) (tau : ℕ) → Refines c s (tax_plan tau) (set_tax s tau) }
+    ensures own { (c : Config) (s : Site) (n tau : ℕ) → Refines c s (vm_tax_plan (tables_of c s) n tau) (set_vm_tax s n tau) }
     ensures shares { (c : Config) (s : Site) (n shares : ℕ) → Refines c s (shares_plan (tables_of c s) n shares) (set_shares s n shares) }
     ensures stop { (c : Config) (s : Site) (n : ℕ) → Refines c s (stop_plan (tables_of c s) n) (stop s n) }
 {}

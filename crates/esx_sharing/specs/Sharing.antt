@@ -14,7 +14,7 @@ use Rattle.esx_events.specs.declared.event.Answer.TheVariants as answers
 use Rattle.esx_events.specs.declared.event.Scanned.{Scanned}
 use Rattle.esx_events.specs.declared.event.Scanned.TheVariants as scanned
 use Rattle.esx_events.specs.declared.event.Refusal.TheVariants.{NotResident}
-use Rattle.esx_formulas.specs.Key.{content_key}
+use Rattle.esx_formulas.specs.Key.{content_key, short_of, hint_key}
 use Rattle.esx_frames.specs.declared.marks.Mark.TheVariants as marks
 use Rattle.esx_model.specs.declared.look.Look.{Look}
 use Rattle.esx_model.specs.declared.look.Look.TheVariants.{Already, SharedFrame, OtherPage, Changed, OtherBytes, Nothing}
@@ -34,23 +34,23 @@ use Rattle.esx_changes.specs.Planned.{Planned, at_row}
 abbrev pub look_at_shared : List ℕ → List ℕ → ℕ → Look
 look_at_shared bytes others g = if bytes_eq bytes others then SharedFrame g else OtherBytes
 
--- at a frame whose page is the hint under that key: equal bytes need no second key
+-- at a frame whose page is the hint under the upper bits of the page's key: equal bytes need no second key, and it is stale only where those bits are other ones now
 abbrev pub look_at_hinted : ℕ → ℕ → List ℕ → ℕ → List ℕ → ℕ → Listing → Look
-look_at_hinted n page bytes key others g (listings.Hinted m q own) =
+look_at_hinted n page bytes short others g (listings.Hinted m q own) =
     if (m == n) && (q == page) then Nothing
     else (if bytes_eq bytes others then OtherPage m q g
-    else (if content_key others == key then OtherBytes else Changed))
-look_at_hinted n page bytes key others g listings.Unlisted = Nothing
-look_at_hinted n page bytes key others g (listings.Shared own) = Nothing
+    else (if hint_key others == short then OtherBytes else Changed))
+look_at_hinted n page bytes short others g listings.Unlisted = Nothing
+look_at_hinted n page bytes short others g (listings.Shared own) = Nothing
 
 abbrev pub look_at_hint : Tables → ℕ → ℕ → List ℕ → ℕ → Option ℕ → Look
-look_at_hint t n page bytes key None = Nothing
-look_at_hint t n page bytes key (Some g) = look_at_hinted n page bytes key (bytes_of (frame_at t.frames g)) g (listing_at t.listings g)
+look_at_hint t n page bytes short None = Nothing
+look_at_hint t n page bytes short (Some g) = look_at_hinted n page bytes short (bytes_of (frame_at t.frames g)) g (listing_at t.listings g)
 
 -- a shared frame comes before a hint
 abbrev pub look_by_key : Tables → ℕ → ℕ → List ℕ → ℕ → Option ℕ → Look
 look_by_key t n page bytes key (Some g) = look_at_shared bytes (bytes_of (frame_at t.frames g)) g
-look_by_key t n page bytes key None = look_at_hint t n page bytes key (position_from (is_hinted_under key) 0 t.listings)
+look_by_key t n page bytes key None = look_at_hint t n page bytes (short_of key) (position_from (is_hinted_under (short_of key)) 0 t.listings)
 
 -- by the row of the page's frame: a page that is not private is looked for no more
 unfoldable pub look_in : Tables → ℕ → ℕ → FrameRow → Look
@@ -77,10 +77,10 @@ join_changes n page f g count =
 abbrev pub pair_changes : ℕ → ℕ → ℕ → ℕ → ℕ → List Change
 pair_changes n page f g key = ListingAt g (listings.Shared key) ∷ join_changes n page f g 2
 
--- a page becomes the hint under its key; the one that stood there goes
+-- a page becomes the hint under the upper bits of its key; the one that stood there goes
 abbrev pub hint_changes : ℕ → ℕ → ℕ → ℕ → Option ℕ → List Change
-hint_changes n page f key None = ListingAt f (listings.Hinted n page key) ∷ []
-hint_changes n page f key (Some g) = ListingAt g listings.Unlisted ∷ ListingAt f (listings.Hinted n page key) ∷ []
+hint_changes n page f short None = ListingAt f (listings.Hinted n page short) ∷ []
+hint_changes n page f short (Some g) = ListingAt g listings.Unlisted ∷ ListingAt f (listings.Hinted n page short) ∷ []
 
 abbrev pub count_with : Tables → ℕ → ℕ
 count_with t g = ref_count (frame_at t.frames g) + 1
@@ -89,9 +89,9 @@ abbrev pub look_changes : Tables → ℕ → ℕ → ℕ → ℕ → Look → Li
 look_changes t n page f key Already = []
 look_changes t n page f key (SharedFrame g) = join_changes n page f g (count_with t g)
 look_changes t n page f key (OtherPage m q g) = pair_changes n page f g key
-look_changes t n page f key Changed = hint_changes n page f key (position_from (is_hinted_under key) 0 t.listings)
+look_changes t n page f key Changed = hint_changes n page f (short_of key) (position_from (is_hinted_under (short_of key)) 0 t.listings)
 look_changes t n page f key OtherBytes = []
-look_changes t n page f key Nothing = hint_changes n page f key (position_from (is_hinted_under key) 0 t.listings)
+look_changes t n page f key Nothing = hint_changes n page f (short_of key) (position_from (is_hinted_under (short_of key)) 0 t.listings)
 
 -- what is said of it
 abbrev pub look_said : Tables → Look → Scanned

@@ -12,7 +12,7 @@ use esx_changes::Plan;
 use esx_changes::changes::{page_at, unlisted};
 use esx_changes::shared::ref_count;
 use esx_events::{Answer, Refusal, Scanned};
-use esx_formulas::content_key;
+use esx_formulas::{content_key, short_of};
 use esx_model::Look;
 use esx_tables::{Change, Mark, Record, SiteTables};
 use esx_types::{FrameRow, Listing, MapRow, VmId, VmState};
@@ -36,17 +36,17 @@ fn look_at_shared(bytes: &[u8], others: &[u8], frame: u32) -> Look
     }
 }
 
-/// At a frame whose page is the hint under that key: equal bytes need no second key.
+/// At a frame whose page is the hint under the upper bits of the page's key: equal bytes need no second key.
 fn look_at_hinted(
     tables: &SiteTables,
     vm: VmId,
     page: u32,
     bytes: &[u8],
-    key: u64,
+    short: u32,
     frame: u32,
     listing: Listing,
 ) -> Look
-    ensures { result ≡ look_at_hinted vm page bytes.now key (bytes_of (frame_at tables.now.frames frame)) frame listing }
+    ensures { result ≡ look_at_hinted vm page bytes.now short (bytes_of (frame_at tables.now.frames frame)) frame listing }
 {
     let Listing::Hinted {
         vm: other,
@@ -65,7 +65,7 @@ fn look_at_hinted(
             page: its,
             frame,
         }
-    } else if tables.key(frame) == key {
+    } else if short_of(tables.key(frame)) == short {
         Look::OtherBytes
     } else {
         Look::Changed
@@ -77,16 +77,16 @@ fn look_at_hint(
     vm: VmId,
     page: u32,
     bytes: &[u8],
-    key: u64,
+    short: u32,
     hinted: Option<u32>,
 ) -> Look
-    ensures { result ≡ look_at_hint tables.now vm page bytes.now key hinted }
+    ensures { result ≡ look_at_hint tables.now vm page bytes.now short hinted }
 {
     match hinted {
         None => Look::Nothing,
         Some(frame) => {
             let listing = tables.listing(frame);
-            look_at_hinted(tables, vm, page, bytes, key, frame, listing)
+            look_at_hinted(tables, vm, page, bytes, short, frame, listing)
         }
     }
 }
@@ -97,7 +97,10 @@ fn look_by_key(tables: &SiteTables, vm: VmId, page: u32, bytes: &[u8], key: u64)
 {
     match tables.shared_under(key) {
         Some(frame) => look_at_shared(bytes, tables.bytes(frame), frame),
-        None => look_at_hint(tables, vm, page, bytes, key, tables.hinted_under(key)),
+        None => {
+            let short = short_of(key);
+            look_at_hint(tables, vm, page, bytes, short, tables.hinted_under(short))
+        }
     }
 }
 
@@ -226,20 +229,24 @@ fn pair_changes(
     ]?)
 }
 
-/// A page becomes the hint under its key; the one that stood there goes.
+/// A page becomes the hint under the upper bits of its key; the one that stood there goes.
 fn hint_changes(
     alloc: Global,
     vm: VmId,
     page: u32,
     own: u32,
-    key: u64,
+    short: u32,
     hinted: Option<u32>,
 ) -> Result<Vec<Change>, AllocError>
-    ensures { IfOk result (λ changes. changes.items ≡ hint_changes vm page own key hinted) }
+    ensures { IfOk result (λ changes. changes.items ≡ hint_changes vm page own short hinted) }
 {
     let hint = Change::ListingAt {
         frame: own,
-        listing: Listing::Hinted { vm, page, key },
+        listing: Listing::Hinted {
+            vm,
+            page,
+            key: short,
+        },
     };
     match hinted {
         None => Ok(vec![in alloc; hint]?),
@@ -266,8 +273,8 @@ pub fn look_changes(
         }
         Look::OtherPage { frame, .. } => pair_changes(alloc, vm, page, own, frame, found.key),
         Look::Changed | Look::Nothing => {
-            let hinted = tables.hinted_under(found.key);
-            hint_changes(alloc, vm, page, own, found.key, hinted)
+            let short = short_of(found.key);
+            hint_changes(alloc, vm, page, own, short, tables.hinted_under(short))
         }
     }
 }

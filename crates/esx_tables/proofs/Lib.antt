@@ -3,3 +3,4 @@ pub mod Opening
 pub mod Kept
 pub mod Summed
 pub mod Copied
+pub mod Promised

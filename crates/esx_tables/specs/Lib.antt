@@ -5,6 +5,7 @@ pub mod Machines
 pub mod Sampled
 pub mod Summaries
 pub mod Bounds
+pub mod Promised
 pub mod Fields
 pub mod Changes
 pub mod Sizes

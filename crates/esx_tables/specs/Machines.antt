@@ -10,10 +10,10 @@ use Rattle.esx_tables.specs.declared.change.VmPart.TheVariants.{PageAt, Facts, T
 
 -- what the row tells in small numbers that events change, and the row with others
 abbrev pub facts_of : VmRow → VmFacts
-facts_of v = record { shares = v.spec.shares; state = v.state; epoch = v.epoch; due = v.due; target = v.target }
+facts_of v = record { shares = v.spec.shares; tau = v.spec.tau; state = v.state; epoch = v.epoch; due = v.due; target = v.target }
 
 abbrev pub with_facts : VmRow → VmFacts → VmRow
-with_facts v f = record v { spec = record v.spec { shares = f.shares }; state = f.state; epoch = f.epoch; due = f.due; target = f.target }
+with_facts v f = record v { spec = record v.spec { shares = f.shares; tau = f.tau }; state = f.state; epoch = f.epoch; due = f.due; target = f.target }
 
 -- how many accesses of the open period are done; where none is open nothing changes
 abbrev pub done_traded : Option PeriodRow → ℕ → Option PeriodRow × ℕ

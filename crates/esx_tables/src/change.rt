@@ -11,6 +11,7 @@ use esx_types::{FrameRow, Listing, MapRow, SlotRow, SmallBytes, VmId, VmState};
 #[derive(Clone, Copy, Debug, PartialEq, Eq)]
 pub struct Facts {
     pub shares: u32,
+    pub tau: Option<u32>,
     pub state: VmState,
     pub epoch: u32,
     pub due: bool,

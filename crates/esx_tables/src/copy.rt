@@ -148,7 +148,7 @@ impl SiteTables {
         Ok(Book {
             frames: copy_frames(alloc, &self.frames)?,
             slots: copy_slots(alloc, &self.slots)?,
-            vms: copy_vms(alloc, self.vms.as_slice())?,
+            vms: copy_vms(alloc, self.vms.all())?,
             hints: self.listings.hints(alloc)?,
             shared: self.listings.shared(alloc)?,
             tau: self.tau,

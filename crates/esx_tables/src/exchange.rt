@@ -3,15 +3,13 @@
 ghost use Rattle.std.specs.Prelude.{◌≡◌, ◌<◌, IfSome, length, not, reverse, slice_set};
 ghost use Rattle.esx_types.specs.Slots.{held_bytes, is_empty, slot_at};
 ghost use Rattle.esx_formulas.specs.Key.{content_key};
-ghost use Rattle.esx_tables.specs.Machines.{vm_traded};
 ghost use Rattle.esx_tables.specs.Changes.{slots_traded, traded, exchanged, in_order};
 ghost use Rattle.esx_tables.specs.declared.change.Change.TheVariants.{FrameAt, ListingAt, FrameWithSlot, OfVm};
 ghost use Rattle.esx_tables.specs.declared.change.VmPart.TheVariants.{PageAt};
 
-use crate::change::{Change, VmPart};
+use crate::change::Change;
 use crate::record::Record;
 use crate::tables::SiteTables;
-use crate::vm_table::VmTable;
 use esx_frames::FrameTable;
 use esx_swap::Slots;
 use esx_types::{FrameRow, Listing, MapRow, SlotRow, VmId};
@@ -34,12 +32,7 @@ impl SiteTables {
             Change::ListingAt { frame, listing } => self.trade_listing(*frame, listing),
             Change::SlotAt { slot, row } => self.slots.trade(*slot, row),
             Change::FrameWithSlot { frame, slot } => self.trade_frame_with_slot(*frame, *slot),
-            Change::OfVm { vm, part } => {
-                let at = usize::from(vm.number());
-                if at < self.vms.len() {
-                    trade_part(self.vms.row_mut(at), part);
-                }
-            }
+            Change::OfVm { vm, part } => self.vms.trade_part(usize::from(vm.number()), part),
             Change::VmAt { vm, row } => self.vms.trade(usize::from(vm.number()), row),
             Change::TaxIs { tau } => std::mem::swap(&mut self.tau, tau),
         }
@@ -79,10 +72,7 @@ impl SiteTables {
         ensures tables { self.new ≡ (traded self.old (OfVm vm (PageAt page row.old))).0 }
         ensures row { OfVm vm (PageAt page row.new) ≡ (traded self.old (OfVm vm (PageAt page row.old))).1 }
     {
-        let at = usize::from(vm.number());
-        if at < self.vms.len() {
-            trade_page(self.vms.row_mut(at), page, row);
-        }
+        self.vms.trade_page(usize::from(vm.number()), page, row);
     }
 
     /// Makes the changes of a record in turn, and leaves what leads back. It takes no memory.
@@ -127,24 +117,6 @@ impl SiteTables {
         for i in (0..changes.len()).rev() {
             self.trade(&mut changes[i]);
         }
-    }
-}
-
-fn trade_part(vm: &mut Option<VmTable>, part: &mut VmPart)
-    ensures vm { vm.new ≡ (vm_traded vm.old part.old).0 }
-    ensures part { part.new ≡ (vm_traded vm.old part.old).1 }
-{
-    if let Some(vm) = vm {
-        vm.trade(part);
-    }
-}
-
-fn trade_page(vm: &mut Option<VmTable>, page: u32, row: &mut MapRow)
-    ensures vm { vm.new ≡ (vm_traded vm.old (PageAt page row.old)).0 }
-    ensures row { PageAt page row.new ≡ (vm_traded vm.old (PageAt page row.old)).1 }
-{
-    if let Some(vm) = vm {
-        vm.trade_page(page, row);
     }
 }
 

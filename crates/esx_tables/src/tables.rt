@@ -1,6 +1,6 @@
 //! The tables, as they are opened and read.
 
-ghost use Rattle.std.specs.Prelude.{◌≡◌, ◌<◌, ℕ, true, IfOk, MatchOption, None, Some, length, option_copied, replicate, slice_get};
+ghost use Rattle.std.specs.Prelude.{◌≡◌, ◌<◌, ◌≤◌, ℕ, true, IfOk, MatchOption, None, Some, length, option_copied, slice_get, sum_by};
 ghost use Rattle.std.specs.List.{position_from};
 ghost use Rattle.esx_types.specs.declared.config.TheConstants.{VM_NUMBERS};
 ghost use Rattle.esx_types.specs.declared.table.Listing.TheVariants.{Unlisted};
@@ -12,13 +12,15 @@ ghost use Rattle.esx_frames.specs.Counts.{counts_of};
 ghost use Rattle.esx_model.specs.Replay.{opening};
 ghost use Rattle.esx_model.specs.Tables.{tables_of};
 ghost use Rattle.esx_tables.specs.Readings.{row_at, empty_tables};
+ghost use Rattle.esx_tables.specs.Promised.{memory_of, swap_of, most_of_all, AreUsed};
 
+use crate::machines::Machines;
 use crate::vm_table::VmTable;
 use esx_formulas::content_key;
 use esx_frames::{Counts, FrameTable};
 use esx_keys::Listings;
 use esx_swap::Slots;
-use esx_types::{Config, FrameRow, Listing, Rows, SlotRow, VM_NUMBERS, VmId};
+use esx_types::{Config, FrameRow, Listing, SlotRow, VmId};
 use std::alloc::{AllocError, Global};
 use std::marker::Model;
 
@@ -31,7 +33,7 @@ use std::marker::Model;
 pub struct SiteTables {
     pub(crate) frames: FrameTable,
     pub(crate) slots: Slots,
-    pub(crate) vms: Rows<Option<VmTable>>,
+    pub(crate) vms: Machines,
     pub(crate) listings: Listings,
     pub(crate) tau: u32,
 }
@@ -63,24 +65,6 @@ fn held_bytes(row: &SlotRow) -> &[u8]
     }
 }
 
-fn no_machines(alloc: Global) -> Result<Rows<Option<VmTable>>, AllocError>
-    ensures { IfOk result (λ rows. rows ≡ replicate VM_NUMBERS None) }
-{
-    let mut rows = Vec::with_capacity(alloc, VM_NUMBERS)?;
-    for _number in 0..VM_NUMBERS {
-        rows.push(None)?;
-    }
-    Ok(Rows::from_vec(rows))
-}
-
-fn tell_period(vm: &mut Option<VmTable>)
-    ensures { vm.new ≡ vm.old }
-{
-    if let Some(vm) = vm {
-        vm.tell_period();
-    }
-}
-
 impl SiteTables {
     /// The tables of a site with no machines.
     pub fn open(alloc: Global, config: &Config) -> Result<SiteTables, AllocError>
@@ -90,7 +74,7 @@ impl SiteTables {
         Ok(SiteTables {
             frames: FrameTable::new(alloc, config.frames, config.page)?,
             slots: Slots::new(alloc, config.slots)?,
-            vms: no_machines(alloc)?,
+            vms: Machines::none(alloc)?,
             listings: Listings::new(alloc, config.frames)?,
             tau: config.tau,
         })
@@ -179,10 +163,7 @@ impl SiteTables {
     pub fn tell_period(&mut self, vm: VmId)
         ensures { self.new ≡ self.old }
     {
-        let at = usize::from(vm.number());
-        if at < self.vms.len() {
-            tell_period(self.vms.row_mut(at));
-        }
+        self.vms.tell_period(usize::from(vm.number()));
     }
 
     /// The row of a slot; none past the end.
@@ -224,7 +205,7 @@ impl SiteTables {
     }
 
     /// The least frame whose page is a hint under a key.
-    pub fn hinted_under(&self, key: u64) -> Option<u32>
+    pub fn hinted_under(&self, key: u32) -> Option<u32>
         ensures { result ≡ position_from (is_hinted_under key) 0 self.now.listings }
     {
         self.listings.hinted_under(key)
@@ -235,17 +216,30 @@ impl SiteTables {
         ensures value { MatchOption result (row_at self.now vm ≡ None) (λ v. row_at self.now vm ≡ Some v.now) }
         ensures named { vm < VM_NUMBERS }
     {
-        match self.vms().get(usize::from(vm.number())) {
-            Some(Some(vm)) => Some(vm),
-            _ => None,
-        }
+        self.vms.get(usize::from(vm.number()))
     }
 
-    /// The places of virtual machines, in order of number.
-    pub fn vms(&self) -> &[Option<VmTable>]
-        ensures { result.now ≡ self.now.vms }
+    /// The places of virtual machines up to the last machine, in order of number. All later places are blank.
+    pub fn machines(&self) -> &[Option<VmTable>]
+        ensures { AreUsed result.now self.now.vms }
     {
-        self.vms.as_slice()
+        self.vms.used()
+    }
+
+    /// The frames that are promised to all machines.
+    pub fn memory_reserved(&self) -> u32
+        ensures value { result ≡ sum_by memory_of self.now.vms }
+        ensures most { result ≤ most_of_all }
+    {
+        self.vms.memory()
+    }
+
+    /// The slots that are promised to all machines.
+    pub fn swap_reserved(&self) -> u32
+        ensures value { result ≡ sum_by swap_of self.now.vms }
+        ensures most { result ≤ most_of_all }
+    {
+        self.vms.swap()
     }
 
     /// The idle memory tax in percent.

@@ -95,7 +95,7 @@ impl VmTable {
         }
     }
 
-    /// What the machine asked for, with its present shares.
+    /// What the machine asked for, with its present shares and its present tax.
     pub fn spec(&self) -> VmSpec
         ensures value { result ≡ self.now.spec }
         ensures sizes { AreSizes result }
@@ -110,6 +110,7 @@ impl VmTable {
         let fields = &self.fields;
         Facts {
             shares: fields.spec.shares,
+            tau: fields.spec.tau,
             state: fields.state,
             epoch: fields.epoch,
             due: fields.due,
@@ -226,6 +227,7 @@ fn trade_facts(fields: &mut Fields, facts: &mut Facts)
     ensures facts { facts.new ≡ facts_in fields.old }
 {
     mem::swap(&mut fields.spec.shares, &mut facts.shares);
+    mem::swap(&mut fields.spec.tau, &mut facts.tau);
     mem::swap(&mut fields.state, &mut facts.state);
     mem::swap(&mut fields.epoch, &mut facts.epoch);
     mem::swap(&mut fields.due, &mut facts.due);

@@ -1,25 +1,16 @@
 -- The plan of an admission.
-use Rattle.std.specs.Prelude.{ℕ, ◌+◌, ◌-◌, [], ◌∷◌, Option, Some, None, is_some, sum_by, Ok}
+use Rattle.std.specs.Prelude.{ℕ, ◌+◌, ◌-◌, [], ◌∷◌, Some, is_some, sum_by, Ok}
 use Rattle.esx_types.specs.declared.config.Config.{Config}
 use Rattle.esx_types.specs.declared.vm.VmSpec.{VmSpec}
 use Rattle.esx_events.specs.declared.event.Answer.TheVariants as answers
-use Rattle.esx_model.specs.declared.book.VmRow.{VmRow}
 use Rattle.esx_model.specs.declared.tables.Tables.{Tables}
 use Rattle.esx_model.specs.Tables.{vm_table}
 use Rattle.esx_model.specs.event.Outcome.{unless}
 use Rattle.esx_model.specs.event.Admission.{admit_gate, reserves_in, admitted}
 use Rattle.esx_tables.specs.declared.change.Change.TheVariants.{VmAt}
+use Rattle.esx_tables.specs.Promised.{memory_of, swap_of}
 use Rattle.esx_tables.specs.Readings.{row_at}
 use Rattle.esx_changes.specs.Planned.{Planned}
-
--- what is promised to a machine
-abbrev pub memory_of : Option VmRow → ℕ
-memory_of None = 0
-memory_of (Some v) = v.spec.min + v.spec.overhead
-
-abbrev pub swap_of : Option VmRow → ℕ
-swap_of None = 0
-swap_of (Some v) = v.spec.max - v.spec.min
 
 -- what would be promised with one more machine
 abbrev pub memory_after : Tables → VmSpec → ℕ

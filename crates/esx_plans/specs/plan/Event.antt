@@ -3,7 +3,7 @@ use Rattle.esx_types.specs.declared.config.Config.{Config}
 use Rattle.esx_types.specs.Ranges.{IsConfig}
 use Rattle.esx_types.specs.declared.level.Level.{Level}
 use Rattle.esx_events.specs.declared.event.Event.{Event}
-use Rattle.esx_events.specs.declared.event.Event.TheVariants.{Admit, Start, Read, Write, Ask, Lend, TakeBack, Sample, Rebalance, Scan, SwapOut, Replace, SetShares, SetTax, Stop, DropPage, Gone}
+use Rattle.esx_events.specs.declared.event.Event.TheVariants.{Admit, Start, Read, Write, Ask, Lend, TakeBack, Sample, Rebalance, Scan, SwapOut, Replace, SetShares, SetTax, SetVmTax, Stop, DropPage, Gone}
 use Rattle.esx_model.specs.declared.tables.Tables.{Tables}
 use Rattle.esx_changes.specs.Planned.{Planned}
 use Rattle.esx_plans.specs.plan.Admission.{admit_plan}
@@ -13,7 +13,7 @@ use Rattle.esx_access.specs.Access.{read_plan, write_plan}
 use Rattle.esx_plans.specs.plan.Balloon.{ask_plan, lend_plan, take_back_plan}
 use Rattle.esx_plans.specs.plan.Sampling.{sample_plan}
 use Rattle.esx_plans.specs.plan.Ratios.{HaveRatios}
-use Rattle.esx_plans.specs.plan.Rebalancing.{rebalance_plan, tax_plan, shares_plan}
+use Rattle.esx_plans.specs.plan.Rebalancing.{rebalance_plan, tax_plan, vm_tax_plan, shares_plan}
 use Rattle.esx_sharing.specs.Sharing.{HasCounts, scan_plan}
 use Rattle.esx_sharing.specs.Paging.{swap_out_plan}
 use Rattle.esx_access.specs.Replacing.{replace_plan}
@@ -42,6 +42,7 @@ plan_of c t level (SwapOut n word) = swap_out_plan t level n word
 plan_of c t level (Replace n page word) = replace_plan c t n page word
 plan_of c t level (SetShares n shares) = shares_plan t n shares
 plan_of c t level (SetTax tau) = tax_plan tau
+plan_of c t level (SetVmTax n tau) = vm_tax_plan t n tau
 plan_of c t level (Stop n) = stop_plan t n
 plan_of c t level (DropPage n page) = drop_plan t n page
 plan_of c t level (Gone n) = gone_plan t n

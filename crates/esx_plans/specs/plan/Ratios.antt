@@ -3,7 +3,7 @@ use Rattle.std.specs.Prelude.{◌≡◌, ℕ, ◌+◌, List, [], ◌∷◌, leng
 use Rattle.esx_types.specs.declared.config.TheConstants.{VM_NUMBERS}
 use Rattle.esx_types.specs.Pages.{resident_count}
 use Rattle.esx_formulas.specs.declared.targets.Row.{Row}
-use Rattle.esx_formulas.specs.Ratio.{AreRows}
+use Rattle.esx_formulas.specs.Ratio.{AreRows, tax_of}
 use Rattle.esx_model.specs.declared.book.VmRow.{VmRow}
 use Rattle.esx_model.specs.declared.tables.Tables.{Tables}
 use Rattle.esx_model.specs.Readings.{active_now}
@@ -16,9 +16,9 @@ numbered make n [] = []
 numbered make n (None ∷ vms) = numbered make (n + 1) vms
 numbered make n (Some v ∷ vms) = make n v ∷ numbered make (n + 1) vms
 
--- what a machine has at the site's tax, of which it keeps so many pages in any case
+-- what a machine has, where the site has that tax, of which it keeps so many pages in any case
 abbrev pub ratio_row : ℕ → (VmRow → ℕ) → ℕ → VmRow → Row
-ratio_row tau floor n v = record { vm = n; shares = v.spec.shares; pages = resident_count v.pages; floor = floor v; active = active_now v; tau = tau }
+ratio_row tau floor n v = record { vm = n; shares = v.spec.shares; pages = resident_count v.pages; floor = floor v; active = active_now v; tau = tax_of tau v.spec.tau }
 
 abbrev pub ratio_rows : (VmRow → ℕ) → Tables → List Row
 ratio_rows floor t = numbered (ratio_row t.tau floor) 0 t.vms

@@ -1,5 +1,5 @@
--- The plans of new targets, of the idle memory tax and of a machine's shares.
-use Rattle.std.specs.Prelude.{ℕ, ◌+◌, ◌-◌, min, List, [], ◌∷◌, map, sum_by, count_by, Ok}
+-- The plans of new targets, of the idle memory tax and of a machine's tax and shares.
+use Rattle.std.specs.Prelude.{ℕ, ◌+◌, ◌-◌, min, List, [], ◌∷◌, map, sum_by, count_by, Some, Ok}
 use Rattle.std.specs.List.{zip}
 use Rattle.esx_types.specs.declared.config.Config.{Config}
 use Rattle.esx_types.specs.declared.level.Level.{Level}
@@ -50,6 +50,10 @@ rebalance_plan c t Low = share_out_plan c t
 
 unfoldable pub tax_plan : ℕ → Planned
 tax_plan tau = unless (tax_gate tau) (Ok (answers.Done, TaxIs tau ∷ []))
+
+-- a machine has a tax of its own from now on
+unfoldable pub vm_tax_plan : Tables → ℕ → ℕ → Planned
+vm_tax_plan t n tau = at_row (row_at t n) (λ v. unless (tax_gate tau) (Ok (answers.Done, OfVm n (Facts (record (facts_of v) { tau = Some tau })) ∷ [])))
 
 unfoldable pub shares_plan : Tables → ℕ → ℕ → Planned
 shares_plan t n shares = at_row (row_at t n) (λ v. unless (shares_gate shares) (Ok (answers.Done, OfVm n (Facts (record (facts_of v) { shares = shares })) ∷ [])))

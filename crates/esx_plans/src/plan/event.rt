@@ -10,7 +10,7 @@ ghost use Rattle.esx_plans.specs.plan.Event.{ArePlannable, plan_of};
 use crate::plan::admission::plan_admit;
 use crate::plan::balloon::{plan_ask, plan_lend, plan_take_back};
 use crate::plan::leaving::{plan_drop_page, plan_gone, plan_stop};
-use crate::plan::rebalancing::{plan_rebalance, plan_shares, plan_tax};
+use crate::plan::rebalancing::{plan_rebalance, plan_shares, plan_tax, plan_vm_tax};
 use crate::plan::sampling::plan_sample;
 use crate::plan::starting::plan_start;
 use esx_access::access::{plan_read, plan_write};
@@ -49,6 +49,7 @@ fn names_vm(event: &Event)
         Event::Replace { vm, .. } => is_named(*vm),
         Event::SetShares { vm, .. } => is_named(*vm),
         Event::SetTax { .. } => {}
+        Event::SetVmTax { vm, .. } => is_named(*vm),
         Event::Stop { vm } => is_named(*vm),
         Event::DropPage { vm, .. } => is_named(*vm),
         Event::Gone { vm } => is_named(*vm),
@@ -98,6 +99,7 @@ pub fn plan_event(
         }
         Event::SetShares { vm, shares } => plan_shares(tables, alloc, *vm, *shares),
         Event::SetTax { tau } => plan_tax(alloc, *tau),
+        Event::SetVmTax { vm, tau } => plan_vm_tax(tables, alloc, *vm, *tau),
         Event::Stop { vm } => plan_stop(tables, alloc, *vm),
         Event::DropPage { vm, page } => plan_drop_page(tables, alloc, *vm, *page),
         Event::Gone { vm } => plan_gone(tables, alloc, *vm),

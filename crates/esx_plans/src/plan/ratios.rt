@@ -1,14 +1,15 @@
 //! What machines have, as rows that targets are made from.
 
-ghost use Rattle.std.specs.Prelude.{◌≡◌, ℕ, IfOk, Some, None, [], count_by, is_some, length, slice_index_or, vec_capacity};
+ghost use Rattle.std.specs.Prelude.{◌≡◌, ◌≤◌, ℕ, IfOk, Some, None, [], count_by, is_some, length, slice_index_or, vec_capacity};
 ghost use Rattle.esx_types.specs.declared.config.TheConstants.{VM_NUMBERS};
 ghost use Rattle.esx_model.specs.declared.book.VmRow.{VmRow};
 ghost use Rattle.esx_changes.specs.Activity.{IsTold};
-ghost use Rattle.esx_plans.specs.plan.Ratios.{ratio_row, least_of, numbered};
+ghost use Rattle.esx_plans.specs.plan.Ratios.{ratio_row, ratio_rows, least_of, numbered, HaveRatios};
 
 use esx_average::Row;
 use esx_changes::activity::active;
-use esx_tables::VmTable;
+use esx_formulas::ratio::tax_of;
+use esx_tables::{SiteTables, VmTable};
 use esx_types::VmId;
 use std::alloc::{AllocError, Global};
 
@@ -23,7 +24,7 @@ fn ratio_row(tau: u32, vm: VmId, row: &VmTable) -> Row
         pages: row.standing().resident,
         floor: spec.min,
         active: active(row),
-        tau,
+        tau: tax_of(tau, spec.tau),
     }
 }
 
@@ -41,20 +42,26 @@ fn machine_count(vms: &[Option<VmTable>]) -> usize
     vms.iter().filter(|place| place.is_some()).count()
 }
 
-/// A row for each machine that there is at a tax, in order of number, of which it keeps its least memory.
-pub fn ratio_rows(alloc: Global, tau: u32, vms: &[Option<VmTable>]) -> Result<Vec<Row>, AllocError>
-    requires places { length vms.now ≡ VM_NUMBERS }
+/// A row for each machine of these places, where the site has this tax.
+fn rows_of(alloc: Global, tau: u32, vms: &[Option<VmTable>]) -> Result<Vec<Row>, AllocError>
+    requires places { length vms.now ≤ VM_NUMBERS }
     requires periods { (n : ℕ) (v : VmRow) → slice_index_or vms.now n None ≡ Some v → IsTold v.period }
     ensures { IfOk result (λ rows. rows.items ≡ numbered (ratio_row tau least_of) 0 vms.now) }
 {
     let mut rows = room(alloc, vms)?;
     for (number, place) in vms.iter().enumerate() {
         if let Some(row) = place {
-            let Some(vm) = VmId::new(number as u8) else {
-                unreachable!();
-            };
-            rows.push(ratio_row(tau, vm, row))?;
+            rows.push(ratio_row(tau, VmId::new(number as u8), row))?;
         }
     }
     Ok(rows)
+}
+
+/// A row for each machine that there is, in order of number, of which it keeps its least memory.
+#[tactic(auto, using(crate::proofs::Loops::made_of_used))]
+pub fn ratio_rows(alloc: Global, tables: &SiteTables) -> Result<Vec<Row>, AllocError>
+    requires { HaveRatios tables.now }
+    ensures { IfOk result (λ rows. rows.items ≡ ratio_rows least_of tables.now) }
+{
+    rows_of(alloc, tables.tau(), tables.machines())
 }

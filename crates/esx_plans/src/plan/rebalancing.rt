@@ -1,13 +1,13 @@
-//! New targets, the idle memory tax and the shares of a machine.
+//! New targets, the idle memory tax, and the tax and the shares of a machine.
 
-ghost use Rattle.std.specs.Prelude.{◌≡◌, ◌<◌, ◌+◌, ◌-◌, ◌^◌, IfOk, length, sum_by};
-ghost use Rattle.esx_types.specs.declared.config.TheConstants.{VM_NUMBERS};
+ghost use Rattle.std.specs.Prelude.{◌≡◌, ◌<◌, ◌≤◌, nat_lt, ◌+◌, ◌-◌, ◌^◌, IfOk, length, sum_by};
+ghost use Rattle.esx_types.specs.declared.config.TheConstants.{MAX_TAU, VM_NUMBERS};
 ghost use Rattle.esx_types.specs.Ranges.{IsConfig};
 ghost use Rattle.esx_formulas.specs.Level.{high_threshold, margin};
 ghost use Rattle.esx_formulas.specs.Targets.{spare};
 ghost use Rattle.esx_changes.specs.Planned.{Plans};
 ghost use Rattle.esx_plans.specs.plan.Ratios.{numbered, HaveRatios};
-ghost use Rattle.esx_plans.specs.plan.Rebalancing.{to_max, to_targets, share_out_plan, rebalance_plan, tax_plan, shares_plan};
+ghost use Rattle.esx_plans.specs.plan.Rebalancing.{to_max, to_targets, share_out_plan, rebalance_plan, tax_plan, vm_tax_plan, shares_plan};
 
 use crate::plan::ratios::{ratio_rows, room};
 use esx_average::{Row, targets};
@@ -29,21 +29,26 @@ fn to_max(vm: VmId, row: &VmTable) -> Change
     }
 }
 
-/// Each machine gets all it asked for.
-fn all_to_max(alloc: Global, vms: &[Option<VmTable>]) -> Result<Vec<Change>, AllocError>
-    requires { length vms.now ≡ VM_NUMBERS }
+/// Each machine of these places gets all it asked for.
+fn places_to_max(alloc: Global, vms: &[Option<VmTable>]) -> Result<Vec<Change>, AllocError>
+    requires { length vms.now ≤ VM_NUMBERS }
     ensures { IfOk result (λ changes. changes.items ≡ numbered to_max 0 vms.now) }
 {
     let mut changes = room(alloc, vms)?;
     for (number, place) in vms.iter().enumerate() {
         if let Some(row) = place {
-            let Some(vm) = VmId::new(number as u8) else {
-                unreachable!();
-            };
-            changes.push(to_max(vm, row))?;
+            changes.push(to_max(VmId::new(number as u8), row))?;
         }
     }
     Ok(changes)
+}
+
+/// Each machine gets all it asked for.
+#[tactic(auto, using(crate::proofs::Loops::made_of_used))]
+fn all_to_max(alloc: Global, tables: &SiteTables) -> Result<Vec<Change>, AllocError>
+    ensures { IfOk result (λ changes. changes.items ≡ numbered to_max 0 tables.now.vms) }
+{
+    places_to_max(alloc, tables.machines())
 }
 
 /// The machines of rows get new targets, in order.
@@ -86,7 +91,7 @@ fn share_out(tables: &SiteTables, alloc: Global, config: &Config) -> Result<Plan
     ensures { Plans result (share_out_plan config.now tables.now) }
 {
     let need = wanted(config, tables.counts().free);
-    let rows = ratio_rows(alloc, tables.tau(), tables.vms())?;
+    let rows = ratio_rows(alloc, tables)?;
     let targets = targets(alloc, rows.as_slice(), need)?;
     let changes = to_targets(alloc, rows.as_slice(), targets.as_slice())?;
     Ok(Plan {
@@ -117,21 +122,55 @@ pub fn plan_rebalance(
                 need: 0,
                 revoked: 0,
             },
-            changes: Record::of(all_to_max(alloc, tables.vms())?),
+            changes: Record::of(all_to_max(alloc, tables)?),
         }),
         Level::Soft | Level::Hard | Level::Low => share_out(tables, alloc, config),
     }
 }
 
-/// The tax is set.
+/// Is it more than a tax may be?
+fn is_too_much(tau: u32) -> bool
+    ensures { result ≡ nat_lt MAX_TAU tau }
+{
+    MAX_TAU < tau
+}
+
+/// The site's tax is set.
 #[tactic(auto, unfolding(crate::specs::plan::Rebalancing::tax_plan))]
 pub fn plan_tax(alloc: Global, tau: u32) -> Result<Plan, Refusal>
     ensures { Plans result (tax_plan tau) }
 {
-    if MAX_TAU < tau {
+    if is_too_much(tau) {
         return Err(Refusal::BadSpec);
     }
     let changes = vec![in alloc; Change::TaxIs { tau }]?;
+    Ok(Plan {
+        answer: Answer::Done,
+        changes: Record::of(changes),
+    })
+}
+
+/// A machine has a tax of its own from now on.
+#[tactic(auto, unfolding(crate::specs::plan::Rebalancing::vm_tax_plan))]
+pub fn plan_vm_tax(tables: &SiteTables, alloc: Global, vm: VmId, own: u32) -> Result<Plan, Refusal>
+    ensures { Plans result (vm_tax_plan tables.now vm own) }
+{
+    let Some(row) = tables.vm(vm) else {
+        return Err(Refusal::NoVm);
+    };
+    if is_too_much(own) {
+        return Err(Refusal::BadSpec);
+    }
+    let facts = Facts {
+        tau: Some(own),
+        ..row.facts()
+    };
+    let changes = vec![in alloc;
+        Change::OfVm {
+            vm,
+            part: VmPart::Facts { facts },
+        },
+    ]?;
     Ok(Plan {
         answer: Answer::Done,
         changes: Record::of(changes),

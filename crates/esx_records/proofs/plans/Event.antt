@@ -4,7 +4,7 @@ use Rattle.esx_types.specs.declared.config.Config.{Config}
 use Rattle.esx_types.specs.declared.level.Level.{Level}
 use Rattle.esx_events.specs.declared.event.Answer.{Answer}
 use Rattle.esx_events.specs.declared.event.Event.{Event}
-use Rattle.esx_events.specs.declared.event.Event.TheVariants.{Admit, Start, Read, Write, Ask, Lend, TakeBack, Sample, Rebalance, Scan, SwapOut, Replace, SetShares, SetTax, Stop, DropPage, Gone}
+use Rattle.esx_events.specs.declared.event.Event.TheVariants.{Admit, Start, Read, Write, Ask, Lend, TakeBack, Sample, Rebalance, Scan, SwapOut, Replace, SetShares, SetTax, SetVmTax, Stop, DropPage, Gone}
 use Rattle.esx_model.specs.declared.tables.Tables.{Tables}
 use Rattle.esx_tables.specs.declared.change.Change.{Change}
 use Rattle.esx_tables.specs.Changes.{exchanged}
@@ -18,7 +18,7 @@ use Rattle.esx_records.proofs.plans.Starting.{start_small}
 use Rattle.esx_records.proofs.plans.Access.{read_small, write_small}
 use Rattle.esx_records.proofs.plans.Balloon.{ask_small, lend_small, take_back_small}
 use Rattle.esx_records.proofs.plans.Sampling.{sample_small}
-use Rattle.esx_records.proofs.plans.Rebalancing.{rebalance_small, tax_small, shares_small}
+use Rattle.esx_records.proofs.plans.Rebalancing.{rebalance_small, tax_small, vm_tax_small, shares_small}
 use Rattle.esx_records.proofs.plans.Sharing.{scan_small}
 use Rattle.esx_records.proofs.plans.Paging.{swap_out_small}
 use Rattle.esx_records.proofs.plans.Replacing.{replace_small}
@@ -39,6 +39,7 @@ modest c t level (SwapOut n word) s = swap_out_small c t level n word s
 modest c t level (Replace n page word) s = replace_small c t n page word
 modest c t level (SetShares n shares) s = shares_small c t n shares
 modest c t level (SetTax tau) s = tax_small c tau
+modest c t level (SetVmTax n tau) s = vm_tax_small c t n tau
 modest c t level (Stop n) s = stop_small c t n
 modest c t level (DropPage n page) s = drop_small c t n page
 modest c t level (Gone n) s = gone_small c t n

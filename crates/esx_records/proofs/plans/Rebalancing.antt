@@ -13,7 +13,7 @@ use Rattle.esx_tables.specs.declared.change.Change.{Change}
 use Rattle.esx_tables.specs.Readings.{row_at}
 use Rattle.esx_tables.specs.Sizes.{bytes_held, marks_held, is_row, is_target}
 use Rattle.esx_plans.specs.plan.Ratios.{numbered, ratio_row, ratio_rows, least_of}
-use Rattle.esx_plans.specs.plan.Rebalancing.{to_max, to_targets, wanted, share_out_plan, rebalance_plan, tax_plan, shares_plan}
+use Rattle.esx_plans.specs.plan.Rebalancing.{to_max, to_targets, wanted, share_out_plan, rebalance_plan, tax_plan, vm_tax_plan, shares_plan}
 use Rattle.esx_records.proofs.Alike.{places_held}
 use Rattle.esx_records.proofs.Totals.{total, one_if}
 use Rattle.esx_records.proofs.Pages.{bytes_most}
@@ -82,6 +82,11 @@ pub tax_small : (c : Config) (tau : ℕ) → PlansModest c 0 (tax_plan tau)
 unfolding tax_plan
 tax_small c tau = any_gate c 0 (tax_gate tau) _
     (record { bytes = omega arith; pages = omega arith; rows = omega arith; marks = omega arith; turned = omega arith; targets = omega arith; machines = omega arith })
+
+pub vm_tax_small : (c : Config) (t : Tables) (n tau : ℕ) → PlansModest c 0 (vm_tax_plan t n tau)
+unfolding vm_tax_plan
+vm_tax_small c t n tau = at_row_modest c 0 (row_at t n) _ (λ v there. any_gate c 0 (tax_gate tau) _
+    (record { bytes = omega arith; pages = omega arith; rows = omega arith; marks = omega arith; turned = omega arith; targets = omega arith; machines = omega arith }))
 
 pub shares_small : (c : Config) (t : Tables) (n shares : ℕ) → PlansModest c 0 (shares_plan t n shares)
 unfolding shares_plan

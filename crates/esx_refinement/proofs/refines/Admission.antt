@@ -20,7 +20,8 @@ use Rattle.esx_tables.specs.declared.change.Change.TheVariants.{VmAt}
 use Rattle.esx_tables.specs.Changes.{traded, exchanged}
 use Rattle.esx_changes.specs.Planned.{Planned}
 use Rattle.esx_refinement.specs.Refinement.{Refines}
-use Rattle.esx_plans.specs.plan.Admission.{memory_of, swap_of, memory_after, swap_after, admit_plan}
+use Rattle.esx_tables.specs.Promised.{memory_of, swap_of}
+use Rattle.esx_plans.specs.plan.Admission.{memory_after, swap_after, admit_plan}
 use Rattle.esx_refinement.proofs.Refining.{row_there, passes_gate, makes_shown}
 
 -- a place for each machine

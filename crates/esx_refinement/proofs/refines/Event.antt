@@ -3,7 +3,7 @@ use Rattle.esx_types.specs.declared.config.Config.{Config}
 use Rattle.esx_types.specs.Ranges.{IsConfig}
 use Rattle.esx_types.specs.declared.level.Level.{Level}
 use Rattle.esx_events.specs.declared.event.Event.{Event}
-use Rattle.esx_events.specs.declared.event.Event.TheVariants.{Admit, Start, Read, Write, Ask, Lend, TakeBack, Sample, Rebalance, Scan, SwapOut, Replace, SetShares, SetTax, Stop, DropPage, Gone}
+use Rattle.esx_events.specs.declared.event.Event.TheVariants.{Admit, Start, Read, Write, Ask, Lend, TakeBack, Sample, Rebalance, Scan, SwapOut, Replace, SetShares, SetTax, SetVmTax, Stop, DropPage, Gone}
 use Rattle.esx_model.specs.declared.scene.Site.{Site}
 use Rattle.esx_model.specs.Step.{step}
 use Rattle.esx_model.specs.Tables.{tables_of}
@@ -17,7 +17,7 @@ use Rattle.esx_refinement.proofs.Countable.{counts_fit}
 use Rattle.esx_refinement.proofs.refines.Access.{read_refines, write_refines}
 use Rattle.esx_refinement.proofs.refines.Balloon.{ask_refines, lend_refines, take_back_refines}
 use Rattle.esx_refinement.proofs.refines.Sampling.{sample_refines}
-use Rattle.esx_refinement.proofs.refines.Rebalancing.{has_ratios, rebalance_refines, tax_refines, shares_refines}
+use Rattle.esx_refinement.proofs.refines.Rebalancing.{has_ratios, rebalance_refines, tax_refines, vm_tax_refines, shares_refines}
 use Rattle.esx_refinement.proofs.refines.Sharing.{scan_refines}
 use Rattle.esx_refinement.proofs.refines.Paging.{swap_out_refines}
 use Rattle.esx_refinement.proofs.refines.Replacing.{replace_refines}
@@ -42,6 +42,7 @@ plan_refines c s level (SwapOut n word) sound named = swap_out_refines c s level
 plan_refines c s level (Replace n page word) sound named = replace_refines c s n page word sound
 plan_refines c s level (SetShares n shares) sound named = shares_refines c s n shares
 plan_refines c s level (SetTax tau) sound named = tax_refines c s tau
+plan_refines c s level (SetVmTax n tau) sound named = vm_tax_refines c s n tau
 plan_refines c s level (Stop n) sound named = stop_refines c s n
 plan_refines c s level (DropPage n page) sound named = drop_refines c s n page sound
 plan_refines c s level (Gone n) sound named = gone_refines c s n sound

@@ -20,7 +20,7 @@ use Rattle.esx_model.specs.declared.book.VmRow.{VmRow}
 use Rattle.esx_model.specs.Site.{vm_at, with_vm}
 use Rattle.esx_model.specs.Show.{period_row}
 use Rattle.esx_model.specs.Tables.{vm_table, tables_of}
-use Rattle.esx_model.specs.event.Rebalancing.{min_of, rows_of, need, with_targets, share_out, rebalance, tax_gate, shares_gate, set_tax, set_shares}
+use Rattle.esx_model.specs.event.Rebalancing.{min_of, rows_of, need, with_targets, share_out, rebalance, tax_gate, shares_gate, set_tax, set_vm_tax, set_shares}
 use Rattle.esx_model.specs.sound.Machines.{IsPeriodOrNone}
 use Rattle.esx_model.specs.sound.Sound.{IsSound}
 use Rattle.esx_model.proofs.Callers.{row_only_shown, taxed_shown, retargeted_shown, rows_of_sound, free_rows}
@@ -33,7 +33,7 @@ use Rattle.esx_tables.specs.Changes.{traded, exchanged}
 use Rattle.esx_refinement.specs.Refinement.{Refines}
 use Rattle.esx_changes.specs.Activity.{IsTold}
 use Rattle.esx_plans.specs.plan.Ratios.{ratio_rows, least_of, HaveRatios}
-use Rattle.esx_plans.specs.plan.Rebalancing.{wanted, share_out_plan, rebalance_plan, tax_plan, shares_plan}
+use Rattle.esx_plans.specs.plan.Rebalancing.{wanted, share_out_plan, rebalance_plan, tax_plan, vm_tax_plan, shares_plan}
 use Rattle.esx_refinement.proofs.Refining.{row_there, row_is, needs_vm, passes_gate, makes_shown}
 use Rattle.esx_refinement.proofs.Made.{parts_made}
 use Rattle.esx_refinement.proofs.Ratios.{told_shown, rows_shown}
@@ -103,11 +103,19 @@ rebalance_refines c s Soft = shares_out c s
 rebalance_refines c s Hard = shares_out c s
 rebalance_refines c s Low = shares_out c s
 
--- The tax and the shares.
+-- The tax of the site, that of a machine, and its shares.
 
 pub tax_refines : (c : Config) (s : Site) (tau : ℕ) → Refines c s (tax_plan tau) (set_tax s tau)
 unfolding set_tax tax_plan exchanged traded
 tax_refines c s tau = passes_gate c s (tax_gate tau) _ _ (λ pass. makes_shown c s Done (TaxIs tau ∷ []) (record s { tau = tau }) (record (tables_of c s) { tau = tau }) refl (taxed_shown c s tau))
+
+pub vm_tax_refines : (c : Config) (s : Site) (n tau : ℕ) → Refines c s (vm_tax_plan (tables_of c s) n tau) (set_vm_tax s n tau)
+unfolding set_vm_tax vm_tax_plan
+vm_tax_refines c s n tau = needs_vm c s n _ _ (λ v there. passes_gate c s (tax_gate tau) _ _ (λ pass.
+    let w : Vm = record v { spec = record v.spec { tau = Some tau } } in
+    makes_shown c s Done _ (with_vm s n w) _
+    (parts_made (tables_of c s) n (vm_table v) (Facts (record (facts_of (vm_table v)) { tau = Some tau }) ∷ []) (row_is c s n v there))
+    (row_only_shown c s n v w there refl refl)))
 
 pub shares_refines : (c : Config) (s : Site) (n shares : ℕ) → Refines c s (shares_plan (tables_of c s) n shares) (set_shares s n shares)
 unfolding set_shares shares_plan

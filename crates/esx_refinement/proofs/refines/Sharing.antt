@@ -18,7 +18,7 @@ use Rattle.esx_types.specs.Listings.{listing_at, is_hinted_under}
 use Rattle.esx_types.specs.Pages as rows
 use Rattle.esx_events.specs.declared.event.Answer.TheVariants as answers
 use Rattle.esx_events.specs.declared.event.Scanned.TheVariants as scanned
-use Rattle.esx_formulas.specs.Key.{content_key}
+use Rattle.esx_formulas.specs.Key.{content_key, hint_key}
 use Rattle.esx_frames.specs.declared.marks.Mark.TheVariants as marks
 use Rattle.esx_frames.specs.Marks.{mark_traded}
 use Rattle.esx_model.specs.declared.look.Look.{Look}
@@ -238,7 +238,7 @@ pairs_make c s n page v bytes f m q g sound there below was sees =
     join_made t n page f g 2 bytes (vm_table v) (row_is c s n v there) (ap (λ r. (mark_traded r (marks.Shared 2)).0) row)
     ∙ sym (pair_shown c s n page v bytes f m q g sound there below was sees apart)
 
--- A page becomes the hint under its key.
+-- A page becomes the hint under the upper bits of its key.
 
 no_twice : {X Y Z : Type 0} (f : X → Y) (g : Y → Z) (xs : List X) → map (λ x. g (f x)) xs ≡ map g (map f xs)
 no_twice f g [] = refl
@@ -278,10 +278,10 @@ hint_made t n page f key None = refl
 hint_made t n page f key (Some g) = refl
 
 hints_make : (c : Config) (s : Site) (n page : ℕ) (v : Vm) (bytes : List ℕ) (f : ℕ) → IsSound c s → vm_at s n ≡ Some v → page < v.spec.max → place_at v page ≡ Here bytes f false
-    → Makes c s (hint_changes n page f (content_key bytes) (position_from (is_hinted_under (content_key bytes)) 0 (tables_of c s).listings)) (model.hinted s n page bytes)
+    → Makes c s (hint_changes n page f (hint_key bytes) (position_from (is_hinted_under (hint_key bytes)) 0 (tables_of c s).listings)) (model.hinted s n page bytes)
 hints_make c s n page v bytes f sound there below was =
     let t : Tables = tables_of c s in
-    let key = content_key bytes in
+    let key = hint_key bytes in
     let o : Option ℕ = position_from (is_hinted_under key) 0 t.listings in
     let fine = sound.each n v there in
     hint_made t n page f key o

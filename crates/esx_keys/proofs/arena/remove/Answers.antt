@@ -2,9 +2,9 @@ use Rattle.std.proofs.Common.{◌-◌, sym, ap, ◌∙◌, refl, length, length-
 use Rattle.std.proofs.lemmas.List.{get_or_read}
 use Rattle.esx_keys.specs.Arena.{slot_group, vacant_slot, table_of}
 use Rattle.esx_keys.proofs.Arenas.{heads-is_power, linked_of, IsArena-from, has_first}
-use Rattle.esx_keys.proofs.Counts.{fewer_entries, entry_under-gone}
+use Rattle.esx_keys.proofs.Counts.{fewer_entries, entry_at-gone}
 use Rattle.esx_keys.proofs.Shifts.{IsLinked-rewritten}
-use Rattle.esx_keys.proofs.Tables.{entry_under-found, entry_under-absent, without_entry-absent}
+use Rattle.esx_keys.proofs.Tables.{entry_at-found, entry_at-absent, without_entry_at-absent}
 use Rattle.esx_keys.proofs.Takes.{IsDistinct-taken, table_of-taken}
 use Rattle.esx_keys.proofs.arena.remove.Goals as goal
 
@@ -13,12 +13,12 @@ find-requires-clause-heads c = heads-is_power _ _ c.requires
 
 pub returns-in_err-at-clause-value : goal.returns-in_err-at-clause-value
 returns-in_err-at-clause-value c =
-    c.from_residual.ensures ∙ sym (entry_under-absent c.args.slots.now c.args.key c.args.kind c.in_err-at.ensures.found)
+    c.from_residual.ensures ∙ sym (entry_at-absent c.args.slots.now c.args.key c.args.kind c.in_err-at.ensures.found)
 
 pub returns-in_err-at-clause-table : goal.returns-in_err-at-clause-table
 returns-in_err-at-clause-table c =
-    let absent = entry_under-absent c.args.slots.now c.args.key c.args.kind c.in_err-at.ensures.found in
-    sym (without_entry-absent (table_of c.args.slots.now) c.args.key c.args.kind absent)
+    let absent = entry_at-absent c.args.slots.now c.args.key c.args.kind c.in_err-at.ensures.found in
+    sym (without_entry_at-absent (table_of c.args.slots.now) c.args.key c.args.kind absent)
 
 pub head_of-head-requires : goal.head_of-head-requires
 head_of-head-requires c = heads-is_power _ _ c.requires
@@ -43,7 +43,7 @@ returns-clause-arena c =
 pub returns-clause-value : goal.returns-clause-value
 returns-clause-value c =
     let taken = get_or_read c.args.slots.now c.in_ok-at.at c.index-slots-at.result c.in_ok-at.ensures.within c.index-slots-at.is vacant_slot in
-    ap (λ s. s.entry) taken ∙ sym (entry_under-found c.args.slots.now c.in_ok-at.at c.args.key c.args.kind c.requires.distinct c.in_ok-at.ensures.found)
+    ap (λ s. s.entry) taken ∙ sym (entry_at-found c.args.slots.now c.in_ok-at.at c.args.key c.args.kind c.requires.distinct c.in_ok-at.ensures.found)
 
 pub returns-clause-table : goal.returns-clause-table
 returns-clause-table c =
@@ -58,7 +58,7 @@ returns-clause-count c =
     fewer_entries (table_of c.args.slots.now) _ c.args.key c.args.kind _ (returns-clause-value c) (returns-clause-table c)
 
 pub returns-clause-gone : goal.returns-clause-gone
-returns-clause-gone c = entry_under-gone (table_of c.args.slots.now) _ c.args.key c.args.kind (returns-clause-table c)
+returns-clause-gone c = entry_at-gone (table_of c.args.slots.now) _ c.args.key c.args.kind (returns-clause-table c)
 
 pub returns-in_err-at-clause-gone : goal.returns-in_err-at-clause-gone
-returns-in_err-at-clause-gone c = entry_under-absent c.args.slots.now c.args.key c.args.kind c.in_err-at.ensures.found
+returns-in_err-at-clause-gone c = entry_at-absent c.args.slots.now c.args.key c.args.kind c.in_err-at.ensures.found

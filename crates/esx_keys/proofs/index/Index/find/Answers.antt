@@ -10,11 +10,11 @@ use Rattle.esx_keys.proofs.index.Index.find.Goals as goal
 pub loop-at-init : goal.loop-at-init
 loop-at-init c =
     let index = c.args.self.now in
-    let head : c.head_of.result ≡ c.args.key % length index.heads.items =
-    c.head_of.ensures ∙ ap (λ n. c.args.key % n) (let count : c.len.result ≡ length index.heads.items = omega arith in count) in
-    let inside : c.args.key % length index.heads.items < length index.heads.items = omega (arith, c.requires.power.1, pow_pos c.requires.power.0) in
+    let head : c.head_of.result ≡ c.args.number % length index.heads.items =
+    c.head_of.ensures ∙ ap (λ n. c.args.number % n) (let count : c.len.result ≡ length index.heads.items = omega arith in count) in
+    let inside : c.args.number % length index.heads.items < length index.heads.items = omega (arith, c.requires.power.1, pow_pos c.requires.power.0) in
     let read = get_or_read index.heads.items c.head_of.result _ (rw head inside) c.index-at.ensures 0 in
-    rw (read, head) (walk_starts index c.args.kind c.args.key c.requires inside)
+    rw (read, head) (walk_starts index c.args.kind c.args.number c.requires inside)
 
 pub returns-then-is_under : goal.returns-then-is_under
 returns-then-is_under c =
@@ -23,8 +23,8 @@ returns-then-is_under c =
     let short : c.loop-at.at < length used = omega arith in
     let below : c.loop-at.at < length index.listings = omega (arith, used_within used index.listings _ c.used-listings.ensures) in
     let read = used_is used index.listings _ c.loop-at.at _ c.used-listings.ensures short c.index-listings-at.is in
-    let hit : is_under c.args.kind c.args.key (listing_at index.listings c.loop-at.at) ≡ true = ap (is_under c.args.kind c.args.key) (sym read) ∙ sym c.is_under.ensures ∙ c.if-is_under.true in
-    walk_finds index c.args.kind c.args.key c.loop-at.at below c.loop-at.invariant hit
+    let hit : is_under c.args.kind c.args.number (listing_at index.listings c.loop-at.at) ≡ true = ap (is_under c.args.kind c.args.number) (sym read) ∙ sym c.is_under.ensures ∙ c.if-is_under.true in
+    walk_finds index c.args.kind c.args.number c.loop-at.at below c.loop-at.invariant hit
 
 pub loop-at-smaller : goal.loop-at-smaller
 loop-at-smaller c =
@@ -32,10 +32,10 @@ loop-at-smaller c =
     let used = c.used-listings.result.now in
     let short : c.loop-at.at < length used = omega arith in
     let below : c.loop-at.at < length index.listings = omega (arith, used_within used index.listings _ c.used-listings.ensures) in
-    let inside : c.args.key % length index.heads.items < length index.heads.items = omega (arith, c.requires.power.1, pow_pos c.requires.power.0) in
+    let inside : c.args.number % length index.heads.items < length index.heads.items = omega (arith, c.requires.power.1, pow_pos c.requires.power.0) in
     let read = used_is used index.listings _ c.loop-at.at _ c.used-listings.ensures short c.index-listings-at.is in
-    let missed : is_under c.args.kind c.args.key (listing_at index.listings c.loop-at.at) ≡ false = ap (is_under c.args.kind c.args.key) (sym read) ∙ sym c.is_under.ensures ∙ c.if-is_under.false in
-    let step = walk_goes_on index c.args.kind c.args.key c.loop-at.at c.requires inside below c.loop-at.invariant missed in
+    let missed : is_under c.args.kind c.args.number (listing_at index.listings c.loop-at.at) ≡ false = ap (is_under c.args.kind c.args.number) (sym read) ∙ sym c.is_under.ensures ∙ c.if-is_under.false in
+    let step = walk_goes_on index c.args.kind c.args.number c.loop-at.at c.requires inside below c.loop-at.invariant missed in
     let next = c.row-at.ensures in
     omega (arith, step.up, next)
 
@@ -45,14 +45,14 @@ loop-at-preserved c =
     let used = c.used-listings.result.now in
     let short : c.loop-at.at < length used = omega arith in
     let below : c.loop-at.at < length index.listings = omega (arith, used_within used index.listings _ c.used-listings.ensures) in
-    let inside : c.args.key % length index.heads.items < length index.heads.items = omega (arith, c.requires.power.1, pow_pos c.requires.power.0) in
+    let inside : c.args.number % length index.heads.items < length index.heads.items = omega (arith, c.requires.power.1, pow_pos c.requires.power.0) in
     let read = used_is used index.listings _ c.loop-at.at _ c.used-listings.ensures short c.index-listings-at.is in
-    let missed : is_under c.args.kind c.args.key (listing_at index.listings c.loop-at.at) ≡ false = ap (is_under c.args.kind c.args.key) (sym read) ∙ sym c.is_under.ensures ∙ c.if-is_under.false in
+    let missed : is_under c.args.kind c.args.number (listing_at index.listings c.loop-at.at) ≡ false = ap (is_under c.args.kind c.args.number) (sym read) ∙ sym c.is_under.ensures ∙ c.if-is_under.false in
     let next = c.row-at.ensures in
-    rw next (walk_goes_on index c.args.kind c.args.key c.loop-at.at c.requires inside below c.loop-at.invariant missed).walked
+    rw next (walk_goes_on index c.args.kind c.args.number c.loop-at.at c.requires inside below c.loop-at.invariant missed).walked
 
 pub returns : goal.returns
 returns c =
     let listings = c.args.self.now.listings in
     let unlisted = unused_is c.used-listings.result.now listings _ c.loop-at.at c.used-listings.ensures (omega arith) in
-    walk_ends c.args.self.now c.args.kind c.args.key c.loop-at.at unlisted c.loop-at.invariant
+    walk_ends c.args.self.now c.args.kind c.args.number c.loop-at.at unlisted c.loop-at.invariant
