@@ -1,13 +1,15 @@
 -- Rows read in turn.
-use Rattle.std.proofs.Common.{◌≡◌, ℕ, ◌+◌, ◌<◌, List, ◌∷◌, ◌++◌, length, get_or, drop, refl, sym, ap, ◌∙◌, append_assoc, arith, Option, Some, None}
+use Rattle.std.proofs.Common.{◌≡◌, ℕ, zero, suc, ◌+◌, ◌-◌, ◌<◌, List, [], ◌∷◌, ◌++◌, length, get_or, drop, replicate, refl, sym, ap, ◌∙◌, append_assoc, arith, Option, Some, None}
 use Rattle.std.specs.List.{fold}
 use Rattle.std.proofs.lemmas.Grind.{common_steps}
 use Rattle.std.proofs.lemmas.List.{get_or_read}
+use Rattle.esx_types.specs.declared.config.TheConstants.{VM_NUMBERS}
 use Rattle.esx_events.specs.declared.call.TableRow.{TableRow}
 use Rattle.esx_formulas.specs.Ratio.{Claim}
 use Rattle.esx_formulas.specs.Targets.{first_claim}
 use Rattle.esx_model.specs.declared.book.VmRow.{VmRow}
-use Rattle.esx_model.specs.Readings.{table_from}
+use Rattle.esx_model.specs.Readings.{table_from, table_row}
+use Rattle.esx_tables.specs.Promised.{AreUsed}
 use Rattle.esx_machine.specs.Questions.{target_rows, claim_step, vm_step, line_of}
 
 -- an item that was read is there
@@ -42,3 +44,17 @@ pub lines_more : (rows : List TableRow) (i : ℕ) (xs : List (Option VmRow)) (x 
 lines_more rows i xs x below is =
     append_assoc rows (line_of i x) (table_from (i + 1) (drop (i + 1) xs))
     ∙ ap (λ (ls : List TableRow). rows ++ ls) (one_line i x (drop (i + 1) xs) ∙ ap (table_from i) (sym (rest_is xs i x below is)))
+
+-- The places up to the last machine are enough.
+
+blank_lines : (n k : ℕ) → table_from n (replicate k None) ≡ []
+blank_lines n zero = refl
+blank_lines n (suc k) = blank_lines (n + 1) k
+
+lines_with_blank : (n k : ℕ) (used : List (Option VmRow)) → table_from n (used ++ replicate k None) ≡ table_from n used
+lines_with_blank n k [] = blank_lines n k
+lines_with_blank n k (None ∷ used) = lines_with_blank (n + 1) k used
+lines_with_blank n k (Some v ∷ used) = ap (λ (ls : List TableRow). table_row n v ∷ ls) (lines_with_blank (n + 1) k used)
+
+pub lines_of_used : (used all : List (Option VmRow)) → AreUsed used all → table_from 0 used ≡ table_from 0 all
+lines_of_used used all u = sym (lines_with_blank 0 (VM_NUMBERS - length used) used) ∙ ap (table_from 0) u.blank

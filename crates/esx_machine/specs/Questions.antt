@@ -1,6 +1,7 @@
 -- What questions read of the raw tables, and what the tables of every sound site have on which they rest. No public clause cites this module.
 use Rattle.std.specs.Prelude.{◌≡◌, ℕ, ◌≤◌, ◌==◌, Bool, true, false, ◌&&◌, not, is_some, nat_lt, nat_le, List, [], ◌∷◌, length, Option, Some, None, if◌then◌else◌, Result, Ok, Err}
 use Rattle.std.specs.List.{list_any}
+use Rattle.esx_types.specs.Ranges.{IsTax}
 use Rattle.esx_types.specs.declared.config.TheConstants.{MAX_PAGES, MAX_SHARES, MAX_TAU, VM_NUMBERS}
 use Rattle.esx_types.specs.declared.level.Level.{Level}
 use Rattle.esx_types.specs.declared.table.Listing.{Listing}
@@ -37,6 +38,7 @@ pub record IsReadable (v : VmRow) : Type 0 where
   pub least_shares : 1 ≤ v.spec.shares
   pub most_shares : v.spec.shares ≤ MAX_SHARES
   pub most_target : v.target ≤ MAX_PAGES
+  pub most_tau : IsTax v.spec.tau
   pub period : IsTold v.period
 
 pub record AreReadable (t : Tables) : Type 0 where
@@ -73,7 +75,7 @@ written_frame t (maps.Lent e) = least_frame t.frames
 abbrev pub can_go : Tables → Level → VmRow → ℕ → Bool
 can_go t level v page = not (is_blocked level (standing_of v)) && is_some (written_frame t (page_at v.pages page))
 
--- what a machine has at a tax, of which it keeps its target
+-- what a machine has where the site has that tax, of which it keeps its target
 abbrev pub target_row : ℕ → ℕ → VmRow → Row
 target_row tau n v = ratio_row tau (λ (w : VmRow). w.target) n v
 

@@ -1,6 +1,6 @@
 //! What lets a write to a page go on. It takes no memory, and looks at each machine once.
 
-ghost use Rattle.std.specs.Prelude.{◌≡◌, ◌≤◌, ◌<◌, Some, is_some};
+ghost use Rattle.std.specs.Prelude.{◌≡◌, ◌≤◌, ◌<◌, ℕ, None, Some, is_some, length, slice_index_or};
 ghost use Rattle.std.specs.Option.{ForSome};
 ghost use Rattle.esx_types.specs.declared.config.TheConstants.{MAX_TAU, VM_NUMBERS};
 ghost use Rattle.esx_formulas.specs.Ratio.{IsRow};
@@ -15,7 +15,7 @@ use esx_changes::shared::ref_count;
 use esx_changes::spare::any_spare;
 use esx_events::{Help, Refusal};
 use esx_formulas::Row;
-use esx_formulas::ratio::comes_no_later_at;
+use esx_formulas::ratio::{comes_no_later_at, tax_of};
 use esx_model::Standing;
 use esx_tables::{SiteTables, VmTable};
 use esx_types::{Level, MapRow, VmId, VmState};
@@ -44,7 +44,7 @@ fn can_go(tables: &SiteTables, level: Level, vm: &VmTable, page: u32) -> bool
     !is_blocked(level, &vm.standing()) && has_frame(tables, vm.page(page))
 }
 
-/// What a machine has at a tax, of which it keeps its target.
+/// What a machine has where the site has this tax, of which it keeps its target.
 fn target_row(tau: u32, vm: VmId, row: &VmTable) -> Row
     requires tau { tau ≤ MAX_TAU }
     requires row { IsReadable row.now }
@@ -61,7 +61,7 @@ fn target_row(tau: u32, vm: VmId, row: &VmTable) -> Row
         pages,
         floor: row.facts().target,
         active: active(row),
-        tau,
+        tau: tax_of(tau, spec.tau),
     }
 }
 
@@ -100,10 +100,21 @@ fn sooner_of(tau: u32, best: Option<Row>, number: usize, vm: &Option<VmTable>) -
     let Some(row) = vm else {
         return best;
     };
-    let Some(vm) = VmId::new(number as u8) else {
-        unreachable!("each place of a machine has a number");
-    };
-    sooner(best, target_row(tau, vm, row))
+    sooner(best, target_row(tau, VmId::new(number as u8), row))
+}
+
+/// The row of the machine of these places that pages out next, if one is above its target.
+fn first_of(tau: u32, vms: &[Option<VmTable>]) -> Option<Row>
+    requires tau { tau ≤ MAX_TAU }
+    requires places { length vms.now ≤ VM_NUMBERS }
+    requires each { (n : ℕ) (v : VmRow) → slice_index_or vms.now n None ≡ Some v → IsReadable v }
+    ensures { claim_of result ≡ first_claim (target_rows tau 0 vms.now) }
+{
+    let mut best = None;
+    for (number, vm) in vms.iter().enumerate() {
+        best = sooner_of(tau, best, number, vm);
+    }
+    best
 }
 
 /// The row of the machine that pages out next, if one is above its target.
@@ -111,12 +122,7 @@ fn first_row(tables: &SiteTables) -> Option<Row>
     requires { AreReadable tables.now }
     ensures { claim_of result ≡ first_claim (target_rows tables.now.tau 0 tables.now.vms) }
 {
-    let tau = tables.tau();
-    let mut best = None;
-    for (number, vm) in tables.vms().iter().enumerate() {
-        best = sooner_of(tau, best, number, vm);
-    }
-    best
+    first_of(tables.tau(), tables.machines())
 }
 
 fn help_from(tables: &SiteTables, level: Level, vm: &VmTable, page: u32) -> Help
@@ -129,7 +135,7 @@ fn help_from(tables: &SiteTables, level: Level, vm: &VmTable, page: u32) -> Help
     match first_row(tables) {
         Some(row) => Help::SwapOut { vm: row.vm },
         None => {
-            if any_spare(tables.vms()) {
+            if any_spare(tables) {
                 Help::Rebalance
             } else {
                 Help::Replace

@@ -40,6 +40,7 @@ fn activity_in(vm: &VmTable) -> Activity
 }
 
 /// A machine's averages and open period, or that there is no such machine.
+#[tactic(auto, using(crate::proofs::Readable::told_there))]
 pub fn activity(tables: &SiteTables, vm: VmId) -> Result<Activity, Refusal>
     requires { AreReadable tables.now }
     ensures { result ≡ activity_of (row_at tables.now vm) }

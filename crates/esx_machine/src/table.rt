@@ -1,6 +1,6 @@
 //! A line for each machine.
 
-ghost use Rattle.std.specs.Prelude.{◌≡◌, ◌<◌, ◌++◌, Some, IfOk, OnOk};
+ghost use Rattle.std.specs.Prelude.{◌≡◌, ◌<◌, ◌≤◌, ◌++◌, ℕ, None, Some, IfOk, OnOk, length, slice_index_or};
 ghost use Rattle.esx_types.specs.declared.config.TheConstants.{VM_NUMBERS};
 ghost use Rattle.esx_model.specs.declared.book.VmRow.{VmRow};
 ghost use Rattle.esx_model.specs.Readings.{table_row, table_from};
@@ -10,7 +10,7 @@ ghost use Rattle.esx_machine.specs.Questions.{IsReadable, AreReadable, line_of};
 use esx_changes::activity::active;
 use esx_events::TableRow;
 use esx_tables::{SiteTables, VmTable};
-use esx_types::{Rows, VM_NUMBERS, VmId};
+use esx_types::{Rows, VmId};
 use std::alloc::{AllocError, Global};
 
 fn table_row(vm: VmId, row: &VmTable) -> TableRow
@@ -41,11 +41,21 @@ fn add_line(rows: &mut Vec<TableRow>, number: usize, vm: &Option<VmTable>) -> Re
     let Some(row) = vm else {
         return Ok(());
     };
-    let Some(vm) = VmId::new(number as u8) else {
-        unreachable!("each place of a machine has a number");
-    };
-    rows.push(table_row(vm, row))?;
+    rows.push(table_row(VmId::new(number as u8), row))?;
     Ok(())
+}
+
+/// A line for each machine of these places.
+fn lines_of(alloc: Global, vms: &[Option<VmTable>]) -> Result<Rows<TableRow>, AllocError>
+    requires places { length vms.now ≤ VM_NUMBERS }
+    requires each { (n : ℕ) (v : VmRow) → slice_index_or vms.now n None ≡ Some v → IsReadable v }
+    ensures { IfOk result (λ rows. rows ≡ table_from 0 vms.now) }
+{
+    let mut rows = Vec::with_capacity(alloc, vms.len())?;
+    for (number, vm) in vms.iter().enumerate() {
+        add_line(&mut rows, number, vm)?;
+    }
+    Ok(Rows::from_vec(rows))
 }
 
 /// A line for each machine, in order of number.
@@ -53,9 +63,5 @@ pub fn table_of(alloc: Global, tables: &SiteTables) -> Result<Rows<TableRow>, Al
     requires { AreReadable tables.now }
     ensures { IfOk result (λ rows. rows ≡ table_from 0 tables.now.vms) }
 {
-    let mut rows = Vec::with_capacity(alloc, VM_NUMBERS)?;
-    for (number, vm) in tables.vms().iter().enumerate() {
-        add_line(&mut rows, number, vm)?;
-    }
-    Ok(Rows::from_vec(rows))
+    lines_of(alloc, tables.machines())
 }

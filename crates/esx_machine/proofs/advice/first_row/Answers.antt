@@ -1,12 +1,19 @@
-use Rattle.std.proofs.Common.{List, get_or, sym, ap, ◌∙◌, arith, Option, None}
+use Rattle.std.proofs.Common.{ℕ, List, ap, ◌∙◌}
+use Rattle.esx_formulas.specs.declared.targets.Row.{Row}
+use Rattle.esx_formulas.specs.Targets.{first_claim}
 use Rattle.esx_model.specs.declared.book.VmRow.{VmRow}
-use Rattle.esx_machine.proofs.Loops.{claim_first, item_there}
+use Rattle.esx_plans.specs.plan.Ratios.{ratio_row}
+use Rattle.esx_plans.proofs.Loops.{made_of_used, each_used}
+use Rattle.esx_machine.specs.Questions.{IsReadable, target_rows}
 use Rattle.esx_machine.proofs.advice.first_row.Goals as goal
 
-pub loop-number-init : goal.loop-number-init
-loop-number-init c = (claim_first c.tau-tau.result c.args.tables.now.vms, λ x h. cc)
+pub first_of-requires-clause-each : goal.first_of-requires-clause-each
+first_of-requires-clause-each c = each_used IsReadable c.machines.result.now c.args.tables.now.vms c.machines.ensures c.requires.each
 
-pub sooner_of-best-requires-clause-vm : goal.sooner_of-best-requires-clause-vm
-sooner_of-best-requires-clause-vm c =
-    let there = item_there c.vms-vm-items.result.now c.loop-number.number c.vm-item.result (omega arith) c.vm-item.is in
-    λ v h. c.requires.each c.loop-number.number v (ap (λ (xs : List (Option VmRow)). get_or xs c.loop-number.number None) (sym c.vms-vm-items.ensures) ∙ there ∙ h)
+pub returns : goal.returns
+returns c =
+    let tau : ℕ = c.args.tables.now.tau in
+    let same = made_of_used (ratio_row tau (λ (w : VmRow). w.target)) c.machines.result.now c.args.tables.now.vms c.machines.ensures in
+    c.first_of.ensures
+    ∙ ap (λ (k : ℕ). first_claim (target_rows k 0 c.machines.result.now)) c.tau.ensures
+    ∙ ap (λ (rows : List Row). first_claim rows) same
