@@ -43,7 +43,7 @@ CallWantsMemory text n = (site : Config) × (entries : List Entry) × BeginsWith
 -- How many calls are made where memory runs out on the way through a text, at a console that is open: the last of them
 -- wants memory; or they are all that a check of the calls before an entry makes, and memory is wanting to read that entry.
 abbrev pub RunsOutAsRead : List ℕ → ℕ → Type 0
-RunsOutAsRead text n = CallWantsMemory text n ⊎ ChecksBefore text (λ reader. NextTakesMemory reader.at.left) n
+RunsOutAsRead text n = CallWantsMemory text n ⊎ ChecksBefore text (λ reader. NextTakesMemory reader.version reader.at.left) n
 
 -- The same, or none was made, as the site was opened.
 abbrev pub RunsOutInText : List ℕ → ℕ → Type 0

@@ -26,7 +26,7 @@ fn read_on(alloc: Global, calls: &mut Calls) -> Result<(), TextFault>
     ensures err { (text : List ℕ) (site : Config) (done : List Entry) → Follows text site done calls.old
         → OnErr result ((later : List Entry) × Follows text site (done ++ later) calls.new) }
     ensures near { (line : ℕ) → IsErrOf result (TextFault.BadLine line) → IsNextLine line calls.new.at }
-    ensures wants { IsErrOf result TextFault.OutOfMemory → NextTakesMemory calls.new.at.left }
+    ensures wants { IsErrOf result TextFault.OutOfMemory → NextTakesMemory calls.new.version calls.new.at.left }
 {
     while let Some(later) = calls.next(alloc)? {
         calls.give_back(later.reply);

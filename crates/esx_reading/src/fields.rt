@@ -324,6 +324,6 @@ impl<'a> Fields<'a> {
         ensures one { IfNone result (self.new ≡ drop 1 self.old) }
     {
         let number = self.below(VM_NUMBERS as u64)?;
-        VmId::new(number as u8)
+        Some(VmId::new(number as u8))
     }
 }

@@ -1,6 +1,6 @@
 -- The machines of a scenario, one after another.
 use Rattle.std.proofs.Common.{◌≡◌, ◌+◌, ◌<◌, ◌≤◌, ℕ, List, [], ◌∷◌, ◌++◌, length, Bool, true, false, Option, Some, None, Result, Ok, Err, Bor, refl, sym, ap, ◌∙◌, codes, nat_le, le-leb, arith, if◌then◌else◌, get_or, drop}
-use Rattle.std.specs.Prelude.{IsErrAnd, ◌&&◌, ◌||◌, ◌==◌, IsSome, IfSome, OnOk, is_err, option_copied}
+use Rattle.std.specs.Prelude.{IsErrAnd, ◌&&◌, ◌||◌, ◌==◌, OnOk, is_err, option_copied}
 use Rattle.toml.proofs.Views.{items_view-drop}
 use Rattle.std.proofs.Math.ListN.{drop_of_length-le}
 use Rattle.std.proofs.lemmas.Bool.Decides.{Decides-eqb}
@@ -8,16 +8,18 @@ use Rattle.std.proofs.lemmas.Option.{same_Some}
 use Rattle.toml.specs.Data.{Data, string, integer, float, boolean, datetime, array, table, Items, no_items, item, Members, as_str, as_table, as_array}
 use Rattle.toml.specs.View.{view, items_view}
 use Rattle.toml.specs.declared.value.Value.{Value}
-use Rattle.esx_types.specs.declared.config.TheConstants.{VM_NUMBERS}
+use Rattle.esx_types.specs.declared.config.TheConstants.{MAX_TAU}
+use Rattle.esx_types.specs.declared.version.Version.{Version}
+use Rattle.esx_types.specs.Versions.{vm_numbers, has_own_taxes}
 use Rattle.esx_reading.specs.declared.fault.TextFault.{TextFault}
 use Rattle.esx_reading.specs.declared.fault.TextFault.TheVariants.{BadKey, OutOfMemory}
 use Rattle.esx_types.specs.declared.config.Config.{Config}
 use Rattle.esx_scenario.specs.declared.plan.Guest.{Guest}
 use Rattle.esx_scenario.specs.declared.plan.TraceLine.{TraceLine}
 use Rattle.esx_scenario.specs.declared.guests.TheConstants.{MOST_LINES}
-use Rattle.esx_scenario.specs.Keys.{Tried, Gives, Names, ◌>>=◌, below, at_key}
+use Rattle.esx_scenario.specs.Keys.{Tried, Gives, Names, ◌>>=◌, below, at_key, given}
 use Rattle.esx_scenario.specs.Lines.{line_of}
-use Rattle.esx_scenario.specs.Guests.{count_items, lines_from, trace_in, guest_at, guests_from, guests_at, are_tables, new_number}
+use Rattle.esx_scenario.specs.Guests.{count_items, lines_from, trace_in, guest_at, guests_from, guests_at, are_tables, new_number, tau_in}
 use Rattle.esx_scenario.specs.Plans.{AreDistinct, has_number}
 use Rattle.esx_scenario.specs.Sites.{site_at, site_in, settings_at, settings_in}
 use Rattle.esx_scenario.proofs.KeyLemmas.{then_err}
@@ -64,6 +66,14 @@ at_key_some key o x e = rw e refl
 pub at_key_none : {A : Type 0} (key : List ℕ) (o : Option A) → o ≡ None → at_key key o ≡ Err key
 unfolding at_key
 at_key_none key o e = rw e refl
+
+pub tau_given : (version : Version) (t : Members) → has_own_taxes version ≡ true → tau_in version t ≡ given t (codes "tau") 0 MAX_TAU
+unfolding tau_in
+tau_given version t e = rw e refl
+
+pub tau_none : (version : Version) (t : Members) → has_own_taxes version ≡ false → tau_in version t ≡ Ok None
+unfolding tau_in
+tau_none version t e = rw e refl
 
 pub new_number_ok : (earlier : List Guest) (n : ℕ) → has_number earlier n ≡ false → new_number earlier n ≡ Ok n
 unfolding new_number
@@ -144,30 +154,30 @@ trace_kind size pages (datetime t) e = refl
 trace_kind size pages (table t) e = refl
 
 -- a machine more, or what its table comes to
-pub guests_more : (site : Config) (earlier : List Guest) (d : Data) (ds all : Items) (t : Members) → all ≡ item d ds → Some t ≡ as_table d
-    → guests_from site earlier all ≡ (guest_at site earlier t >>= λ g. guests_from site (earlier ++ g ∷ []) ds)
+pub guests_more : (version : Version) (site : Config) (earlier : List Guest) (d : Data) (ds all : Items) (t : Members) → all ≡ item d ds → Some t ≡ as_table d
+    → guests_from version site earlier all ≡ (guest_at version site earlier t >>= λ g. guests_from version site (earlier ++ g ∷ []) ds)
 unfolding guests_from
-guests_more site earlier (table x) ds all t a e = let same = same_Some t x e in rw (a, same) refl
-guests_more site earlier (string s) ds all t a e = absurd (cc)
-guests_more site earlier (integer z) ds all t a e = absurd (cc)
-guests_more site earlier (float x) ds all t a e = absurd (cc)
-guests_more site earlier (boolean b) ds all t a e = absurd (cc)
-guests_more site earlier (datetime x) ds all t a e = absurd (cc)
-guests_more site earlier (array xs) ds all t a e = absurd (cc)
+guests_more version site earlier (table x) ds all t a e = let same = same_Some t x e in rw (a, same) refl
+guests_more version site earlier (string s) ds all t a e = absurd (cc)
+guests_more version site earlier (integer z) ds all t a e = absurd (cc)
+guests_more version site earlier (float x) ds all t a e = absurd (cc)
+guests_more version site earlier (boolean b) ds all t a e = absurd (cc)
+guests_more version site earlier (datetime x) ds all t a e = absurd (cc)
+guests_more version site earlier (array xs) ds all t a e = absurd (cc)
 
-pub guests_kind : (site : Config) (earlier : List Guest) (d : Data) (ds all : Items) → all ≡ item d ds → None ≡ as_table d → guests_from site earlier all ≡ Err (codes "vm")
+pub guests_kind : (version : Version) (site : Config) (earlier : List Guest) (d : Data) (ds all : Items) → all ≡ item d ds → None ≡ as_table d → guests_from version site earlier all ≡ Err (codes "vm")
 unfolding guests_from
-guests_kind site earlier (table x) ds all a e = absurd (cc)
-guests_kind site earlier (string s) ds all a e = rw a refl
-guests_kind site earlier (integer z) ds all a e = rw a refl
-guests_kind site earlier (float x) ds all a e = rw a refl
-guests_kind site earlier (boolean b) ds all a e = rw a refl
-guests_kind site earlier (datetime x) ds all a e = rw a refl
-guests_kind site earlier (array xs) ds all a e = rw a refl
+guests_kind version site earlier (table x) ds all a e = absurd (cc)
+guests_kind version site earlier (string s) ds all a e = rw a refl
+guests_kind version site earlier (integer z) ds all a e = rw a refl
+guests_kind version site earlier (float x) ds all a e = rw a refl
+guests_kind version site earlier (boolean b) ds all a e = rw a refl
+guests_kind version site earlier (datetime x) ds all a e = rw a refl
+guests_kind version site earlier (array xs) ds all a e = rw a refl
 
-pub guests_end : (site : Config) (guests : List Guest) (all : Items) → all ≡ no_items → guests_from site guests all ≡ Ok guests
+pub guests_end : (version : Version) (site : Config) (guests : List Guest) (all : Items) → all ≡ no_items → guests_from version site guests all ≡ Ok guests
 unfolding guests_from
-guests_end site guests all a = rw a refl
+guests_end version site guests all a = rw a refl
 
 pub is_array : (d : Data) (ds : Items) → Some ds ≡ as_array d → d ≡ array ds
 is_array (array xs) ds e = ap array (sym (same_Some ds xs e))
@@ -187,29 +197,29 @@ is_table (float x) t e = absurd (cc)
 is_table (boolean b) t e = absurd (cc)
 is_table (datetime x) t e = absurd (cc)
 
-pub guests_none : (site : Config) (o : Option Data) → o ≡ None → guests_at site o ≡ Ok []
+pub guests_none : (version : Version) (site : Config) (o : Option Data) → o ≡ None → guests_at version site o ≡ Ok []
 unfolding guests_at
-guests_none site o e = rw e refl
+guests_none version site o e = rw e refl
 
-pub guests_other : (site : Config) (o : Option Data) (d : Data) → o ≡ Some d → None ≡ as_array d → guests_at site o ≡ Err (codes "vm")
+pub guests_other : (version : Version) (site : Config) (o : Option Data) (d : Data) → o ≡ Some d → None ≡ as_array d → guests_at version site o ≡ Err (codes "vm")
 unfolding guests_at
-guests_other site o (array xs) e n = absurd (cc)
-guests_other site o (string s) e n = rw e refl
-guests_other site o (integer z) e n = rw e refl
-guests_other site o (float x) e n = rw e refl
-guests_other site o (boolean b) e n = rw e refl
-guests_other site o (datetime t) e n = rw e refl
-guests_other site o (table t) e n = rw e refl
+guests_other version site o (array xs) e n = absurd (cc)
+guests_other version site o (string s) e n = rw e refl
+guests_other version site o (integer z) e n = rw e refl
+guests_other version site o (float x) e n = rw e refl
+guests_other version site o (boolean b) e n = rw e refl
+guests_other version site o (datetime t) e n = rw e refl
+guests_other version site o (table t) e n = rw e refl
 
-pub guests_unfit : (site : Config) (o : Option Data) (d : Data) (ds : Items) → o ≡ Some d → Some ds ≡ as_array d → (nat_le (count_items ds) VM_NUMBERS && are_tables ds) ≡ false
-    → guests_at site o ≡ Err (codes "vm")
+pub guests_unfit : (version : Version) (site : Config) (o : Option Data) (d : Data) (ds : Items) → o ≡ Some d → Some ds ≡ as_array d → (nat_le (count_items ds) (vm_numbers version) && are_tables ds) ≡ false
+    → guests_at version site o ≡ Err (codes "vm")
 unfolding guests_at
-guests_unfit site o d ds e a f = rw (e, is_array d ds a, f) refl
+guests_unfit version site o d ds e a f = rw (e, is_array d ds a, f) refl
 
-pub guests_fit : (site : Config) (o : Option Data) (d : Data) (ds : Items) → o ≡ Some d → Some ds ≡ as_array d → (nat_le (count_items ds) VM_NUMBERS && are_tables ds) ≡ true
-    → guests_at site o ≡ guests_from site [] ds
+pub guests_fit : (version : Version) (site : Config) (o : Option Data) (d : Data) (ds : Items) → o ≡ Some d → Some ds ≡ as_array d → (nat_le (count_items ds) (vm_numbers version) && are_tables ds) ≡ true
+    → guests_at version site o ≡ guests_from version site [] ds
 unfolding guests_at
-guests_fit site o d ds e a f = rw (e, is_array d ds a, f) refl
+guests_fit version site o d ds e a f = rw (e, is_array d ds a, f) refl
 
 pub site_none : (o : Option Members) → o ≡ None → site_at o ≡ Err (codes "machine.frames")
 unfolding site_at
@@ -258,11 +268,6 @@ distinct_more (g ∷ gs) new d n =
 pub one_more : (guests : List Guest) (new : Guest) (all : List Guest) → all ≡ guests ++ new ∷ [] → AreDistinct guests → has_number guests new.vm ≡ false → AreDistinct all
 one_more guests new all a d n = rw a (distinct_more guests new d n)
 
--- a number that was made
-pub made : (o : Option ℕ) (n : ℕ) → IsSome o → IfSome o (λ m. m ≡ n) → o ≡ Some n
-made (Some m) n h e = ap Some e
-made None n h e = absurd (cc)
-
 pub item_here : (vs : List Value) (i : ℕ) (v : Value) → v ≡ get_or vs i v → i < length vs → items_view (drop i vs) ≡ item (view v) (items_view (drop (i + 1) vs))
 item_here vs i v e h = items_view-drop vs i v h ∙ ap (λ x. item (view x) (items_view (drop (i + 1) vs))) (sym e)
 
@@ -275,15 +280,15 @@ text_none o d e n = rw n at e
 pub not_leb : (a b : ℕ) → b < a → nat_le a b ≡ false
 not_leb a b h = grind arith
 
-pub many : (ds : Items) (b : Bool) → VM_NUMBERS < count_items ds → (nat_le (count_items ds) VM_NUMBERS && b) ≡ false
-many ds b h = rw (not_leb (count_items ds) VM_NUMBERS h) refl
+pub many : (most : ℕ) (ds : Items) (b : Bool) → most < count_items ds → (nat_le (count_items ds) most && b) ≡ false
+many most ds b h = rw (not_leb (count_items ds) most h) refl
 
 pub strays : (a b : Bool) → b ≡ false → (a && b) ≡ false
 strays true b e = e
 strays false b e = refl
 
-pub all_fit : (ds : Items) → count_items ds ≤ VM_NUMBERS → are_tables ds ≡ true → (nat_le (count_items ds) VM_NUMBERS && are_tables ds) ≡ true
-all_fit ds h t = rw (le-leb (count_items ds) VM_NUMBERS h, t) refl
+pub all_fit : (most : ℕ) (ds : Items) → count_items ds ≤ most → are_tables ds ≡ true → (nat_le (count_items ds) most && are_tables ds) ≡ true
+all_fit most ds h t = rw (le-leb (count_items ds) most h, t) refl
 
 -- a push that did not fail
 pub pushed : {A E : Type 0} {P : Type 0} (r : Result A E) → is_err r ≡ false → OnOk r P → P
@@ -291,9 +296,9 @@ pushed (Ok x) e h = h
 pushed (Err e') e h = absurd (cc)
 
 -- a machine's table whose fault ends the reading of all
-pub guest_stop : (site : Config) (start : Tried (List Guest)) (earlier slice : List Guest) (d : Data) (ds all : Items) (t : Members) (fault : TextFault)
-    → start ≡ guests_from site earlier all → all ≡ item d ds → Some t ≡ as_table d → slice ≡ earlier → Gives (guest_at site slice t) (Err fault) → Gives start (Err fault)
-guest_stop site start earlier slice d ds all t (BadKey path) s a e same g =
-    s ∙ guests_more site earlier d ds all t a e ∙ then_err _ _ _ (ap (λ x. guest_at site x t) (sym same) ∙ g)
-guest_stop site start earlier slice d ds all t OutOfMemory s a e same g = tt
-guest_stop site start earlier slice d ds all t _ s a e same g = absurd g
+pub guest_stop : (version : Version) (site : Config) (start : Tried (List Guest)) (earlier slice : List Guest) (d : Data) (ds all : Items) (t : Members) (fault : TextFault)
+    → start ≡ guests_from version site earlier all → all ≡ item d ds → Some t ≡ as_table d → slice ≡ earlier → Gives (guest_at version site slice t) (Err fault) → Gives start (Err fault)
+guest_stop version site start earlier slice d ds all t (BadKey path) s a e same g =
+    s ∙ guests_more version site earlier d ds all t a e ∙ then_err _ _ _ (ap (λ x. guest_at version site x t) (sym same) ∙ g)
+guest_stop version site start earlier slice d ds all t OutOfMemory s a e same g = tt
+guest_stop version site start earlier slice d ds all t _ s a e same g = absurd g

@@ -5,7 +5,7 @@ use Rattle.toml.specs.Data.{Data, Members, as_integer, get_member, as_table}
 use Rattle.std.specs.Prelude.{codes}
 use Rattle.std.proofs.lemmas.Bool.Decides.{Decides-eqb}
 use Rattle.esx_scenario.specs.Sites.{whole_page}
-use Rattle.esx_scenario.specs.Keys.{Tried, Tries, ◌>>=◌, at_key, within, integer_within, required, optional, table_at}
+use Rattle.esx_scenario.specs.Keys.{Tried, Tries, ◌>>=◌, at_key, within, integer_within, required, optional, given, table_at}
 
 -- a step that gave a value leads to the next one
 pub then_ok : {A B : Type 0} (r : Tried A) (f : A → Tried B) (x : A) (s : Tried B) → r ≡ Ok x → f x ≡ s → (r >>= f) ≡ s
@@ -58,6 +58,18 @@ pub optional_unfit : (t : Members) (key : List ℕ) (least most default : ℕ) �
     → optional t key least most default ≡ Err key
 unfolding optional at_key within
 optional_unfit t key least most default g e = rw (← g, e) refl
+
+pub given_none : (t : Members) (key : List ℕ) (least most : ℕ) → None ≡ get_member key t → given t key least most ≡ Ok None
+unfolding given
+given_none t key least most g = rw (← g) refl
+
+pub given_some : (t : Members) (key : List ℕ) (least most n : ℕ) (d : Data) → Some d ≡ get_member key t → Some n ≡ within least most d → given t key least most ≡ Ok (Some n)
+unfolding given at_key ◌>>=◌
+given_some t key least most n d g w = rw (← g, ← w) refl
+
+pub given_unfit : (t : Members) (key : List ℕ) (least most : ℕ) (d : Data) → Some d ≡ get_member key t → None ≡ within least most d → given t key least most ≡ Err key
+unfolding given at_key ◌>>=◌
+given_unfit t key least most d g w = rw (← g, ← w) refl
 
 pub table_at_none : (t : Members) (key : List ℕ) → None ≡ get_member key t → None ≡ table_at t key
 unfolding table_at

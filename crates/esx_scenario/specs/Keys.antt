@@ -43,6 +43,16 @@ required t key least most = at_key key (option_and_then (within least most) (get
 unfoldable pub optional : Members → List ℕ → ℕ → ℕ → ℕ → Tried ℕ
 optional t key least most default = at_key key (within least most (unwrap_or (get_member key t) (integer (pos default))))
 
+-- the integer of a key that may be left out, if it is there
+abbrev pub if_given : List ℕ → ℕ → ℕ → Option Data → Tried (Option ℕ)
+if_given key least most None = Ok None
+if_given key least most (Some d) = do
+  n ← at_key key (within least most d)
+  Ok (Some n)
+
+unfoldable pub given : Members → List ℕ → ℕ → ℕ → Tried (Option ℕ)
+given t key least most = if_given key least most (get_member key t)
+
 -- the table at a key
 unfoldable pub table_at : Members → List ℕ → Option Members
 table_at t key = option_and_then as_table (get_member key t)

@@ -2,6 +2,7 @@ pub use Rattle.toml.specs.Data
 pub use Rattle.toml.specs.View
 pub use Rattle.toml.specs.Parse
 pub use Rattle.esx_types.specs.Ranges
+pub use Rattle.esx_types.specs.Versions
 pub use Rattle.esx_reading.specs.Fields
 pub mod Lines
 pub mod Plans

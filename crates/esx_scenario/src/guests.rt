@@ -2,24 +2,23 @@
 
 ghost use Rattle.std.specs.Prelude.{◌≡◌, ◌≤◌, ◌++◌, [], length, string_bytes, option_map, IfOk, IfSome, false};
 ghost use Rattle.std.specs.List.{All};
-ghost use Rattle.esx_types.specs.Ranges.{IsGood};
+ghost use Rattle.esx_types.specs.Ranges.{IsGood, IsTax};
 ghost use Rattle.esx_types.specs.declared.config.TheConstants.{VM_NUMBERS};
 ghost use Rattle.toml.specs.View.{view, table_view, items_view};
 ghost use Rattle.esx_scenario.specs.Lines.{IsWithin};
 ghost use Rattle.esx_scenario.specs.Keys.{Gives, Names, Tries};
 ghost use Rattle.esx_scenario.specs.Plans.{AreDistinct, IsGuest, has_number};
-ghost use Rattle.esx_scenario.specs.Guests.{are_tables, guest_at, guests_at, guests_from, lines_from, number_at, spec_in, trace_in, vm_path};
+ghost use Rattle.esx_scenario.specs.Guests.{are_tables, guest_at, guests_at, guests_from, lines_from, number_at, spec_in, tau_in, trace_in, vm_path};
 
-use crate::keys::{bad_key, member, required_number};
+use crate::keys::{bad_key, given_number, member, required_number};
 use crate::line::line_of_text;
 use crate::plan::{Guest, TraceLine};
 use esx_reading::TextFault;
-use esx_types::{Config, MAX_OVERHEAD, MAX_PAGES, MAX_SHARES, Rows, VM_NUMBERS, VmId, VmSpec};
+use esx_types::{
+    Config, MAX_OVERHEAD, MAX_PAGES, MAX_SHARES, MAX_TAU, Rows, Version, VmId, VmSpec,
+};
 use std::alloc::{AllocError, Global};
 use toml::{Table, Value};
-
-/// The most virtual machines of a scenario.
-const MOST_GUESTS: usize = VM_NUMBERS;
 
 /// The most lines of a trace.
 pub const MOST_LINES: usize = 65536;
@@ -32,20 +31,35 @@ fn has_guest(guests: &[Guest], number: u8) -> bool
 }
 
 /// The number of a machine that stands behind others.
-fn number_of_guest(earlier: &[Guest], table: &Table) -> Result<VmId, &'static str>
-    ensures exact { Tries (number_at earlier.now (table_view table.now)) result }
+fn number_of_guest(version: Version, earlier: &[Guest], table: &Table) -> Result<VmId, &'static str>
+    ensures exact { Tries (number_at version earlier.now (table_view table.now)) result }
     ensures own { IfOk result (λ vm. has_number earlier.now vm ≡ false) }
 {
-    let number = required_number(table, "id", 0, VM_NUMBERS as u64 - 1)? as u8;
+    let number = required_number(table, "id", 0, version.vm_numbers() as u64 - 1)? as u8;
     if has_guest(earlier, number) {
         return Err("id");
     }
-    VmId::new(number).ok_or("id")
+    Ok(VmId::new(number))
+}
+
+/// The tax of its own, which a machine may have in some versions.
+fn tau_of(version: Version, table: &Table) -> Result<Option<u32>, &'static str>
+    ensures exact { Tries (tau_in version (table_view table.now)) result }
+    ensures good { IfOk result IsTax }
+{
+    if !version.has_own_taxes() {
+        return Ok(None);
+    }
+    match given_number(table, "tau", 0, MAX_TAU as u64) {
+        Ok(Some(tau)) => Ok(Some(tau as u32)),
+        Ok(None) => Ok(None),
+        Err(key) => Err(key),
+    }
 }
 
 /// What a machine asks for.
-fn spec_of(table: &Table) -> Result<VmSpec, &'static str>
-    ensures exact { Tries (spec_in (table_view table.now)) result }
+fn spec_of(version: Version, table: &Table) -> Result<VmSpec, &'static str>
+    ensures exact { Tries (spec_in version (table_view table.now)) result }
     ensures good { IfOk result IsGood }
 {
     let min = required_number(table, "min", 1, MAX_PAGES as u64)?;
@@ -53,12 +67,14 @@ fn spec_of(table: &Table) -> Result<VmSpec, &'static str>
     let overhead = required_number(table, "overhead", 1, MAX_OVERHEAD as u64)?;
     let shares = required_number(table, "shares", 1, MAX_SHARES as u64)?;
     let balloon = required_number(table, "balloon", 0, max - min)?;
+    let tau = tau_of(version, table)?;
     Ok(VmSpec {
         min: min as u32,
         max: max as u32,
         overhead: overhead as u32,
         shares: shares as u32,
         balloon_max: balloon as u32,
+        tau,
     })
 }
 
@@ -130,18 +146,19 @@ fn bad_vm_key(alloc: Global, place: usize, key: &str) -> TextFault
 /// The machine of a table that stands behind others.
 fn guest_of(
     alloc: Global,
+    version: Version,
     site: &Config,
     earlier: &[Guest],
     table: &Table,
 ) -> Result<Guest, TextFault>
-    ensures exact { Gives (guest_at site.now earlier.now (table_view table.now)) result }
+    ensures exact { Gives (guest_at version site.now earlier.now (table_view table.now)) result }
     ensures good { IfOk result (λ g. IsGuest site.now g × (has_number earlier.now g.vm ≡ false)) }
 {
-    let vm = match number_of_guest(earlier, table) {
+    let vm = match number_of_guest(version, earlier, table) {
         Ok(vm) => vm,
         Err(key) => return Err(bad_vm_key(alloc, earlier.len(), key)),
     };
-    let spec = match spec_of(table) {
+    let spec = match spec_of(version, table) {
         Ok(spec) => spec,
         Err(key) => return Err(bad_vm_key(alloc, earlier.len(), key)),
     };
@@ -155,10 +172,11 @@ fn guest_of(
 /// The machines of some tables.
 fn guests_of_tables(
     alloc: Global,
+    version: Version,
     site: &Config,
     values: &[Value],
 ) -> Result<Rows<Guest>, TextFault>
-    ensures exact { Gives (guests_from site.now [] (items_view values.now)) result }
+    ensures exact { Gives (guests_from version site.now [] (items_view values.now)) result }
     ensures good { IfOk result (λ gs. All (IsGuest site.now) gs × AreDistinct gs × (length gs ≤ length values.now)) }
 {
     let mut guests = Rows::new(alloc);
@@ -166,7 +184,7 @@ fn guests_of_tables(
         let Some(table) = value.as_table() else {
             return Err(bad_key(alloc, "vm", ""));
         };
-        let guest = guest_of(alloc, site, guests.as_slice(), table)?;
+        let guest = guest_of(alloc, version, site, guests.as_slice(), table)?;
         if guests.push(guest).is_err() {
             return Err(TextFault::OutOfMemory);
         }
@@ -189,10 +207,11 @@ fn all_tables(values: &[Value]) -> bool
 /// The machines of the value at `vm`.
 pub fn guests_of(
     alloc: Global,
+    version: Version,
     site: &Config,
     value: Option<&Value>,
 ) -> Result<Rows<Guest>, TextFault>
-    ensures exact { Gives (guests_at site.now (option_map (λ v. view v.now) value.entry)) result }
+    ensures exact { Gives (guests_at version site.now (option_map (λ v. view v.now) value.entry)) result }
     ensures good { IfOk result (λ gs. All (IsGuest site.now) gs × AreDistinct gs × (length gs ≤ VM_NUMBERS)) }
 {
     let Some(value) = value else {
@@ -201,8 +220,8 @@ pub fn guests_of(
     let Some(values) = value.as_array() else {
         return Err(bad_key(alloc, "vm", ""));
     };
-    if values.len() > MOST_GUESTS || !all_tables(values.as_slice()) {
+    if values.len() > version.vm_numbers() || !all_tables(values.as_slice()) {
         return Err(bad_key(alloc, "vm", ""));
     }
-    guests_of_tables(alloc, site, values.as_slice())
+    guests_of_tables(alloc, version, site, values.as_slice())
 }

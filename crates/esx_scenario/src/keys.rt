@@ -3,7 +3,7 @@
 ghost use Rattle.std.specs.Prelude.{◌≡◌, ◌≤◌, ◌++◌, IfOk, IfSome, option_map};
 ghost use Rattle.toml.specs.Data.{get_member, as_table};
 ghost use Rattle.toml.specs.View.{view, table_view};
-ghost use Rattle.esx_scenario.specs.Keys.{integer_within, within, required, optional, table_at, Tries, Names};
+ghost use Rattle.esx_scenario.specs.Keys.{integer_within, within, required, optional, given, table_at, Tries, Names};
 
 use esx_reading::TextFault;
 use std::alloc::Global;
@@ -82,6 +82,25 @@ pub fn optional_number(
             }
         }
     }
+}
+
+/// The integer of a key that may be left out, if it is there.
+pub fn given_number(
+    table: &Table,
+    key: &'static str,
+    least: u64,
+    most: u64,
+) -> Result<Option<u64>, &'static str>
+    ensures exact { Tries (given (table_view table.now) key.now least most) result }
+    ensures range { IfOk result (λ found. IfSome found (λ n. (least ≤ n) × (n ≤ most))) }
+{
+    let Some(value) = member(table, key) else {
+        return Ok(None);
+    };
+    let Some(number) = number_within(value, least, most) else {
+        return Err(key);
+    };
+    Ok(Some(number))
 }
 
 /// The fault of a key of the table that stands under a path.

@@ -1,12 +1,12 @@
 //! The scenario of a text.
 
-ghost use Rattle.std.specs.Prelude.{Ok, IfOk, IfErr, codes, option_map};
+ghost use Rattle.std.specs.Prelude.{IfOk, IfErr, option_map};
 ghost use Rattle.esx_types.specs.Ranges.{IsConfig};
 ghost use Rattle.toml.specs.View.{view, table_view};
-ghost use Rattle.esx_scenario.specs.Keys.{Gives, required};
+ghost use Rattle.esx_scenario.specs.Keys.{Gives};
 ghost use Rattle.esx_scenario.specs.Plans.{IsSettings};
 ghost use Rattle.esx_scenario.specs.Sites.{site_at, settings_at};
-ghost use Rattle.esx_scenario.specs.Scenarios.{IsRefused, IsScenario, scenario_in};
+ghost use Rattle.esx_scenario.specs.Scenarios.{IsRefused, IsScenario, scenario_in, version_in};
 
 use crate::guests::guests_of;
 use crate::keys::{bad_key, member, required_number, table_of};
@@ -14,7 +14,7 @@ use crate::plan::{Scenario, Settings};
 use crate::site::{settings_of, site_of};
 use crate::strange::check_keys;
 use esx_reading::TextFault;
-use esx_types::Config;
+use esx_types::{Config, Version};
 use std::alloc::Global;
 use toml::{Table, Value};
 
@@ -57,12 +57,13 @@ fn settings_of_value(alloc: Global, run: Option<&Value>) -> Result<Settings, Tex
     }
 }
 
-/// The version of a table, which is 1.
-fn version_of(alloc: Global, table: &Table) -> Result<u64, TextFault>
-    ensures { Gives (required (table_view table.now) (codes "version") 1 1) result }
+/// The version of a table.
+fn version_of(alloc: Global, table: &Table) -> Result<Version, TextFault>
+    ensures { Gives (version_in (table_view table.now)) result }
 {
-    match required_number(table, "version", 1, 1) {
-        Ok(version) => Ok(version),
+    match required_number(table, "version", 1, 2) {
+        Ok(1) => Ok(Version::One),
+        Ok(_) => Ok(Version::Two),
         Err(key) => Err(bad_key(alloc, "", key)),
     }
 }
@@ -71,11 +72,11 @@ fn version_of(alloc: Global, table: &Table) -> Result<u64, TextFault>
 fn scenario_of(alloc: Global, table: &Table) -> Result<Scenario, TextFault>
     ensures { Gives (scenario_in (table_view table.now)) result }
 {
-    version_of(alloc, table)?;
+    let version = version_of(alloc, table)?;
     let config = site_of_table(alloc, table_of(table, "machine"))?;
     let settings = settings_of_value(alloc, member(table, "run"))?;
-    let guests = guests_of(alloc, &config, member(table, "vm"))?;
-    check_keys(alloc, table)?;
+    let guests = guests_of(alloc, version, &config, member(table, "vm"))?;
+    check_keys(alloc, version, table)?;
     Ok(Scenario::new(config, settings, guests))
 }
 
@@ -83,7 +84,7 @@ fn scenario_of(alloc: Global, table: &Table) -> Result<Scenario, TextFault>
 ///
 /// `NotToml` comes where the text is no TOML. Otherwise `BadKey` names the first key, in the order of the
 /// documentation, that is missing, of another kind or out of range; or, where all are good, the least path of
-/// a key that no scenario has.
+/// a key that no scenario of its version has.
 pub fn parse_scenario(alloc: Global, text: &str) -> Result<Scenario, TextFault>
     ensures ok { IfOk result (IsScenario text.now) }
     ensures refused { IfErr result (IsRefused text.now) }

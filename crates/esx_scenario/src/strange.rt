@@ -1,4 +1,4 @@
-//! Keys that no scenario has.
+//! Keys that no scenario of a version has.
 
 ghost use Rattle.std.specs.Prelude.{◌≡◌, Some, option_map, string_bytes, fold, IfOk};
 ghost use Rattle.toml.specs.View.{table_view, items_view};
@@ -8,6 +8,7 @@ ghost use Rattle.esx_scenario.specs.Strange.{least, lesser, none_strange, is_kno
 use crate::guests::path_of_guest;
 use crate::keys::{member, table_of};
 use esx_reading::TextFault;
+use esx_types::Version;
 use std::alloc::{AllocError, Global};
 use toml::{Table, Value};
 
@@ -21,8 +22,8 @@ pub enum Place {
 }
 
 /// Whether a table may have the key.
-fn knows(place: Place, key: &str) -> bool
-    ensures { result ≡ is_known place key.now }
+fn knows(version: Version, place: Place, key: &str) -> bool
+    ensures { result ≡ is_known version place key.now }
 {
     match place {
         Place::Top => matches!(key, "version" | "machine" | "run" | "vm"),
@@ -31,10 +32,12 @@ fn knows(place: Place, key: &str) -> bool
             "frames" | "page" | "slots" | "tau" | "high" | "soft" | "hard" | "low" | "nodes"
         ),
         Place::Run => matches!(key, "seed" | "turns" | "sample" | "length"),
-        Place::Vm => matches!(
-            key,
-            "id" | "min" | "max" | "overhead" | "shares" | "balloon" | "trace"
-        ),
+        Place::Vm => {
+            matches!(
+                key,
+                "id" | "min" | "max" | "overhead" | "shares" | "balloon" | "trace"
+            ) || version.has_own_taxes() && key == "tau"
+        }
     }
 }
 
@@ -57,17 +60,18 @@ fn lesser_path(least: Option<String>, path: String) -> Option<String>
 /// The least of a path and those of the strange keys of a table that stands under another.
 fn least_in(
     alloc: Global,
+    version: Version,
     least: Option<String>,
     place: Place,
     prefix: &str,
     table: &Table,
 ) -> Result<Option<String>, AllocError>
     ensures { IfOk result (λ l. option_map string_bytes l
-        ≡ fold lesser (option_map string_bytes least) (strange_in place prefix.now (table_view table.now))) }
+        ≡ fold lesser (option_map string_bytes least) (strange_in version place prefix.now (table_view table.now))) }
 {
     let mut least = least;
     'members: for (key, _) in table {
-        if !knows(place, key.as_str()) {
+        if !knows(version, place, key.as_str()) {
             let path = format!(in alloc; "{prefix}{key}")?;
             least = lesser_path(least, path);
         }
@@ -78,16 +82,17 @@ fn least_in(
 /// The same where the table may be missing.
 fn least_at(
     alloc: Global,
+    version: Version,
     least: Option<String>,
     place: Place,
     prefix: &str,
     table: Option<&Table>,
 ) -> Result<Option<String>, AllocError>
     ensures { IfOk result (λ l. option_map string_bytes l
-        ≡ fold lesser (option_map string_bytes least) (strange_at place prefix.now (option_map (λ t. table_view t.now) table.entry))) }
+        ≡ fold lesser (option_map string_bytes least) (strange_at version place prefix.now (option_map (λ t. table_view t.now) table.entry))) }
 {
     match table {
-        Some(table) => least_in(alloc, least, place, prefix, table),
+        Some(table) => least_in(alloc, version, least, place, prefix, table),
         None => Ok(least),
     }
 }
@@ -95,45 +100,50 @@ fn least_at(
 /// The same for the tables of the machines.
 fn least_of_guests(
     alloc: Global,
+    version: Version,
     least: Option<String>,
     values: &[Value],
 ) -> Result<Option<String>, AllocError>
     ensures { IfOk result (λ l. option_map string_bytes l
-        ≡ fold lesser (option_map string_bytes least) (strange_from 0 (items_view values.now))) }
+        ≡ fold lesser (option_map string_bytes least) (strange_from version 0 (items_view values.now))) }
 {
     let mut least = least;
     for (place, value) in values.iter().enumerate() {
         if let Some(table) = value.as_table() {
             let prefix = path_of_guest(alloc, place)?;
-            least = least_in(alloc, least, Place::Vm, prefix.as_str(), table)?;
+            least = least_in(alloc, version, least, Place::Vm, prefix.as_str(), table)?;
         }
     }
     Ok(least)
 }
 
-/// The least path of a key that no scenario has.
-fn least_strange(alloc: Global, table: &Table) -> Result<Option<String>, AllocError>
-    ensures { IfOk result (λ l. option_map string_bytes l ≡ least (strange (table_view table.now))) }
+/// The least path of a key that no scenario of the version has.
+fn least_strange(
+    alloc: Global,
+    version: Version,
+    table: &Table,
+) -> Result<Option<String>, AllocError>
+    ensures { IfOk result (λ l. option_map string_bytes l ≡ least (strange version (table_view table.now))) }
 {
-    let least = least_in(alloc, None, Place::Top, "", table)?;
+    let least = least_in(alloc, version, None, Place::Top, "", table)?;
     let machine = table_of(table, "machine");
-    let least = least_at(alloc, least, Place::Machine, "machine.", machine)?;
+    let least = least_at(alloc, version, least, Place::Machine, "machine.", machine)?;
     let run = table_of(table, "run");
-    let least = least_at(alloc, least, Place::Run, "run.", run)?;
+    let least = least_at(alloc, version, least, Place::Run, "run.", run)?;
     let Some(value) = member(table, "vm") else {
         return Ok(least);
     };
     match value.as_array() {
-        Some(values) => least_of_guests(alloc, least, values.as_slice()),
+        Some(values) => least_of_guests(alloc, version, least, values.as_slice()),
         None => Ok(least),
     }
 }
 
 /// Tells whether all keys are known; the least path is bad where one is not.
-pub fn check_keys(alloc: Global, table: &Table) -> Result<(), TextFault>
-    ensures { Gives (none_strange (least (strange (table_view table.now)))) result }
+pub fn check_keys(alloc: Global, version: Version, table: &Table) -> Result<(), TextFault>
+    ensures { Gives (none_strange (least (strange version (table_view table.now)))) result }
 {
-    match least_strange(alloc, table) {
+    match least_strange(alloc, version, table) {
         Ok(None) => Ok(()),
         Ok(Some(path)) => Err(TextFault::BadKey(path)),
         Err(_) => Err(TextFault::OutOfMemory),

@@ -1,6 +1,6 @@
 -- Neither a line feed nor a carriage return stands in the lines of a session.
 use Rattle.std.proofs.Common.{◌≡◌, ◌<◌, ◌≤◌, ◌+◌, suc, zero, ◌^◌, ◌/◌, ◌%◌, ℕ, List, Bool, [], ◌∷◌, ◌++◌, length, get_or, arith, refl, sym, ap, ◌∙◌, true, false, decimal, nat_le, nat_lt, cond}
-use Rattle.std.specs.Prelude.{not, ◌&&◌, map}
+use Rattle.std.specs.Prelude.{not, ◌&&◌, map, Option, None, Some}
 use Rattle.std.specs.List.{AllByRecursion, list_all}
 use Rattle.std.specs.Fmt.{digits, digits_onto, digit_glyph}
 use Rattle.std.proofs.Math.Dec.{eqb}
@@ -16,13 +16,14 @@ use Rattle.esx_events.specs.declared.name.TheConstants.{MAX_NAME}
 use Rattle.esx_reading.specs.Fields.{joined}
 use Rattle.esx_words.specs.declared.verbs.Verb.{Verb}
 use Rattle.esx_words.specs.declared.verbs.Verb.TheVariants as verbs
-use Rattle.esx_words.specs.Kinds.{Kind, Kinds, Value, Values, value_word, value_words, IsValue, AreValues}
+use Rattle.esx_words.specs.Kinds.{Kind, Kinds, Value, Values, value_word, value_words, IsValue, AreValues, perhaps_number}
 use Rattle.esx_words.specs.Kinds.Kind.{Machine, Number, Word, Hex, Name}
-use Rattle.esx_words.specs.Kinds.Kinds.{End, Then, Words}
+use Rattle.esx_words.specs.Kinds.Kinds.{End, Then, PerhapsNumber, Words}
 use Rattle.esx_words.specs.Verbs.{verb_word}
 use Rattle.esx_words.proofs.VerbLemmas.{verb_bytes}
 use Rattle.esx_words.specs.Commands.{Form, verb_form, verb, operands, Operands, operand_words, AreOperands, spelling, IsInRange, event_verb, event_kinds, event_values, event_words, IsEventInRange, list_words, with_semicolon}
 use Rattle.esx_words.specs.Commands.Form.{Plain, Tried}
+use Rattle.esx_types.specs.declared.version.Version.{Version}
 use Rattle.esx_session.specs.Reading.{HasNoFeed, SpellsCall}
 
 -- a byte within a line
@@ -115,9 +116,14 @@ words_stay : (ws : List ℕ) → AllByRecursion (λ w. w < 2 ^ 64) ws → AllByR
 words_stay [] r = tt
 words_stay (w ∷ ws) r = (decimal_stays w, words_stay ws r.1)
 
+perhaps_stays : (n : Option ℕ) → AllByRecursion AllStay (perhaps_number n)
+perhaps_stays None = tt
+perhaps_stays (Some n) = (decimal_stays n, tt)
+
 values_stay : (kinds : Kinds) (x : Values kinds) → AreValues kinds x → AllByRecursion AllStay (value_words kinds x)
 values_stay End tt r = tt
 values_stay (Then kind kinds) (x, xs) r = (value_stays kind x r.0, values_stay kinds xs r.1)
+values_stay PerhapsNumber n r = perhaps_stays n
 values_stay Words ws r = words_stay ws r.1
 
 letter_stays : (b : ℕ) → is_lower b ≡ true → stays b ≡ true
@@ -155,9 +161,11 @@ operands_stay Tried events r = list_stay events r.1
 pub spelling_stays : (call : Call) → IsInRange call → AllStay (spelling call)
 spelling_stays call r = joined_stay (verb_word (verb call) ∷ operand_words (verb_form (verb call)) (operands call)) (verb_stays (verb call), operands_stay (verb_form (verb call)) (operands call) r)
 
-pub call_stays : (line : List ℕ) (caller : ℕ) (call : Call) → SpellsCall line caller call → AllStay line
-call_stays line caller call is =
-    rw is.spelled (both_stay (decimal caller) (32 ∷ spelling call) (decimal_stays caller) (refl, spelling_stays call is.range))
+pub call_line_stays : (caller : ℕ) (call : Call) → IsInRange call → AllStay (decimal caller ++ 32 ∷ spelling call)
+call_line_stays caller call r = both_stay (decimal caller) (32 ∷ spelling call) (decimal_stays caller) (refl, spelling_stays call r)
+
+pub call_stays : (version : Version) (line : List ℕ) (caller : ℕ) (call : Call) → SpellsCall version line caller call → AllStay line
+call_stays version line caller call is = rw is.spelled (call_line_stays caller call is.range)
 
 -- a number begins with a digit
 pub first_digit : (n : ℕ) → n < 2 ^ 64 → (d : ℕ) × (ds : List ℕ) × (decimal n ≡ d ∷ ds) × (48 ≤ d) × (d ≤ 57)

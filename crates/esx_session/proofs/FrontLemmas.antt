@@ -8,11 +8,12 @@ use Rattle.std.proofs.lemmas.List.Elements.{recursion_from_All}
 use Rattle.std.proofs.lemmas.Str.Ascii.{All-from_ascii}
 use Rattle.esx_words.specs.Commands.{spelling}
 use Rattle.esx_session.specs.declared.session.Entry.{Entry}
-use Rattle.esx_session.specs.Sessions.{quoted, entry_text, end_text, IsEnded, IsEntry}
+use Rattle.esx_types.specs.declared.version.Version.{Version}
+use Rattle.esx_session.specs.Sessions.{quoted, entry_text, end_text, IsEnded, IsEntry, IsEntryOf}
 use Rattle.esx_session.specs.Reading.{HasNoFeed, SpellsCall}
 use Rattle.esx_session.proofs.QuoteLemmas.{Closes, AreAscii, NoQuote, same_reply}
 use Rattle.esx_session.proofs.CallLemmas.{small_caller, one_spelled}
-use Rattle.esx_session.proofs.FeedLemmas.{no_feed, call_stays, first_digit}
+use Rattle.esx_session.proofs.FeedLemmas.{no_feed, call_line_stays, first_digit}
 
 -- lines with no feed, each ended by one, begin one text only if they are the same
 pub same_line : (x y a b : List ℕ) → HasNoFeed x → HasNoFeed y → x ++ 10 ∷ a ≡ y ++ 10 ∷ b → (x ≡ y) × (a ≡ b)
@@ -41,11 +42,8 @@ are_ascii text h = recursion_from_All (λ b. b < 128) text (All-from_ascii text 
 abbrev pub call_line : Entry → List ℕ
 call_line e = decimal e.caller ++ 32 ∷ spelling e.call
 
-pub spells_entry : (e : Entry) → IsEntry e → SpellsCall (call_line e) e.caller e.call
-spells_entry e is = record { known = is.caller; range = is.call; spelled = refl }
-
 pub call_line_feed : (e : Entry) → IsEntry e → HasNoFeed (call_line e)
-call_line_feed e is = no_feed (call_line e) (call_stays (call_line e) e.caller e.call (spells_entry e is))
+call_line_feed e is = no_feed (call_line e) (call_line_stays e.caller e.call is.call)
 
 pub call_text_is : (e : Entry) (more : List ℕ) → entry_text e ++ more ≡ call_line e ++ 10 ∷ (quoted e.reply ++ more)
 call_text_is e more = simp append_assoc
@@ -83,17 +81,6 @@ no_end_call e more count rest is q =
     let same : first.0 ∷ first.1 ≡ end_text count ++ rest = sym first.2 ∙ q in
     let byte : first.0 ≡ 101 = cc in omega (arith, byte, first.3, first.4)
 
--- two calls that begin one text, with their replies, are the same
-pub same_entry : (x y : Entry) (r s : List ℕ) → IsEntry x → IsEntry y → NoQuote r → NoQuote s → entry_text x ++ r ≡ entry_text y ++ s → (x ≡ y) × (r ≡ s)
-same_entry x y r s p q m n e =
-    let lines = same_line (call_line x) (call_line y) (quoted x.reply ++ r) (quoted y.reply ++ s) (call_line_feed x p) (call_line_feed y q) (sym (call_text_is x r) ∙ e ∙ call_text_is y s) in
-    let calls = one_spelled (call_line x) x.caller y.caller x.call y.call (spells_entry x p) (rw lines.0 (spells_entry y q)) in
-    let replies = same_reply x.reply y.reply r s (closes_ended x.reply p.reply) (closes_ended y.reply q.reply) (are_ascii x.reply p.ascii) (are_ascii y.reply q.ascii) m n lines.1 in
-    let caller = calls.0 in
-    let call = calls.1 in
-    let reply = replies.0 in
-    (λ i. record { caller = caller i; call = call i; reply = reply i }, replies.1)
-
 -- what stands behind calls of a session: no line of a reply, where there is a call
 abbrev pub Settled : List Entry → List ℕ → Type 0
 Settled [] text = Unit {0}
@@ -102,25 +89,40 @@ Settled (e ∷ entries) text = NoQuote text
 abbrev pub body : List Entry → List ℕ
 body = flat_map entry_text
 
-no_quote_body : (entries : List Entry) (text : List ℕ) → AllByRecursion IsEntry entries → NoQuote text → NoQuote (body entries ++ text)
-no_quote_body [] text r n = n
-no_quote_body (e ∷ entries) text r n = rw (append_assoc (entry_text e) (body entries) text) (no_quote_call e (body entries ++ text) r.0)
-
 pub settled : (entries : List Entry) (text : List ℕ) → NoQuote text → Settled entries text
 settled [] text n = tt
 settled (e ∷ entries) text n = n
 
--- A session whose calls begin with some, and what stands behind them.
-pub same_front : (entries all : List Entry) (count : ℕ) (text : List ℕ) → AllByRecursion IsEntry entries → AllByRecursion IsEntry all → Settled entries text
-    → body all ++ end_text count ≡ body entries ++ text
-    → (others : List Entry) × (all ≡ entries ++ others) × AllByRecursion IsEntry others × (body others ++ end_text count ≡ text)
-same_front [] all count text p q n e = (all, refl, q, e)
-same_front (x ∷ entries) [] count text p q n e =
-    absurd (no_end_call x (body entries ++ text) count [] p.0 (sym (append_assoc (entry_text x) (body entries) text) ∙ sym e ∙ sym (append-nil (end_text count))))
-same_front (x ∷ entries) (y ∷ all) count text p q n e =
-    let whole : entry_text y ++ (body all ++ end_text count) ≡ entry_text x ++ (body entries ++ text) =
-    sym (append_assoc (entry_text y) (body all) (end_text count)) ∙ e ∙ append_assoc (entry_text x) (body entries) text in
-    let first = same_entry y x (body all ++ end_text count) (body entries ++ text) q.0 p.0
-    (no_quote_body all (end_text count) q.1 (rw (sym (append-nil (end_text count))) (no_quote_end count []))) (no_quote_body entries text p.1 n) whole in
-    let more = same_front entries all count text p.1 q.1 (settled entries text n) first.1 in
-    (more.0, ap (λ t. t ∷ all) first.0 ∙ ap (λ t. x ∷ t) more.1, more.2, more.3)
+module _ (version : Version) where
+  pub spells_entry : (e : Entry) → IsEntryOf version e → SpellsCall version (call_line e) e.caller e.call
+  spells_entry e is = record { known = is.known; range = is.entry.call; has = is.has; spelled = refl }
+
+  -- two calls that begin one text, with their replies, are the same
+  pub same_entry : (x y : Entry) (r s : List ℕ) → IsEntryOf version x → IsEntryOf version y → NoQuote r → NoQuote s → entry_text x ++ r ≡ entry_text y ++ s → (x ≡ y) × (r ≡ s)
+  same_entry x y r s p q m n e =
+      let lines = same_line (call_line x) (call_line y) (quoted x.reply ++ r) (quoted y.reply ++ s) (call_line_feed x p.entry) (call_line_feed y q.entry) (sym (call_text_is x r) ∙ e ∙ call_text_is y s) in
+      let calls = one_spelled version (call_line x) x.caller y.caller x.call y.call (spells_entry x p) (rw lines.0 (spells_entry y q)) in
+      let replies = same_reply x.reply y.reply r s (closes_ended x.reply p.entry.reply) (closes_ended y.reply q.entry.reply) (are_ascii x.reply p.entry.ascii) (are_ascii y.reply q.entry.ascii) m n lines.1 in
+      let caller = calls.0 in
+      let call = calls.1 in
+      let reply = replies.0 in
+      (λ i. record { caller = caller i; call = call i; reply = reply i }, replies.1)
+
+  no_quote_body : (entries : List Entry) (text : List ℕ) → AllByRecursion (IsEntryOf version) entries → NoQuote text → NoQuote (body entries ++ text)
+  no_quote_body [] text r n = n
+  no_quote_body (e ∷ entries) text r n = rw (append_assoc (entry_text e) (body entries) text) (no_quote_call e (body entries ++ text) r.0.entry)
+
+  -- A session whose calls begin with some, and what stands behind them.
+  pub same_front : (entries all : List Entry) (count : ℕ) (text : List ℕ) → AllByRecursion (IsEntryOf version) entries → AllByRecursion (IsEntryOf version) all → Settled entries text
+      → body all ++ end_text count ≡ body entries ++ text
+      → (others : List Entry) × (all ≡ entries ++ others) × AllByRecursion (IsEntryOf version) others × (body others ++ end_text count ≡ text)
+  same_front [] all count text p q n e = (all, refl, q, e)
+  same_front (x ∷ entries) [] count text p q n e =
+      absurd (no_end_call x (body entries ++ text) count [] p.0.entry (sym (append_assoc (entry_text x) (body entries) text) ∙ sym e ∙ sym (append-nil (end_text count))))
+  same_front (x ∷ entries) (y ∷ all) count text p q n e =
+      let whole : entry_text y ++ (body all ++ end_text count) ≡ entry_text x ++ (body entries ++ text) =
+      sym (append_assoc (entry_text y) (body all) (end_text count)) ∙ e ∙ append_assoc (entry_text x) (body entries) text in
+      let first = same_entry y x (body all ++ end_text count) (body entries ++ text) q.0 p.0
+      (no_quote_body all (end_text count) q.1 (rw (sym (append-nil (end_text count))) (no_quote_end count []))) (no_quote_body entries text p.1 n) whole in
+      let more = same_front entries all count text p.1 q.1 (settled entries text n) first.1 in
+      (more.0, ap (λ t. t ∷ all) first.0 ∙ ap (λ t. x ∷ t) more.1, more.2, more.3)

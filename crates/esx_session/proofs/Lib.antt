@@ -12,5 +12,6 @@ pub mod EntryLemmas
 pub mod CallsLemmas
 pub mod StopLemmas
 pub mod MemoryLemmas
+pub mod LimitLemmas
 pub mod PrintedLemmas
 pub mod ScriptLemmas

@@ -5,8 +5,9 @@ use Rattle.std.specs.Str.{IsAscii}
 use Rattle.std.proofs.lemmas.List.Elements.{All-from_recursion}
 use Rattle.std.proofs.lemmas.Str.Ascii.{IsAscii-from_all}
 use Rattle.esx_types.specs.declared.config.Config.{Config}
+use Rattle.esx_types.specs.declared.version.Version.{Version}
 use Rattle.esx_session.specs.declared.session.Entry.{Entry}
-use Rattle.esx_session.specs.Sessions.{ended, entry_text, quoted, IsEnded, IsEntry}
+use Rattle.esx_session.specs.Sessions.{ended, entry_text, quoted, IsEnded, IsEntryOf}
 use Rattle.esx_session.specs.Reading.{Place, HasNoFeed, Quotes, BeginsReply, AreRead, NextTakesMemory, GoesPastOpening, Reader, Follows}
 use Rattle.esx_session.proofs.FrontLemmas.{are_ascii, call_line, call_line_feed, call_text_is, closes_ended, first_of_call, same_line, spells_entry}
 use Rattle.esx_session.proofs.PlaceLemmas.{lines_feed}
@@ -32,35 +33,37 @@ first_quoted (line ∷ taken) left (b ∷ reply) more some ascii feeds same =
     (first.0, record { ascii = IsAscii-from_all first.0 (All-from_recursion (λ x. x < 128) first.0 first.4); quoted = lines.0 })
 
 -- the first two of some lines that are a call with its reply
-first_takes_memory : (taken left : List (List ℕ)) (e : Entry) (more : List ℕ) → IsEntry e → AllByRecursion HasNoFeed (taken ++ left) → ended taken ≡ entry_text e ++ more
-    → NextTakesMemory (taken ++ left)
-first_takes_memory [] left e more is feeds same =
-    let first = first_of_call e more is in
+first_takes_memory : (version : Version) (taken left : List (List ℕ)) (e : Entry) (more : List ℕ) → IsEntryOf version e → AllByRecursion HasNoFeed (taken ++ left)
+    → ended taken ≡ entry_text e ++ more → NextTakesMemory version (taken ++ left)
+first_takes_memory version [] left e more is feeds same =
+    let first = first_of_call e more is.entry in
     let none : [] ≡ first.0 ∷ first.1 = same ∙ first.2 in absurd (cc)
-first_takes_memory (line ∷ taken) left e more is feeds same =
+first_takes_memory version (line ∷ taken) left e more is feeds same =
     let whole = sym (append_assoc line (10 ∷ []) (ended taken)) ∙ same ∙ call_text_is e more in
-    let lines = same_line line (call_line e) (ended taken) (quoted e.reply ++ more) feeds.0 (call_line_feed e is) whole in
-    inr ((e.caller, e.call, rw lines.0 (spells_entry e is)), first_quoted taken left e.reply more is.reply is.ascii feeds.1 lines.1)
+    let lines = same_line line (call_line e) (ended taken) (quoted e.reply ++ more) feeds.0 (call_line_feed e is.entry) whole in
+    inr ((e.caller, e.call, rw lines.0 (spells_entry version e is)), first_quoted taken left e.reply more is.entry.reply is.entry.ascii feeds.1 lines.1)
 
-third : (old now : Place) (done : List Entry) → AllByRecursion HasNoFeed old.left → AreRead old now done → NextTakesMemory now.left → NextTakesMemory old.left
-third old now [] feeds is takes = rw (no_lines old now is.taken is.text is.left is.passed).1 takes
-third old now (e ∷ done) feeds is takes = rw is.left (first_takes_memory is.taken now.left e _ is.range.0 (rw is.left at feeds) is.text)
+third : (version : Version) (old now : Place) (done : List Entry) → AllByRecursion HasNoFeed old.left → AreRead version old now done → NextTakesMemory version now.left
+    → NextTakesMemory version old.left
+third version old now [] feeds is takes = rw (no_lines old now is.taken is.text is.left is.passed).1 takes
+third version old now (e ∷ done) feeds is takes = rw is.left (first_takes_memory version is.taken now.left e _ is.range.0 (rw is.left at feeds) is.text)
 
-third_read : (old now : Place) (done : List Entry) (entry : Entry) → AllByRecursion HasNoFeed old.left → AreRead old now (done ++ entry ∷ []) → NextTakesMemory old.left
-third_read old now [] entry feeds is = rw is.left (first_takes_memory is.taken now.left entry _ is.range.0 (rw is.left at feeds) is.text)
-third_read old now (e ∷ done) entry feeds is = rw is.left (first_takes_memory is.taken now.left e _ is.range.0 (rw is.left at feeds) is.text)
+third_read : (version : Version) (old now : Place) (done : List Entry) (entry : Entry) → AllByRecursion HasNoFeed old.left → AreRead version old now (done ++ entry ∷ [])
+    → NextTakesMemory version old.left
+third_read version old now [] entry feeds is = rw is.left (first_takes_memory version is.taken now.left entry _ is.range.0 (rw is.left at feeds) is.text)
+third_read version old now (e ∷ done) entry feeds is = rw is.left (first_takes_memory version is.taken now.left e _ is.range.0 (rw is.left at feeds) is.text)
 
 -- no line behind the opening has a feed
 start_feeds : (text : List ℕ) (site : Config) (done : List Entry) (reader : Reader) (f : Follows text site done reader) → AllByRecursion HasNoFeed f.start.left
 start_feeds text site done reader f = (subst (λ told. AllByRecursion HasNoFeed told) f.opening (lines_feed text)).1.1
 
 -- behind some calls memory may be taken, so behind the opening too
-pub goes_past : (text : List ℕ) (site : Config) (done : List Entry) (reader : Reader) → Follows text site done reader → NextTakesMemory reader.at.left
+pub goes_past : (text : List ℕ) (site : Config) (done : List Entry) (reader : Reader) → Follows text site done reader → NextTakesMemory reader.version reader.at.left
     → GoesPastOpening text
 goes_past text site done reader f takes =
-    (site, f.start.left, f.range, f.opening, third f.start reader.at done (start_feeds text site done reader f) f.read takes)
+    (reader.version, site, f.start.left, f.range, f.opening, third reader.version f.start reader.at done (start_feeds text site done reader f) f.read takes)
 
 pub goes_past_read : (text : List ℕ) (site : Config) (done : List Entry) (entry : Entry) (reader : Reader) → Follows text site (done ++ entry ∷ []) reader
     → GoesPastOpening text
 goes_past_read text site done entry reader f =
-    (site, f.start.left, f.range, f.opening, third_read f.start reader.at done entry (start_feeds text site (done ++ entry ∷ []) reader f) f.read)
+    (reader.version, site, f.start.left, f.range, f.opening, third_read reader.version f.start reader.at done entry (start_feeds text site (done ++ entry ∷ []) reader f) f.read)

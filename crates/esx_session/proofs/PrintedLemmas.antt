@@ -6,15 +6,17 @@ use Rattle.std.proofs.Math.Dec.{eqb}
 use Rattle.std.proofs.lemmas.List.Elements.{All-from_recursion}
 use Rattle.std.proofs.lemmas.List.Splits.{slice_split_at, length-slice_split}
 use Rattle.esx_types.specs.declared.config.Config.{Config}
+use Rattle.esx_types.specs.declared.version.Version.TheVariants.{Two}
 use Rattle.esx_reading.proofs.FieldLemmas.{no_match}
 use Rattle.esx_session.specs.declared.session.Entry.{Entry}
-use Rattle.esx_session.specs.Sessions.{ended, quoted_from, quoted, entry_text, end_text, session_text, IsEntry, IsSession, HasNoReturn, Tells}
-use Rattle.esx_session.specs.Reading.{HasNoFeed, head_line, calls_text}
+use Rattle.esx_session.specs.Sessions.{ended, quoted_from, quoted, head_line, entry_text, end_text, session_text, IsEntry, IsSession, HasNoReturn, Tells}
+use Rattle.esx_session.specs.Reading.{HasNoFeed, calls_text}
 use Rattle.esx_session.proofs.QuoteLemmas.{Closes, tests_feed}
-use Rattle.esx_session.proofs.FeedLemmas.{AllStay, stays, known_stay, no_feed, no_return_ends, stay_from, call_stays}
+use Rattle.esx_session.proofs.FeedLemmas.{AllStay, stays, no_feed, no_return_ends, stay_from, call_line_stays}
 use Rattle.esx_session.proofs.PlaceLemmas.{parts_cons, strip_other}
-use Rattle.esx_session.proofs.FrontLemmas.{closes_ended, call_line, spells_entry, call_text_is, body}
-use Rattle.esx_session.proofs.SessionLemmas.{site_line, site_stays, session_lines}
+use Rattle.esx_session.proofs.FrontLemmas.{closes_ended, call_line, call_text_is, body}
+use Rattle.esx_session.proofs.SessionLemmas.{site_line, site_stays, head_stays, session_lines}
+use Rattle.esx_session.proofs.LimitLemmas.{entries_of_two}
 use Rattle.esx_session.proofs.CallsLemmas.{ended_both, end_line, end_stays}
 
 without : (text : List ℕ) → HasNoFeed text → AllByRecursion (λ b. eqb b 10 ≡ false) text
@@ -95,7 +97,7 @@ cut false (b ∷ text) ends none = elim (tests_feed b) [
 printed_entry : (e : Entry) → IsEntry e → HasNoReturn e → IsPrinted (entry_text e)
 printed_entry e is none = printed_as (entry_text e) (call_line e ++ 10 ∷ quoted e.reply)
     (sym (append-nil (entry_text e)) ∙ call_text_is e [] ∙ ap (λ t. call_line e ++ 10 ∷ t) (append-nil (quoted e.reply)))
-    (printed_line (call_line e) (quoted e.reply) (call_stays (call_line e) e.caller e.call (spells_entry e is)) (cut true e.reply (closes_ended e.reply is.reply) none))
+    (printed_line (call_line e) (quoted e.reply) (call_line_stays e.caller e.call is.call) (cut true e.reply (closes_ended e.reply is.reply) none))
 
 printed_body : (entries : List Entry) → AllByRecursion IsEntry entries → AllByRecursion HasNoReturn entries → IsPrinted (body entries)
 printed_body [] p q = printed_none
@@ -106,14 +108,16 @@ printed_calls entries p q = printed_both (body entries) (end_text (length entrie
     (printed_line (end_line (length entries)) [] (end_stays (length entries)) printed_none)
 
 printed_session : (site : Config) (entries : List Entry) → IsSession site entries → AllByRecursion HasNoReturn entries → IsPrinted (session_text site entries)
-printed_session site entries is none = printed_as (session_text site entries) (head_line ++ 10 ∷ (site_line site ++ 10 ∷ calls_text entries)) (session_lines site entries)
-    (printed_line head_line (site_line site ++ 10 ∷ calls_text entries) (known_stay head_line refl)
+printed_session site entries is none = printed_as (session_text site entries) (head_line Two ++ 10 ∷ (site_line site ++ 10 ∷ calls_text entries)) (session_lines Two site entries)
+    (printed_line (head_line Two) (site_line site ++ 10 ∷ calls_text entries) (head_stays Two)
     (printed_line (site_line site) (calls_text entries) (site_stays site) (printed_calls entries is.each none)))
 
 pub read_as_printed : (site : Config) (entries : List Entry) → IsSession site entries → AllByRecursion HasNoReturn entries → Tells (lines (session_text site entries)) site entries
 read_as_printed site entries is none =
     let printed = printed_session site entries is none in
     record {
-      range = is;
+      version = Two;
+      opened = is.opened;
+      each = entries_of_two entries is.each;
       same = ap (λ t. ended (lines t)) printed.same ∙ ap ended (lines_of_ended printed.told printed.stay) ∙ sym printed.same;
     }

@@ -3,6 +3,7 @@ use Rattle.std.proofs.Common.{◌≡◌, Bool, true, false, ℕ, List, [], ◌�
 use Rattle.std.proofs.lemmas.List.{length-map}
 use Rattle.std.specs.List.{flat_map}
 use Rattle.esx_types.specs.declared.config.Config.{Config}
+use Rattle.esx_types.specs.declared.version.Version.TheVariants.{Two}
 use Rattle.esx_events.specs.declared.call.Line.{Line}
 use Rattle.esx_replies.specs.Signs.{signed_from, behind}
 use Rattle.esx_session.specs.Sessions.{quoted, quoted_from, entry_text, head_text, site_text, end_text, session_text, logged}
@@ -21,18 +22,18 @@ lines_are : (log : List Line) → flat_map line_text log ≡ flat_map entry_text
 lines_are [] = refl
 lines_are (line ∷ later) = ap (λ v. line_text line ++ v) (lines_are later)
 
-pub session_is : (site : Config) (log : List Line) → (head_text ++ site_text site) ++ (flat_map line_text log ++ end_text (length log)) ≡ session_text site (map logged log)
+pub session_is : (site : Config) (log : List Line) → (head_text Two ++ site_text site) ++ (flat_map line_text log ++ end_text (length log)) ≡ session_text site (map logged log)
 session_is site log =
-    append_assoc head_text (site_text site) (flat_map line_text log ++ end_text (length log))
-    ∙ ap (λ v. head_text ++ (site_text site ++ (v ++ end_text (length log)))) (lines_are log)
-    ∙ ap (λ (n : ℕ). head_text ++ (site_text site ++ (flat_map entry_text (map logged log) ++ end_text n))) (sym (length-map log logged))
+    append_assoc (head_text Two) (site_text site) (flat_map line_text log ++ end_text (length log))
+    ∙ ap (λ v. head_text Two ++ (site_text site ++ (v ++ end_text (length log)))) (lines_are log)
+    ∙ ap (λ (n : ℕ). head_text Two ++ (site_text site ++ (flat_map entry_text (map logged log) ++ end_text n))) (sym (length-map log logged))
 
 -- the opening, piece by piece
 abbrev pub opening : Config → List ℕ
 opening site =
-    codes "esx session 1\nframes " ++ (decimal site.frames ++ (codes " page " ++ (decimal site.page ++ (codes " slots " ++ (decimal site.slots
+    codes "esx session 2\nframes " ++ (decimal site.frames ++ (codes " page " ++ (decimal site.page ++ (codes " slots " ++ (decimal site.slots
     ++ (codes " tau " ++ (decimal site.tau ++ (codes " levels " ++ (decimal site.high ++ (codes " " ++ (decimal site.soft ++ (codes " "
     ++ (decimal site.hard ++ (codes " " ++ (decimal site.low ++ (codes " nodes " ++ (decimal site.nodes ++ 10 ∷ [])))))))))))))))))
 
-pub opening_is : (site : Config) → opening site ≡ head_text ++ site_text site
+pub opening_is : (site : Config) → opening site ≡ head_text Two ++ site_text site
 opening_is site = simp append_assoc

@@ -1,7 +1,9 @@
 pub use Rattle.hex.specs.Hex
 pub use Rattle.esx_types.specs.Ranges
+pub use Rattle.esx_types.specs.Versions
 pub use Rattle.esx_events.specs.Names
 pub use Rattle.esx_events.specs.Lists
+pub use Rattle.esx_events.specs.Limits
 pub use Rattle.esx_reading.specs.Faults
 pub use Rattle.esx_reading.specs.Fields
 pub use Rattle.esx_reading.specs.Written

@@ -1,18 +1,20 @@
 -- What is read of a session, line by line.
-use Rattle.std.specs.Prelude.{ℕ, List, [], ◌∷◌, ◌++◌, ◌+◌, ◌≡◌, ◌<◌, ◌≤◌, ◌^◌, ◌⊎◌, codes, decimal, length, flat_map}
+use Rattle.std.specs.Prelude.{ℕ, IsTrue, List, [], ◌∷◌, ◌++◌, ◌+◌, ◌≡◌, ◌<◌, ◌≤◌, ◌^◌, ◌⊎◌, codes, decimal, length, flat_map}
 use Rattle.std.specs.List.{AllByRecursion}
 use Rattle.std.specs.Str.{IsAscii}
 use Rattle.std.specs.Str.Lines.{lines}
 use Rattle.esx_types.specs.Ranges.{IsConfig}
 use Rattle.esx_types.specs.declared.config.Config.{Config}
-use Rattle.esx_types.specs.declared.config.TheConstants.{CALLERS}
+use Rattle.esx_types.specs.declared.version.Version.{Version}
+use Rattle.esx_types.specs.Versions.{callers}
+use Rattle.esx_events.specs.Limits.{has_call}
 use Rattle.esx_events.specs.declared.call.Call.{Call}
 use Rattle.esx_reading.specs.Fields.{joined}
 use Rattle.esx_reading.specs.declared.fault.TextFault.{TextFault}
 use Rattle.esx_reading.specs.declared.fault.TextFault.TheVariants.{BadLine, OutOfMemory}
 use Rattle.esx_words.specs.Commands.{IsInRange, spelling, MayTakeMemory}
 use Rattle.esx_session.specs.declared.session.Entry.{Entry}
-use Rattle.esx_session.specs.Sessions.{ended, site_words, quoted, entry_text, end_text, IsEntry, IsEnded}
+use Rattle.esx_session.specs.Sessions.{ended, site_words, quoted, head_line, entry_text, end_text, IsEntryOf, IsEnded}
 
 -- where a reader of lines is: how many it has passed, and those that are left
 pub record Place : Type 0 where
@@ -44,17 +46,18 @@ pub record SpellsSite (line : List ℕ) (site : Config) : Type 0 where
   pub range : IsConfig site
   pub spelled : line ≡ joined (site_words site)
 
--- the line of a call
-pub record SpellsCall (line : List ℕ) (caller : ℕ) (call : Call) : Type 0 where
-  pub known : caller < CALLERS
+-- the line of a call in a version
+pub record SpellsCall (version : Version) (line : List ℕ) (caller : ℕ) (call : Call) : Type 0 where
+  pub known : caller < callers version
   pub range : IsInRange call
+  pub has : IsTrue (has_call version call)
   pub spelled : line ≡ decimal caller ++ 32 ∷ spelling call
 
--- the line of a caller and a command that may take memory
-pub record CallTakesMemory (line : List ℕ) : Type 0 where
+-- the line of a caller of a version and a command that may take memory, be its call one of the version or not
+pub record CallTakesMemory (version : Version) (line : List ℕ) : Type 0 where
   pub caller : ℕ
   pub command : List ℕ
-  pub known : caller < CALLERS
+  pub known : caller < callers version
   pub spelled : line ≡ decimal caller ++ 32 ∷ command
   pub takes : MayTakeMemory command
 
@@ -92,42 +95,43 @@ LacksReply OutOfMemory old = Unit {0}
 LacksReply _ old = ⊥
 
 -- the same behind the line of a call
-pub record TakesEntry (line : List ℕ) (old new : Place) (e : Entry) : Type 0 where
+pub record TakesEntry (version : Version) (line : List ℕ) (old new : Place) (e : Entry) : Type 0 where
   pub taken : List (List ℕ)
   pub left : old.left ≡ taken ++ new.left
   pub passed : new.passed ≡ old.passed + length taken
   pub text : ended (line ∷ taken) ≡ entry_text e
-  pub range : IsEntry e
+  pub range : IsEntryOf version e
   pub next : LeavesReply new.left
 
-abbrev pub SpellsNoCall : List ℕ → Type 0
-SpellsNoCall line = (caller : ℕ) (call : Call) → SpellsCall line caller call → ⊥
+abbrev pub SpellsNoCall : Version → List ℕ → Type 0
+SpellsNoCall version line = (caller : ℕ) (call : Call) → SpellsCall version line caller call → ⊥
 
 -- the line is that of no call; or it is, and no reply follows
-abbrev pub LacksEntry : TextFault → List ℕ → Place → Type 0
-LacksEntry (BadLine n) line old = ((n ≡ old.passed) × SpellsNoCall line)
-    ⊎ ((n ≡ old.passed + 1) × ((caller : ℕ) × (call : Call) × SpellsCall line caller call) × LeavesReply old.left)
-LacksEntry OutOfMemory line old = Unit {0}
-LacksEntry _ line old = ⊥
+abbrev pub LacksEntry : Version → TextFault → List ℕ → Place → Type 0
+LacksEntry version (BadLine n) line old = ((n ≡ old.passed) × SpellsNoCall version line)
+    ⊎ ((n ≡ old.passed + 1) × ((caller : ℕ) × (call : Call) × SpellsCall version line caller call) × LeavesReply old.left)
+LacksEntry version OutOfMemory line old = Unit {0}
+LacksEntry version _ line old = ⊥
 
 -- a call with its reply may take memory: its line may, or it is the line of a call and a line of its reply follows
-abbrev pub EntryTakesMemory : List ℕ → List (List ℕ) → Type 0
-EntryTakesMemory line left = CallTakesMemory line ⊎ (((caller : ℕ) × (call : Call) × SpellsCall line caller call) × BeginsReply left)
+abbrev pub EntryTakesMemory : Version → List ℕ → List (List ℕ) → Type 0
+EntryTakesMemory version line left =
+    CallTakesMemory version line ⊎ (((caller : ℕ) × (call : Call) × SpellsCall version line caller call) × BeginsReply left)
 
-abbrev pub NextTakesMemory : List (List ℕ) → Type 0
-NextTakesMemory [] = ⊥
-NextTakesMemory (line ∷ left) = EntryTakesMemory line left
+abbrev pub NextTakesMemory : Version → List (List ℕ) → Type 0
+NextTakesMemory version [] = ⊥
+NextTakesMemory version (line ∷ left) = EntryTakesMemory version line left
 
 -- the calls of a session, and its end
 abbrev pub calls_text : List Entry → List ℕ
 calls_text entries = flat_map entry_text entries ++ end_text (length entries)
 
-pub record TellsCalls (told : List (List ℕ)) (entries : List Entry) : Type 0 where
-  pub range : AllByRecursion IsEntry entries
+pub record TellsCalls (version : Version) (told : List (List ℕ)) (entries : List Entry) : Type 0 where
+  pub range : AllByRecursion (IsEntryOf version) entries
   pub same : ended told ≡ calls_text entries
 
-abbrev pub BeginsCalls : List (List ℕ) → Type 0
-BeginsCalls told = (later : List (List ℕ)) × (entries : List Entry) × TellsCalls (told ++ later) entries
+abbrev pub BeginsCalls : Version → List (List ℕ) → Type 0
+BeginsCalls version told = (later : List (List ℕ)) × (entries : List Entry) × TellsCalls version (told ++ later) entries
 
 -- no line of a reply follows, where there is a call
 abbrev pub SettledLines : List Entry → List (List ℕ) → Type 0
@@ -135,12 +139,12 @@ SettledLines [] left = Unit {0}
 SettledLines (e ∷ entries) left = LeavesReply left
 
 -- between two places stand the lines of these calls, and no more of the last reply behind them
-pub record AreRead (old new : Place) (entries : List Entry) : Type 0 where
+pub record AreRead (version : Version) (old new : Place) (entries : List Entry) : Type 0 where
   pub taken : List (List ℕ)
   pub left : old.left ≡ taken ++ new.left
   pub passed : new.passed ≡ old.passed + length taken
   pub text : ended taken ≡ flat_map entry_text entries
-  pub range : AllByRecursion IsEntry entries
+  pub range : AllByRecursion (IsEntryOf version) entries
   pub next : SettledLines entries new.left
 
 -- a line stands there, and it is not the last of a session of so many calls
@@ -150,56 +154,55 @@ GoesOn count (line ∷ lines) = line ≡ codes "end " ++ decimal count → ⊥
 
 -- the first two lines are those of a session, and behind them stands what may take memory
 abbrev pub GoesPastOpening : List ℕ → Type 0
-GoesPastOpening text = (site : Config) × (others : List (List ℕ)) × IsConfig site
-    × (lines text ≡ codes "esx session 1" ∷ joined (site_words site) ∷ others) × NextTakesMemory others
+GoesPastOpening text = (version : Version) × (site : Config) × (others : List (List ℕ)) × IsConfig site
+    × (lines text ≡ head_line version ∷ joined (site_words site) ∷ others) × NextTakesMemory version others
 
 -- behind some lines the next cannot stand, or they cannot end
-abbrev pub IsStuck : List (List ℕ) → List (List ℕ) → Type 0
-IsStuck front [] = (entries : List Entry) → TellsCalls front entries → ⊥
-IsStuck front (line ∷ lines) = BeginsCalls (front ++ line ∷ []) → ⊥
+abbrev pub IsStuck : Version → List (List ℕ) → List (List ℕ) → Type 0
+IsStuck version front [] = (entries : List Entry) → TellsCalls version front entries → ⊥
+IsStuck version front (line ∷ lines) = BeginsCalls version (front ++ line ∷ []) → ⊥
 
 -- the calls go on for so many lines, and no further
-pub record StopsCalls (n : ℕ) (told : List (List ℕ)) : Type 0 where
+pub record StopsCalls (version : Version) (n : ℕ) (told : List (List ℕ)) : Type 0 where
   pub front : List (List ℕ)
   pub others : List (List ℕ)
   pub whole : told ≡ front ++ others
   pub count : n ≡ length front
-  pub begins : BeginsCalls front
-  pub stuck : IsStuck front others
+  pub begins : BeginsCalls version front
+  pub stuck : IsStuck version front others
 
-abbrev pub LacksCalls : TextFault → Place → Type 0
-LacksCalls (BadLine n) old = (m : ℕ) × (n ≡ old.passed + m + 1) × StopsCalls m old.left
-LacksCalls OutOfMemory old = Unit {0}
-LacksCalls _ old = ⊥
-
--- the first line
-abbrev pub head_line : List ℕ
-head_line = codes "esx session 1"
+abbrev pub LacksCalls : Version → TextFault → Place → Type 0
+LacksCalls version (BadLine n) old = (m : ℕ) × (n ≡ old.passed + m + 1) × StopsCalls version m old.left
+LacksCalls version OutOfMemory old = Unit {0}
+LacksCalls version _ old = ⊥
 
 -- the lines begin with the first of a session, or not
 abbrev pub LacksHead : List (List ℕ) → Type 0
 LacksHead [] = Unit {0}
-LacksHead (line ∷ lines) = HasNoFeed line × (line ≡ head_line → ⊥)
+LacksHead (line ∷ lines) = HasNoFeed line × ((version : Version) → line ≡ head_line version → ⊥)
 
 abbrev pub LacksSite : List (List ℕ) → Type 0
 LacksSite [] = Unit {0}
 LacksSite (line ∷ lines) = HasNoFeed line × ((site : Config) → SpellsSite line site → ⊥)
 
--- a reader of calls: where it is in the lines, and how many calls it has given
+-- a reader of calls: the version of its text, where it is in the lines, and how many calls it has given
 pub record Reader : Type 0 where
+  pub version : Version
   pub at : Place
   pub count : ℕ
 
--- The text begins with the opening of this site and with these calls; the reader is behind them, and has counted them.
+-- The text begins with the opening of this site in the reader's version and with these calls; the reader is behind
+-- them, and has counted them.
 pub record Follows (text : List ℕ) (site : Config) (done : List Entry) (reader : Reader) : Type 0 where
   pub range : IsConfig site
   pub start : Place
-  pub opening : lines text ≡ head_line ∷ joined (site_words site) ∷ start.left
+  pub opening : lines text ≡ head_line reader.version ∷ joined (site_words site) ∷ start.left
   pub passed : start.passed ≡ 2
-  pub read : AreRead start reader.at done
+  pub read : AreRead reader.version start reader.at done
   pub count : reader.count ≡ length done
 
 -- the first two lines of a session, and which of them is wrong
 abbrev pub LacksOpening : TextFault → List (List ℕ) → Type 0
-LacksOpening (BadLine n) told = ((n ≡ 1) × LacksHead told) ⊎ ((n ≡ 2) × ((lines : List (List ℕ)) × (told ≡ head_line ∷ lines) × LacksSite lines))
+LacksOpening (BadLine n) told = ((n ≡ 1) × LacksHead told)
+    ⊎ ((n ≡ 2) × ((version : Version) × (lines : List (List ℕ)) × (told ≡ head_line version ∷ lines) × LacksSite lines))
 LacksOpening _ told = ⊥

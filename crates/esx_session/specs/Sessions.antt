@@ -1,11 +1,15 @@
 -- Sessions: what was asked of a console and answered, as a text.
-use Rattle.std.specs.Prelude.{ℕ, Bool, true, false, List, [], ◌∷◌, ◌++◌, ◌+◌, ◌≡◌, ◌<◌, ◌≤◌, ◌⊎◌, ◌==◌, codes, decimal, length, take, map, flat_map}
+use Rattle.std.specs.Prelude.{ℕ, Bool, true, false, IsTrue, List, [], ◌∷◌, ◌++◌, ◌+◌, ◌≡◌, ◌<◌, ◌≤◌, ◌⊎◌, ◌==◌, codes, decimal, length, take, map, flat_map}
 use Rattle.std.specs.List.{AllByRecursion}
 use Rattle.std.specs.Str.{IsAscii}
 use Rattle.std.specs.Str.Lines.{lines}
 use Rattle.esx_types.specs.Ranges.{IsConfig}
 use Rattle.esx_types.specs.declared.config.Config.{Config}
 use Rattle.esx_types.specs.declared.config.TheConstants.{CALLERS}
+use Rattle.esx_types.specs.declared.version.Version.{Version}
+use Rattle.esx_types.specs.declared.version.Version.TheVariants.{One, Two}
+use Rattle.esx_types.specs.Versions.{callers}
+use Rattle.esx_events.specs.Limits.{has_call}
 use Rattle.esx_events.specs.declared.call.Line.{Line}
 use Rattle.esx_reading.specs.Fields.{joined}
 use Rattle.esx_reading.specs.declared.fault.TextFault.{TextFault}
@@ -44,16 +48,25 @@ call_text e = decimal e.caller ++ 32 ∷ (spelling e.call ++ 10 ∷ [])
 abbrev pub entry_text : Entry → List ℕ
 entry_text e = call_text e ++ quoted e.reply
 
-abbrev pub head_text : List ℕ
-head_text = codes "esx session 1\n"
+-- the first line, which says the version
+abbrev pub head_line : Version → List ℕ
+head_line One = codes "esx session 1"
+head_line Two = codes "esx session 2"
+
+abbrev pub head_text : Version → List ℕ
+head_text version = head_line version ++ 10 ∷ []
 
 -- how many calls there were
 abbrev pub end_text : ℕ → List ℕ
 end_text count = codes "end " ++ (decimal count ++ 10 ∷ [])
 
+-- the text of a session in a version
+abbrev pub version_text : Version → Config → List Entry → List ℕ
+version_text version site entries = head_text version ++ (site_text site ++ (flat_map entry_text entries ++ end_text (length entries)))
+
 -- what a printer writes
 abbrev pub session_text : Config → List Entry → List ℕ
-session_text site entries = head_text ++ (site_text site ++ (flat_map entry_text entries ++ end_text (length entries)))
+session_text site entries = version_text Two site entries
 
 -- a text of at least one line, each ended by a line feed
 abbrev pub IsEnded : List ℕ → Type 0
@@ -66,14 +79,22 @@ pub record IsEntry (e : Entry) : Type 0 where
   pub reply : IsEnded e.reply
   pub ascii : IsAscii e.reply
 
+-- the same within the limits of a version
+pub record IsEntryOf (version : Version) (e : Entry) : Type 0 where
+  pub entry : IsEntry e
+  pub known : e.caller < callers version
+  pub has : IsTrue (has_call version e.call)
+
 pub record IsSession (site : Config) (entries : List Entry) : Type 0 where
   pub opened : IsConfig site
   pub each : AllByRecursion IsEntry entries
 
--- the lines are those of the session
+-- the lines are those of the session in some version
 pub record Tells (told : List (List ℕ)) (site : Config) (entries : List Entry) : Type 0 where
-  pub range : IsSession site entries
-  pub same : ended told ≡ session_text site entries
+  pub version : Version
+  pub opened : IsConfig site
+  pub each : AllByRecursion (IsEntryOf version) entries
+  pub same : ended told ≡ version_text version site entries
 
 -- A text is the session's, but for carriage returns before line feeds, and for the last line feed.
 abbrev pub Reads : List ℕ → Config → List Entry → Type 0
@@ -109,13 +130,14 @@ IsRefused _ text = ⊥
 
 -- the first two lines are those of a session
 abbrev pub HasOpening : List ℕ → Type 0
-HasOpening text = (site : Config) × (others : List (List ℕ)) × IsConfig site × (lines text ≡ codes "esx session 1" ∷ joined (site_words site) ∷ others)
+HasOpening text = (version : Version) × (site : Config) × (others : List (List ℕ)) × IsConfig site
+    × (lines text ≡ head_line version ∷ joined (site_words site) ∷ others)
 
 -- a line of a log, as a session tells it
 abbrev pub logged : Line → Entry
 logged line = record { caller = line.caller; call = line.call; reply = reply_text line.reply }
 
--- a text is that of one session at most
+-- a text is that of one session at most, whatever its version
 abbrev pub ReadsOneSession : List ℕ → Type 0
 ReadsOneSession text = (site other : Config) (entries others : List Entry) → Reads text site entries → Reads text other others
     → (site ≡ other) × (entries ≡ others)

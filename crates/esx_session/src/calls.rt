@@ -1,24 +1,28 @@
 //! The calls of a session, read one by one.
 
-ghost use Rattle.std.specs.Prelude.{◌≡◌, ◌∷◌, ◌+◌, ◌++◌, ◌<◌, ◌^◌, [], ℕ, List, length, IfOk, IfErr, IsErrOf, IfSome, IfNone, OnOk, OnErr, MatchBool};
+ghost use Rattle.std.specs.Prelude.{◌≡◌, ◌∷◌, ◌+◌, ◌++◌, ◌<◌, ◌^◌, [], ℕ, List, length, IfOk, IfErr, IsErrOf, IfSome, IfNone, OnOk, OnErr, MatchOption};
 ghost use Rattle.esx_types.specs.Ranges.{IsConfig};
 ghost use Rattle.esx_types.specs.declared.config.Config.{Config};
+ghost use Rattle.esx_types.specs.declared.version.Version.{Version};
 ghost use Rattle.esx_reading.specs.Fields.{joined};
 ghost use Rattle.esx_session.specs.declared.session.Entry.{Entry};
-ghost use Rattle.esx_session.specs.Sessions.{site_words, IsEntry, Reads, HasOpening, IsRefused};
-ghost use Rattle.esx_session.specs.Reading.{head_line, TakesReply, LacksReply, TakesEntry, LacksEntry, AreRead, TellsCalls, LacksCalls, LacksHead, LacksOpening, GoesOn, BeginsReply, EntryTakesMemory, NextTakesMemory, Follows, IsNextLine};
+ghost use Rattle.esx_session.specs.Sessions.{site_words, head_line, IsEntryOf, Reads, HasOpening, IsRefused};
+ghost use Rattle.esx_session.specs.Reading.{TakesReply, LacksReply, TakesEntry, LacksEntry, AreRead, TellsCalls, LacksCalls, LacksHead, LacksOpening, GoesOn, BeginsReply, EntryTakesMemory, NextTakesMemory, Follows, IsNextLine};
 
 use crate::line::{call_of, is_end};
 use crate::place::Place;
 use crate::session::Entry;
 use crate::site::site_of;
 use esx_reading::TextFault;
-use esx_types::{Bytes, Config};
+use esx_types::{Bytes, Config, Version};
 use std::alloc::{AllocError, Global};
 use std::marker::Model;
 
-/// The first line of each session.
-const HEAD: &str = "esx session 1";
+/// The first line of each session as it is printed.
+const HEAD: &str = "esx session 2";
+
+/// The first line of each session of version 1.
+const HEAD_OF_ONE: &str = "esx session 1";
 
 /// Adds a line to the text of a reply.
 fn add_line(reply: &mut Vec<u8>, line: &str) -> Result<(), AllocError>
@@ -51,15 +55,16 @@ fn read_reply(place: &mut Place, mut reply: Vec<u8>) -> Result<Bytes, TextFault>
 /// A call, of which the first line was passed, and its reply, which is read into a buffer.
 fn read_entry(
     alloc: Global,
+    version: Version,
     line: &str,
     place: &mut Place,
     buffer: Vec<u8>,
 ) -> Result<Entry, TextFault>
-    ensures ok { IfOk result (TakesEntry line.now place.old place.new) }
-    ensures only { IfErr result (λ e. LacksEntry e line.now place.old) }
-    ensures memory { IsErrOf result TextFault.OutOfMemory → EntryTakesMemory line.now place.old.left }
+    ensures ok { IfOk result (TakesEntry version line.now place.old place.new) }
+    ensures only { IfErr result (λ e. LacksEntry version e line.now place.old) }
+    ensures memory { IsErrOf result TextFault.OutOfMemory → EntryTakesMemory version line.now place.old.left }
 {
-    let Ok(found) = call_of(alloc, line) else {
+    let Ok(found) = call_of(alloc, version, line) else {
         return Err(TextFault::OutOfMemory);
     };
     let Some((caller, call)) = found else {
@@ -77,19 +82,21 @@ fn read_entry(
 /// one of the next two, since an entry is the line of a call and at least one line of its reply.
 fn next_entry(
     alloc: Global,
+    version: Version,
     place: &mut Place,
     count: u64,
     buffer: Vec<u8>,
 ) -> Result<Option<Entry>, TextFault>
-    ensures some { (start : Place) (done : List Entry) → AreRead start place.old done
-        → IfOk result (λ next. IfSome next (λ entry. AreRead start place.new (done ++ entry ∷ []))) }
-    ensures none { (start : Place) (done : List Entry) → AreRead start place.old done → count ≡ length done
-        → IfOk result (λ next. IfNone next (TellsCalls start.left done)) }
-    ensures only { (start : Place) (done : List Entry) → AreRead start place.old done → count ≡ length done → IfErr result (λ e. LacksCalls e start) }
+    ensures some { (start : Place) (done : List Entry) → AreRead version start place.old done
+        → IfOk result (λ next. IfSome next (λ entry. AreRead version start place.new (done ++ entry ∷ []))) }
+    ensures none { (start : Place) (done : List Entry) → AreRead version start place.old done → count ≡ length done
+        → IfOk result (λ next. IfNone next (TellsCalls version start.left done)) }
+    ensures only { (start : Place) (done : List Entry) → AreRead version start place.old done → count ≡ length done
+        → IfErr result (λ e. LacksCalls version e start) }
     ensures near { (line : ℕ) → IsErrOf result (TextFault.BadLine line) → IsNextLine line place.old }
     ensures memory { IsErrOf result TextFault.OutOfMemory → GoesOn count place.old.left }
-    ensures wants { IsErrOf result TextFault.OutOfMemory → NextTakesMemory place.old.left }
-    ensures entry { IfOk result (λ next. IfSome next IsEntry) }
+    ensures wants { IsErrOf result TextFault.OutOfMemory → NextTakesMemory version place.old.left }
+    ensures entry { IfOk result (λ next. IfSome next (IsEntryOf version)) }
     ensures passed { IfOk result (λ next. IfSome next (λ entry. place.old.passed < place.new.passed)) }
     ensures left { IfOk result (λ next. IfSome next (λ entry. length place.new.left < length place.old.left)) }
 {
@@ -99,42 +106,53 @@ fn next_entry(
             None => Ok(None),
             Some(_) => Err(TextFault::BadLine(place.passed())),
         },
-        Some(line) => Ok(Some(read_entry(alloc, line, place, buffer)?)),
+        Some(line) => Ok(Some(read_entry(alloc, version, line, place, buffer)?)),
     }
 }
 
-/// Passes the first line. Whether it is that of a session.
-fn pass_head(place: &mut Place) -> bool
-    ensures { MatchBool result ((place.old.left ≡ head_line ∷ place.new.left) × (place.new.passed ≡ place.old.passed + 1)) (LacksHead place.old.left) }
+/// The version whose first line this is.
+fn version_of(line: &str) -> Option<Version>
+    ensures { MatchOption result ((version : Version) → line.now ≡ head_line version → ⊥) (λ version. line.now ≡ head_line version) }
 {
-    match place.next() {
-        Some(line) => line == HEAD,
-        None => false,
+    match line {
+        HEAD => Some(Version::Two),
+        HEAD_OF_ONE => Some(Version::One),
+        _ => None,
     }
 }
 
-/// The site, from the first two lines.
-fn read_opening(place: &mut Place) -> Result<Config, TextFault>
-    ensures ok { IfOk result (λ site. IsConfig site × (place.old.left ≡ head_line ∷ joined (site_words site) ∷ place.new.left)) }
-    ensures passed { IfOk result (λ site. place.new.passed ≡ place.old.passed + 2) }
+/// The version of a session, from its first line, which is passed.
+fn read_head(place: &mut Place) -> Option<Version>
+    ensures left { MatchOption result (LacksHead place.old.left) (λ version. place.old.left ≡ head_line version ∷ place.new.left) }
+    ensures passed { IfSome result (λ version. place.new.passed ≡ place.old.passed + 1) }
+{
+    let line = place.next()?;
+    version_of(line)
+}
+
+/// The version and the site, from the first two lines.
+fn read_opening(place: &mut Place) -> Result<(Version, Config), TextFault>
+    ensures ok { IfOk result (λ p. IsConfig p.1 × (place.old.left ≡ head_line p.0 ∷ joined (site_words p.1) ∷ place.new.left)) }
+    ensures passed { IfOk result (λ p. place.new.passed ≡ place.old.passed + 2) }
     ensures only { IfErr result (λ e. LacksOpening e place.old.left) }
 {
-    if !pass_head(place) {
+    let Some(version) = read_head(place) else {
         return Err(TextFault::BadLine(1));
-    }
+    };
     let Some(line) = place.next() else {
         return Err(TextFault::BadLine(2));
     };
     let Some(site) = site_of(line) else {
         return Err(TextFault::BadLine(2));
     };
-    Ok(site)
+    Ok((version, site))
 }
 
-/// The calls of a session's text, read one by one. It holds none of them: each entry that it gives holds its own
-/// call and reply, and no memory is taken but for that entry.
+/// The calls of a session's text, read one by one, within the limits of its version. It holds none of them: each entry
+/// that it gives holds its own call and reply, and no memory is taken but for that entry.
 #[derive(Drop)]
 pub struct Calls<'a> {
+    version: Version,
     place: Place<'a>,
     count: u64,
     buffer: Option<Vec<u8>>,
@@ -146,7 +164,7 @@ impl<'a> Model for Calls<'a> {
 
     ghost Value = { Reader };
 
-    ghost view = { λ c. record { at = c.place; count = c.count } };
+    ghost view = { λ c. record { version = c.version; at = c.place; count = c.count } };
 
     ghost invariant = { λ c. c.count + 2 ≤ c.place.passed };
 }
@@ -162,8 +180,9 @@ pub fn open_calls<'a>(text: &'a str) -> Result<(Config, Calls<'a>), TextFault>
     ensures memory { IsErrOf result TextFault.OutOfMemory → ⊥ }
 {
     let mut place = Place::start(text);
-    let site = read_opening(&mut place)?;
+    let (version, site) = read_opening(&mut place)?;
     let calls = Calls {
+        version,
         place,
         count: 0,
         buffer: None,
@@ -188,8 +207,9 @@ impl<'a> Calls<'a> {
         ensures only { (text : List ℕ) (site : Config) (done : List Entry) → Follows text site done self.old → IfErr result (λ e. IsRefused e text) }
         ensures near { (line : ℕ) → IsErrOf result (TextFault.BadLine line) → IsNextLine line self.old.at }
         ensures memory { IsErrOf result TextFault.OutOfMemory → GoesOn self.old.count self.old.at.left }
-        ensures wants { IsErrOf result TextFault.OutOfMemory → NextTakesMemory self.old.at.left }
-        ensures entry { IfOk result (λ next. IfSome next IsEntry) }
+        ensures wants { IsErrOf result TextFault.OutOfMemory → NextTakesMemory self.old.version self.old.at.left }
+        ensures entry { IfOk result (λ next. IfSome next (IsEntryOf self.old.version)) }
+        ensures version { self.new.version ≡ self.old.version }
         ensures count { IfOk result (λ next. IfSome next (λ entry. self.new.count ≡ self.old.count + 1)) }
         ensures bound { IfOk result (λ next. IfSome next (λ entry. self.new.count < 2 ^ 63)) }
         ensures left { IfOk result (λ next. IfSome next (λ entry. length self.new.at.left < length self.old.at.left)) }
@@ -198,7 +218,7 @@ impl<'a> Calls<'a> {
     {
         let mut ahead = self.place.ahead();
         let buffer = self.buffer.take().unwrap_or(Vec::new(alloc));
-        let Some(entry) = next_entry(alloc, &mut ahead, self.count, buffer)? else {
+        let Some(entry) = next_entry(alloc, self.version, &mut ahead, self.count, buffer)? else {
             return Ok(None);
         };
         self.place = ahead;

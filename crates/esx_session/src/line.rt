@@ -1,24 +1,24 @@
 //! The lines of a session, each alone.
 
 ghost use Rattle.std.specs.Prelude.{◌≡◌, ◌∷◌, ◌++◌, ◌<◌, ◌↔◌, ℕ, List, codes, decimal, MatchOption, IfSome, IfNone, IfOk, OnErr, IsTrue};
-ghost use Rattle.esx_types.specs.declared.config.TheConstants.{CALLERS};
+ghost use Rattle.esx_types.specs.Versions.{callers};
 ghost use Rattle.esx_events.specs.declared.call.Call.{Call};
 ghost use Rattle.esx_reading.specs.Fields.{fields};
 ghost use Rattle.esx_session.specs.Reading.{SpellsCall, CallTakesMemory, Quotes, QuotesNone};
 
-use esx_events::Call;
+use esx_events::{Call, has_call};
 use esx_reading::{Fields, number_of};
-use esx_types::CALLERS;
+use esx_types::Version;
 use esx_words::parse_command;
 use std::alloc::{AllocError, Global};
 
-/// The number of a caller.
-fn caller_of(text: &str) -> Option<u16>
-    ensures some { IfSome result (λ n. (n < CALLERS) × (text.now ≡ decimal n)) }
-    ensures none { IfNone result ((n : ℕ) → n < CALLERS → text.now ≡ decimal n → ⊥) }
+/// The number of a caller of a version.
+fn caller_of(version: Version, text: &str) -> Option<u16>
+    ensures some { IfSome result (λ n. (n < callers version) × (text.now ≡ decimal n)) }
+    ensures none { IfNone result ((n : ℕ) → n < callers version → text.now ≡ decimal n → ⊥) }
 {
     let number = number_of(text)?;
-    if number < CALLERS as u64 {
+    if number < version.callers() as u64 {
         Some(number as u16)
     } else {
         None
@@ -37,22 +37,29 @@ fn parted<'a>(line: &'a str) -> Option<(&'a str, &'a str)>
     Some((number, command))
 }
 
-/// Who called, and the call. `None` if the line is not that of a call.
-pub fn call_of(alloc: Global, line: &str) -> Result<Option<(u16, Call)>, AllocError>
-    ensures found { IfOk result (λ found. IfSome found (λ p. SpellsCall line.now p.0 p.1)) }
-    ensures only { IfOk result (λ found. IfNone found ((caller : ℕ) (call : Call) → SpellsCall line.now caller call → ⊥)) }
-    ensures memory { OnErr result (CallTakesMemory line.now) }
+/// Who called, and the call. `None` if the line is not that of a call in this version.
+pub fn call_of(
+    alloc: Global,
+    version: Version,
+    line: &str,
+) -> Result<Option<(u16, Call)>, AllocError>
+    ensures found { IfOk result (λ found. IfSome found (λ p. SpellsCall version line.now p.0 p.1)) }
+    ensures only { IfOk result (λ found. IfNone found ((caller : ℕ) (call : Call) → SpellsCall version line.now caller call → ⊥)) }
+    ensures memory { OnErr result (CallTakesMemory version line.now) }
 {
     let Some((number, command)) = parted(line) else {
         return Ok(None);
     };
-    let Some(caller) = caller_of(number) else {
+    let Some(caller) = caller_of(version, number) else {
         return Ok(None);
     };
-    match parse_command(alloc, command)? {
-        Some(call) => Ok(Some((caller, call))),
-        None => Ok(None),
+    let Some(call) = parse_command(alloc, command)? else {
+        return Ok(None);
+    };
+    if !has_call(version, &call) {
+        return Ok(None);
     }
+    Ok(Some((caller, call)))
 }
 
 /// What a line says of a reply.

@@ -5,6 +5,7 @@ ghost use Rattle.esx_words.specs.Commands.{spelling};
 ghost use Rattle.esx_writing.specs.Writing.{Writes, Puts, sink_faults};
 ghost use Rattle.esx_session.specs.Sessions.{call_text, head_text, site_text, end_text, logged, session_text};
 ghost use Rattle.esx_session.specs.Printing.{line_text};
+ghost use Rattle.esx_types.specs.declared.version.Version.TheVariants.{Two};
 
 use esx_events::{Call, Line};
 use esx_replies::{Sign, put_reply};
@@ -29,14 +30,14 @@ impl Sign for ReplySign {
     }
 }
 
-/// The first line, and that of the site.
+/// The first line, which says version 2, and that of the site.
 pub fn put_opening<W: Sink>(
     sink: &mut W,
     held: &mut AnswerBuffer,
     site: &Config,
 ) -> Result<(), SinkFailed>
-    ensures bytes { Puts (W.contents sink.old) held.old (W.contents sink.new) held.new (head_text ++ site_text site.now) result }
-    ensures utf8 { OnOk result (IsUtf8 (head_text ++ site_text site.now)) }
+    ensures bytes { Puts (W.contents sink.old) held.old (W.contents sink.new) held.new (head_text Two ++ site_text site.now) result }
+    ensures utf8 { OnOk result (IsUtf8 (head_text Two ++ site_text site.now)) }
     ensures failures { W.failures sink.new ≡ W.failures sink.old + sink_faults result }
     ensures flushes { W.flushes sink.new ≡ W.flushes sink.old }
 {
@@ -44,7 +45,7 @@ pub fn put_opening<W: Sink>(
         sink,
         held,
         &[
-            Piece::Text("esx session 1\nframes "),
+            Piece::Text("esx session 2\nframes "),
             Piece::Number(u64::from(site.frames)),
             Piece::Text(" page "),
             Piece::Number(u64::from(site.page)),
@@ -238,7 +239,7 @@ fn session_bytes<L: Ledger>(
     }
 }
 
-/// The session of a site as it was opened and of a log. It can be read again where the site, the callers
+/// The session of a site as it was opened and of a log, in version 2. It can be read again where the site, the callers
 /// and the calls are in their ranges.
 pub fn print_session(alloc: Global, site: &Config, log: &[Line]) -> Result<String, AllocError>
     ensures { IfOk result (λ text. string_bytes text ≡ session_text site.now (map logged log.now)) }

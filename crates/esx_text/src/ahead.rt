@@ -77,7 +77,7 @@ fn waits<L: Log>(console: &Console<L>) -> bool {
 fn access(line: &[u8]) -> Option<(VmId, u32)> {
     let (vm, behind) = number(operands(line)?)?;
     let (page, _) = number(behind)?;
-    let vm = VmId::new(u8::try_from(vm).ok()?)?;
+    let vm = VmId::new(u8::try_from(vm).ok()?);
     Some((vm, page))
 }
 

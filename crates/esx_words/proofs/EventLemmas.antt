@@ -1,6 +1,6 @@
 -- A line spells one event at most.
 use Rattle.std.proofs.Common.{◌≡◌, ◌<◌, ◌^◌, ℕ, List, [], ◌∷◌, arith, refl, ap, sym, ◌∙◌, decimal}
-use Rattle.std.specs.Prelude.{map}
+use Rattle.std.specs.Prelude.{map, Option, None, Some}
 use Rattle.std.specs.List.{AllByRecursion}
 use Rattle.std.proofs.Math.Path.{subst}
 use Rattle.std.proofs.lemmas.Fmt.{decimal_injective}
@@ -13,9 +13,9 @@ use Rattle.esx_reading.specs.Fields.{fields, joined}
 use Rattle.esx_reading.proofs.FieldLemmas.{fields_of_joined, joined_of_fields, others_of}
 use Rattle.esx_words.specs.declared.verbs.Verb.TheVariants as verbs
 use Rattle.esx_words.specs.declared.verbs.EventVerb.{EventVerb}
-use Rattle.esx_words.specs.Kinds.{Kind, Kinds, Value, Values, value_word, value_words, IsValue, AreValues}
+use Rattle.esx_words.specs.Kinds.{Kind, Kinds, Value, Values, value_word, value_words, IsValue, AreValues, perhaps_number, IsPerhapsNumber}
 use Rattle.esx_words.specs.Kinds.Kind.{Machine, Number, Word, Hex, Name}
-use Rattle.esx_words.specs.Kinds.Kinds.{End, Then, Words}
+use Rattle.esx_words.specs.Kinds.Kinds.{End, Then, PerhapsNumber, Words}
 use Rattle.esx_words.specs.Verbs.{event_word}
 use Rattle.esx_words.specs.Commands.{event_kinds, event_verb, event_values, event_words, event_text, IsEventInRange, SpellsEvent}
 use Rattle.esx_words.proofs.Tables.{event_at}
@@ -49,12 +49,19 @@ same_numbers (x ∷ xs) [] p q e = absurd (cc)
 same_numbers (x ∷ xs) (y ∷ ys) p q e =
     both_of x y xs ys (decimal_injective x y p.0 q.0 (first_of _ _ _ _ e)) (same_numbers xs ys p.1 q.1 (others_of _ _ _ _ e))
 
+same_perhaps : (x y : Option ℕ) → IsPerhapsNumber x → IsPerhapsNumber y → perhaps_number x ≡ perhaps_number y → x ≡ y
+same_perhaps None None p q e = refl
+same_perhaps None (Some y) p q e = absurd (cc)
+same_perhaps (Some x) None p q e = absurd (cc)
+same_perhaps (Some x) (Some y) p q e = ap Some (same_value Number x y p q (first_of _ _ _ _ e))
+
 pub same_values : (kinds : Kinds) (x y : Values kinds) → AreValues kinds x → AreValues kinds y → value_words kinds x ≡ value_words kinds y → x ≡ y
 same_values End x y p q e = refl
 same_values (Then kind kinds) (x, xs) (y, ys) p q e =
     let one = same_value kind x y p.0 q.0 (first_of _ _ _ _ e) in
     let more = same_values kinds xs ys p.1 q.1 (others_of _ _ _ _ e) in
     λ i. (one i, more i)
+same_values PerhapsNumber x y p q e = same_perhaps x y p q e
 same_values Words x y p q e = same_numbers x y p.1 q.1 e
 
 pub event_again : (e : Event) → event_at (event_verb e) (event_values e) ≡ e

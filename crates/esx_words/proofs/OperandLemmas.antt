@@ -7,9 +7,9 @@ use Rattle.esx_types.specs.declared.config.TheConstants.{VM_NUMBERS}
 use Rattle.esx_events.specs.Names.{IsName}
 use Rattle.esx_reading.specs.Written.{IsWritten}
 use Rattle.esx_words.specs.declared.operands.TheConstants.{MAX_WORDS}
-use Rattle.esx_words.specs.Kinds.{Kinds, Values, value_words, AreValues}
+use Rattle.esx_words.specs.Kinds.{Kinds, Values, value_words, AreValues, perhaps_number, IsPerhapsNumber}
 use Rattle.esx_words.specs.Kinds.Kind.{Machine, Number, Word, Hex, Name}
-use Rattle.esx_words.specs.Kinds.Kinds.{End, Then, Words}
+use Rattle.esx_words.specs.Kinds.Kinds.{End, Then, PerhapsNumber, Words}
 use Rattle.std.specs.Prelude.{Option, Some, None, Result, IfOk, IfSome, IfNone}
 use Rattle.std.proofs.lemmas.Result.{IfOk-weaker}
 use Rattle.std.proofs.lemmas.Option.{IfSome_then}
@@ -55,9 +55,10 @@ pub no_range : (rest : List (List ℕ)) → ((vm n m k : ℕ) → vm < VM_NUMBER
     → HasNo (Then Machine (Then Number (Then Number (Then Number End)))) rest
 no_range rest h (vm, (n, (m, (k, tt)))) (r0, (r1, (r2, (r3, u)))) e = h vm n m k r0 r1 r2 r3 e
 
-pub no_spec : (rest : List (List ℕ)) → ((vm min max overhead shares balloon : ℕ) → vm < VM_NUMBERS → min < 2 ^ 32 → max < 2 ^ 32 → overhead < 2 ^ 32 → shares < 2 ^ 32 → balloon < 2 ^ 32 → rest ≡ decimal vm ∷ decimal min ∷ decimal max ∷ decimal overhead ∷ decimal shares ∷ decimal balloon ∷ [] → ⊥)
-    → HasNo (Then Machine (Then Number (Then Number (Then Number (Then Number (Then Number End)))))) rest
-no_spec rest h (vm, (min, (max, (overhead, (shares, (balloon, tt)))))) (r0, (r1, (r2, (r3, (r4, (r5, u)))))) e = h vm min max overhead shares balloon r0 r1 r2 r3 r4 r5 e
+pub no_spec : (rest : List (List ℕ)) → ((vm min max overhead shares balloon : ℕ) (tau : Option ℕ) → vm < VM_NUMBERS → min < 2 ^ 32 → max < 2 ^ 32 → overhead < 2 ^ 32 → shares < 2 ^ 32 → balloon < 2 ^ 32 → IsPerhapsNumber tau
+    → rest ≡ decimal vm ∷ decimal min ∷ decimal max ∷ decimal overhead ∷ decimal shares ∷ decimal balloon ∷ perhaps_number tau → ⊥)
+    → HasNo (Then Machine (Then Number (Then Number (Then Number (Then Number (Then Number PerhapsNumber)))))) rest
+no_spec rest h (vm, (min, (max, (overhead, (shares, (balloon, tau)))))) (r0, (r1, (r2, (r3, (r4, (r5, r6)))))) e = h vm min max overhead shares balloon tau r0 r1 r2 r3 r4 r5 r6 e
 
 pub no_written : (rest : List (List ℕ)) → ((vm n m : ℕ) (bytes : List ℕ) → vm < VM_NUMBERS → n < 2 ^ 32 → m < 2 ^ 32 → IsWritten bytes → rest ≡ decimal vm ∷ decimal n ∷ decimal m ∷ encode_lower bytes ∷ [] → ⊥)
     → HasNo (Then Machine (Then Number (Then Number (Then Hex End)))) rest

@@ -1,5 +1,5 @@
 -- Spellings made part by part.
-use Rattle.std.proofs.Common.{◌≡◌, ℕ, List, [], ◌∷◌, ◌++◌, Option, Result, sym, ◌∙◌, ap, append_assoc, append-nil, codes, decimal}
+use Rattle.std.proofs.Common.{◌≡◌, ℕ, List, [], ◌∷◌, ◌++◌, Option, None, Some, Result, refl, sym, ◌∙◌, ap, append_assoc, append-nil, codes, decimal}
 use Rattle.std.specs.Prelude.{flat_map, map, OnOk}
 use Rattle.std.specs.Str.{IsUtf8}
 use Rattle.esx_events.specs.declared.event.Event.{Event}
@@ -9,7 +9,9 @@ use Rattle.esx_words.specs.declared.verbs.EventVerb.TheVariants as events
 use Rattle.esx_words.specs.Verbs.{event_word, verb_word}
 use Rattle.esx_words.specs.Commands.{event_words, list_words, list_text}
 use Rattle.esx_words.proofs.ListedLemmas.{list_head, list_more}
-use Rattle.esx_words.specs.Printing.{word_text, next_text, sample_head, tried_head}
+use Rattle.esx_types.specs.declared.vm.VmSpec.{VmSpec}
+use Rattle.esx_words.specs.Kinds.{perhaps_number}
+use Rattle.esx_words.specs.Printing.{word_text, perhaps_text, spec_head, next_text, sample_head, tried_head}
 use Rattle.esx_writing.specs.Writing.{Puts}
 
 pub puts_same : {T E : Type 0} (a b : Option (List ℕ)) (h k x y : List ℕ) (r : Result T E) → x ≡ y → Puts a h b k x r → Puts a h b k y r
@@ -26,6 +28,16 @@ pub sample_is : (vm length : ℕ) (ws : List ℕ) → sample_head vm length ++ f
 sample_is vm length ws =
     ap (λ v. event_word events.Sample ++ 32 ∷ v) (append_assoc (decimal vm) (32 ∷ decimal length) (flat_map word_text ws)
     ∙ ap (λ v. decimal vm ++ 32 ∷ v) (words_behind (decimal length) ws))
+
+perhaps_behind : (w : List ℕ) (ws : List (List ℕ)) (n : Option ℕ) → joined (w ∷ ws) ++ perhaps_text n ≡ joined (w ∷ (ws ++ perhaps_number n))
+perhaps_behind w [] None = append-nil w
+perhaps_behind w [] (Some n) = refl
+perhaps_behind w (v ∷ vs) n = append_assoc w (32 ∷ joined (v ∷ vs)) (perhaps_text n) ∙ ap (λ t. w ++ 32 ∷ t) (perhaps_behind v vs n)
+
+pub spec_is : (verb : List ℕ) (vm : ℕ) (spec : VmSpec) → spec_head verb vm spec ++ perhaps_text spec.tau
+    ≡ joined (verb ∷ decimal vm ∷ decimal spec.min ∷ decimal spec.max ∷ decimal spec.overhead ∷ decimal spec.shares ∷ decimal spec.balloon_max ∷ perhaps_number spec.tau)
+spec_is verb vm spec =
+    perhaps_behind verb (decimal vm ∷ decimal spec.min ∷ decimal spec.max ∷ decimal spec.overhead ∷ decimal spec.shares ∷ decimal spec.balloon_max ∷ []) spec.tau
 
 pub list_is : (first : Event) (others : List Event) → joined (event_words first) ++ flat_map next_text others ≡ list_text (first ∷ others)
 list_is first [] = append-nil (joined (event_words first))

@@ -30,6 +30,7 @@ all_verbs =
     ∷ verbs.Event (events.Place place_events.Scan)
     ∷ verbs.Event (events.Place place_events.DropPage)
     ∷ verbs.Event (events.Place place_events.SetShares)
+    ∷ verbs.Event (events.Place place_events.SetVmTax)
     ∷ verbs.Event events.Read
     ∷ verbs.Event events.Write
     ∷ verbs.Event events.Sample
@@ -55,8 +56,8 @@ all_verbs =
 
 -- the left inverse of the table of events
 unfoldable pub event_at : (v : EventVerb) → Values (event_kinds v) → Event
-event_at events.Admit (vm, (min, (max, (overhead, (shares, (balloon, tt)))))) =
-    event.Admit vm (record { min = min; max = max; overhead = overhead; shares = shares; balloon_max = balloon })
+event_at events.Admit (vm, (min, (max, (overhead, (shares, (balloon, tau)))))) =
+    event.Admit vm (record { min = min; max = max; overhead = overhead; shares = shares; balloon_max = balloon; tau = tau })
 event_at (events.Machine machine_events.Start) (vm, tt) = event.Start vm
 event_at (events.Machine machine_events.Ask) (vm, tt) = event.Ask vm
 event_at (events.Machine machine_events.Stop) (vm, tt) = event.Stop vm
@@ -66,6 +67,7 @@ event_at (events.Place place_events.TakeBack) (vm, (page, tt)) = event.TakeBack 
 event_at (events.Place place_events.Scan) (vm, (page, tt)) = event.Scan vm page
 event_at (events.Place place_events.DropPage) (vm, (page, tt)) = event.DropPage vm page
 event_at (events.Place place_events.SetShares) (vm, (shares, tt)) = event.SetShares vm shares
+event_at (events.Place place_events.SetVmTax) (vm, (tau, tt)) = event.SetVmTax vm tau
 event_at events.Read (vm, (page, (at, (len, tt)))) = event.Read vm page at len
 event_at events.Write (vm, (page, (at, (bytes, tt)))) = event.Write vm page at bytes
 event_at events.Sample (vm, (length, words)) = event.Sample vm length words

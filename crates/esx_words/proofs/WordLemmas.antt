@@ -1,6 +1,6 @@
 -- Words of commands: fields without a semicolon.
 use Rattle.std.proofs.Common.{◌≡◌, ◌<◌, ◌^◌, ◌/◌, ◌%◌, inl, inr, ℕ, List, [], ◌∷◌, length, get_or, arith, refl, ap, true, false, nat_lt, nat_le, decimal}
-use Rattle.std.specs.Prelude.{Bool, not, ◌&&◌, map}
+use Rattle.std.specs.Prelude.{Bool, not, ◌&&◌, map, Option, None, Some}
 use Rattle.std.specs.List.{All, AllByRecursion, list_all}
 use Rattle.std.proofs.Math.Dec.{eqb}
 use borrow.Author.Tests.{ltb-true}
@@ -18,9 +18,9 @@ use Rattle.esx_reading.specs.Fields.{joined}
 use Rattle.esx_reading.proofs.FieldLemmas.{IsField, no_match, no_space_in_decimal, no_space_in_hex}
 use Rattle.esx_words.specs.declared.verbs.Verb.{Verb}
 use Rattle.esx_words.specs.declared.verbs.Verb.TheVariants as verbs
-use Rattle.esx_words.specs.Kinds.{Kind, Kinds, Value, Values, value_word, value_words, IsValue, AreValues}
+use Rattle.esx_words.specs.Kinds.{Kind, Kinds, Value, Values, value_word, value_words, IsValue, AreValues, perhaps_number, IsPerhapsNumber}
 use Rattle.esx_words.specs.Kinds.Kind.{Machine, Number, Word, Hex, Name}
-use Rattle.esx_words.specs.Kinds.Kinds.{End, Then, Words}
+use Rattle.esx_words.specs.Kinds.Kinds.{End, Then, PerhapsNumber, Words}
 use Rattle.esx_words.specs.Verbs.{event_word, verb_word}
 use Rattle.esx_words.proofs.VerbLemmas.{verb_bytes}
 use Rattle.esx_words.specs.Commands.{event_verb, event_kinds, event_values, IsEventInRange, event_text}
@@ -112,9 +112,14 @@ numbers_are_words : (ws : List ℕ) → AllByRecursion (λ w. w < 2 ^ 64) ws →
 numbers_are_words [] r = tt
 numbers_are_words (w ∷ ws) r = (decimal_is_word w r.0, numbers_are_words ws r.1)
 
+perhaps_is_word : (n : Option ℕ) → IsPerhapsNumber n → AllByRecursion IsWord (perhaps_number n)
+perhaps_is_word None r = tt
+perhaps_is_word (Some n) r = (value_is_word Number n r, tt)
+
 pub values_are_words : (kinds : Kinds) (x : Values kinds) → AreValues kinds x → AllByRecursion IsWord (value_words kinds x)
 values_are_words End tt r = tt
 values_are_words (Then kind kinds) (x, xs) r = (value_is_word kind x r.0, values_are_words kinds xs r.1)
+values_are_words PerhapsNumber n r = perhaps_is_word n r
 values_are_words Words ws r = numbers_are_words ws r.1
 
 letter_is_plain : (b : ℕ) → is_lower b ≡ true → is_plain b ≡ true

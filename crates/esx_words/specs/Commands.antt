@@ -20,13 +20,13 @@ use Rattle.esx_words.specs.declared.verbs.AloneVerb.TheVariants as alone_verbs
 use Rattle.esx_words.specs.declared.verbs.PlaceVerb.TheVariants as place_verbs
 use Rattle.esx_words.specs.Kinds.{Kinds, Values, value_words, AreValues, TakeMemory}
 use Rattle.esx_words.specs.Kinds.Kind.{Machine, Number, Word, Hex, Name}
-use Rattle.esx_words.specs.Kinds.Kinds.{End, Then, Words}
+use Rattle.esx_words.specs.Kinds.Kinds.{End, Then, PerhapsNumber, Words}
 use Rattle.esx_words.specs.Verbs.{event_word, verb_word}
 use Rattle.esx_reading.specs.Fields.{joined, fields}
 
 -- what stands behind the first word of an event
 abbrev pub event_kinds : EventVerb → Kinds
-event_kinds events.Admit = Then Machine (Then Number (Then Number (Then Number (Then Number (Then Number End)))))
+event_kinds events.Admit = Then Machine (Then Number (Then Number (Then Number (Then Number (Then Number PerhapsNumber)))))
 event_kinds (events.Machine verb) = Then Machine End
 event_kinds (events.Place verb) = Then Machine (Then Number End)
 event_kinds events.Read = Then Machine (Then Number (Then Number (Then Number End)))
@@ -52,12 +52,13 @@ event_verb (event.SwapOut vm word) = events.SwapOut
 event_verb (event.Replace vm page word) = events.Replace
 event_verb (event.SetShares vm shares) = events.Place place_events.SetShares
 event_verb (event.SetTax tau) = events.SetTax
+event_verb (event.SetVmTax vm tau) = events.Place place_events.SetVmTax
 event_verb (event.Stop vm) = events.Machine machine_events.Stop
 event_verb (event.DropPage vm page) = events.Place place_events.DropPage
 event_verb (event.Gone vm) = events.Machine machine_events.Gone
 
 abbrev pub event_values : (event : Event) → Values (event_kinds (event_verb event))
-event_values (event.Admit vm spec) = (vm, (spec.min, (spec.max, (spec.overhead, (spec.shares, (spec.balloon_max, tt))))))
+event_values (event.Admit vm spec) = (vm, (spec.min, (spec.max, (spec.overhead, (spec.shares, (spec.balloon_max, spec.tau))))))
 event_values (event.Start vm) = (vm, tt)
 event_values (event.Read vm page at len) = (vm, (page, (at, (len, tt))))
 event_values (event.Write vm page at bytes) = (vm, (page, (at, (bytes, tt))))
@@ -71,6 +72,7 @@ event_values (event.SwapOut vm word) = (vm, (word, tt))
 event_values (event.Replace vm page word) = (vm, (page, (word, tt)))
 event_values (event.SetShares vm shares) = (vm, (shares, tt))
 event_values (event.SetTax tau) = (tau, tt)
+event_values (event.SetVmTax vm tau) = (vm, (tau, tt))
 event_values (event.Stop vm) = (vm, tt)
 event_values (event.DropPage vm page) = (vm, (page, tt))
 event_values (event.Gone vm) = (vm, tt)

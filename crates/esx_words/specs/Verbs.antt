@@ -23,6 +23,7 @@ event_word (events.Place place_events.TakeBack) = letters.TAKEBACK.now
 event_word (events.Place place_events.Scan) = letters.SCAN.now
 event_word (events.Place place_events.DropPage) = letters.DROP.now
 event_word (events.Place place_events.SetShares) = letters.SHARES.now
+event_word (events.Place place_events.SetVmTax) = letters.VMTAX.now
 event_word events.Read = letters.READ.now
 event_word events.Write = letters.WRITE.now
 event_word events.Sample = letters.SAMPLE.now

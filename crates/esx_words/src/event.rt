@@ -28,16 +28,17 @@ fn machine_event(verb: MachineEvent, vm: VmId) -> Event
     }
 }
 
-fn place_event(verb: PlaceEvent, vm: VmId, page: u32) -> Event
-    ensures words { event_words result ≡ event_word (events.Place verb) ∷ decimal vm ∷ decimal page ∷ [] }
+fn place_event(verb: PlaceEvent, vm: VmId, number: u32) -> Event
+    ensures words { event_words result ≡ event_word (events.Place verb) ∷ decimal vm ∷ decimal number ∷ [] }
     ensures range { vm < VM_NUMBERS → IsEventInRange result }
 {
     match verb {
-        PlaceEvent::Lend => Event::Lend { vm, page },
-        PlaceEvent::TakeBack => Event::TakeBack { vm, page },
-        PlaceEvent::Scan => Event::Scan { vm, page },
-        PlaceEvent::DropPage => Event::DropPage { vm, page },
-        PlaceEvent::SetShares => Event::SetShares { vm, shares: page },
+        PlaceEvent::Lend => Event::Lend { vm, page: number },
+        PlaceEvent::TakeBack => Event::TakeBack { vm, page: number },
+        PlaceEvent::Scan => Event::Scan { vm, page: number },
+        PlaceEvent::DropPage => Event::DropPage { vm, page: number },
+        PlaceEvent::SetShares => Event::SetShares { vm, shares: number },
+        PlaceEvent::SetVmTax => Event::SetVmTax { vm, tau: number },
     }
 }
 
@@ -63,7 +64,7 @@ pub fn event_of(
             None => Ok(None),
         },
         EventVerb::Place { verb } => match place(fields) {
-            Some((vm, page)) => Ok(Some(place_event(verb, vm, page))),
+            Some((vm, number)) => Ok(Some(place_event(verb, vm, number))),
             None => Ok(None),
         },
         EventVerb::Read => match range(fields) {

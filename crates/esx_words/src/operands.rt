@@ -1,12 +1,12 @@
 //! All that is left of a line, read as values of some kinds.
 
-ghost use Rattle.std.specs.Prelude.{◌≡◌, ◌∷◌, [], ◌<◌, ◌≤◌, ◌^◌, decimal, ℕ, List, IfSome, IfNone, IfOk, OnErr, length, map};
+ghost use Rattle.std.specs.Prelude.{◌≡◌, ◌∷◌, [], ◌<◌, ◌≤◌, ◌^◌, decimal, ℕ, List, Option, IfSome, IfNone, IfOk, OnErr, length, map};
 ghost use Rattle.std.specs.List.{AllByRecursion};
 ghost use Rattle.hex.specs.Hex.{encode_lower};
 ghost use Rattle.esx_types.specs.declared.config.TheConstants.{VM_NUMBERS};
 ghost use Rattle.esx_events.specs.Names.{IsName};
 ghost use Rattle.esx_reading.specs.Written.{IsWritten};
-ghost use Rattle.esx_words.specs.Kinds.{TakeMemory, MayBeNumbers};
+ghost use Rattle.esx_words.specs.Kinds.{TakeMemory, MayBeNumbers, perhaps_number, IsPerhapsNumber};
 ghost use Rattle.esx_words.specs.Commands.{event_kinds};
 ghost use Rattle.esx_words.specs.declared.verbs.EventVerb.TheVariants as events;
 
@@ -97,27 +97,39 @@ pub fn range(fields: &mut Fields) -> Option<(VmId, u32, u32, u32)>
     }
 }
 
+/// A number, or nothing.
+fn perhaps_number(fields: &mut Fields) -> Option<Option<u32>>
+    ensures some { IfSome result (λ n. IsPerhapsNumber n × (fields.old ≡ perhaps_number n)) }
+    ensures none { IfNone result ((n : Option ℕ) → IsPerhapsNumber n → fields.old ≡ perhaps_number n → ⊥) }
+{
+    if fields.is_empty() {
+        return Some(None);
+    }
+    let number = number(fields)?;
+    Some(Some(number))
+}
+
 /// A virtual machine and what it asks for.
 pub fn spec(fields: &mut Fields) -> Option<(VmId, VmSpec)>
-    ensures some { IfSome result (λ p. (p.0 < VM_NUMBERS)
-        × (fields.old ≡ decimal p.0 ∷ decimal p.1.min ∷ decimal p.1.max ∷ decimal p.1.overhead ∷ decimal p.1.shares ∷ decimal p.1.balloon_max ∷ [])) }
-    ensures none { IfNone result ((vm min max overhead shares balloon : ℕ) → vm < VM_NUMBERS → min < 2 ^ 32 → max < 2 ^ 32
-        → overhead < 2 ^ 32 → shares < 2 ^ 32 → balloon < 2 ^ 32
-        → fields.old ≡ decimal vm ∷ decimal min ∷ decimal max ∷ decimal overhead ∷ decimal shares ∷ decimal balloon ∷ [] → ⊥) }
+    ensures some { IfSome result (λ p. (p.0 < VM_NUMBERS) × IsPerhapsNumber p.1.tau
+        × (fields.old ≡ decimal p.0 ∷ decimal p.1.min ∷ decimal p.1.max ∷ decimal p.1.overhead ∷ decimal p.1.shares ∷ decimal p.1.balloon_max
+        ∷ perhaps_number p.1.tau)) }
+    ensures none { IfNone result ((vm min max overhead shares balloon : ℕ) (tau : Option ℕ) → vm < VM_NUMBERS → min < 2 ^ 32 → max < 2 ^ 32
+        → overhead < 2 ^ 32 → shares < 2 ^ 32 → balloon < 2 ^ 32 → IsPerhapsNumber tau
+        → fields.old ≡ decimal vm ∷ decimal min ∷ decimal max ∷ decimal overhead ∷ decimal shares ∷ decimal balloon ∷ perhaps_number tau → ⊥) }
 {
     let vm = fields.vm()?;
     let (min, max) = fields.pair()?;
     let (overhead, shares) = fields.pair()?;
     let balloon_max = fields.number()?;
-    if !fields.is_empty() {
-        return None;
-    }
+    let tau = perhaps_number(fields)?;
     let spec = VmSpec {
         min,
         max,
         overhead,
         shares,
         balloon_max,
+        tau,
     };
     Some((vm, spec))
 }

@@ -5,7 +5,8 @@ ghost use Rattle.hex.specs.Hex.{encode_lower};
 ghost use Rattle.esx_reading.specs.Fields.{joined};
 ghost use Rattle.esx_words.specs.Commands.{event_words, spelling};
 ghost use Rattle.esx_writing.specs.Writing.{Writes, Puts, sink_faults};
-ghost use Rattle.esx_words.specs.Printing.{word_text, next_text, sample_head, tried_head};
+ghost use Rattle.esx_words.specs.Kinds.{perhaps_number};
+ghost use Rattle.esx_words.specs.Printing.{word_text, perhaps_text, spec_head, next_text, sample_head, tried_head};
 ghost use Rattle.esx_events.specs.Lists.{IsTriable};
 ghost use Rattle.esx_events.specs.declared.call.Call.TheVariants as calls;
 
@@ -180,16 +181,16 @@ fn put_written<'x, W: Sink>(
     )
 }
 
-/// A first word, a virtual machine and what it asks for.
-fn put_spec<W: Sink>(
+/// A first word, a virtual machine and what it asks for, but for a tax of its own.
+fn put_spec_head<W: Sink>(
     sink: &mut W,
     held: &mut AnswerBuffer,
     verb: &str,
     vm: VmId,
     spec: VmSpec,
 ) -> Result<(), SinkFailed>
-    ensures bytes { Puts (W.contents sink.old) held.old (W.contents sink.new) held.new (joined (verb.now ∷ decimal vm ∷ decimal spec.min ∷ decimal spec.max ∷ decimal spec.overhead ∷ decimal spec.shares ∷ decimal spec.balloon_max ∷ [])) result }
-    ensures utf8 { OnOk result (IsUtf8 (joined (verb.now ∷ decimal vm ∷ decimal spec.min ∷ decimal spec.max ∷ decimal spec.overhead ∷ decimal spec.shares ∷ decimal spec.balloon_max ∷ []))) }
+    ensures bytes { Puts (W.contents sink.old) held.old (W.contents sink.new) held.new (spec_head verb.now vm spec) result }
+    ensures utf8 { OnOk result (IsUtf8 (spec_head verb.now vm spec)) }
     ensures failures { W.failures sink.new ≡ W.failures sink.old + sink_faults result }
     ensures flushes { W.flushes sink.new ≡ W.flushes sink.old }
 {
@@ -212,6 +213,50 @@ fn put_spec<W: Sink>(
             u64::from(spec.balloon_max),
         ],
     )
+}
+
+/// A further word.
+fn put_word<W: Sink>(sink: &mut W, held: &mut AnswerBuffer, word: u64) -> Result<(), SinkFailed>
+    ensures bytes { Puts (W.contents sink.old) held.old (W.contents sink.new) held.new (word_text word) result }
+    ensures utf8 { OnOk result (IsUtf8 (word_text word)) }
+    ensures failures { W.failures sink.new ≡ W.failures sink.old + sink_faults result }
+    ensures flushes { W.flushes sink.new ≡ W.flushes sink.old }
+{
+    put_line(sink, held, &line![" ", word])
+}
+
+/// A further number, if there is one.
+fn put_perhaps_number<W: Sink>(
+    sink: &mut W,
+    held: &mut AnswerBuffer,
+    number: Option<u32>,
+) -> Result<(), SinkFailed>
+    ensures bytes { Puts (W.contents sink.old) held.old (W.contents sink.new) held.new (perhaps_text number) result }
+    ensures utf8 { OnOk result (IsUtf8 (perhaps_text number)) }
+    ensures failures { W.failures sink.new ≡ W.failures sink.old + sink_faults result }
+    ensures flushes { W.flushes sink.new ≡ W.flushes sink.old }
+{
+    match number {
+        Some(number) => put_word(sink, held, u64::from(number)),
+        None => Ok(()),
+    }
+}
+
+/// A first word, a virtual machine and what it asks for.
+fn put_spec<W: Sink>(
+    sink: &mut W,
+    held: &mut AnswerBuffer,
+    verb: &str,
+    vm: VmId,
+    spec: VmSpec,
+) -> Result<(), SinkFailed>
+    ensures bytes { Puts (W.contents sink.old) held.old (W.contents sink.new) held.new (joined (verb.now ∷ decimal vm ∷ decimal spec.min ∷ decimal spec.max ∷ decimal spec.overhead ∷ decimal spec.shares ∷ decimal spec.balloon_max ∷ perhaps_number spec.tau)) result }
+    ensures utf8 { OnOk result (IsUtf8 (joined (verb.now ∷ decimal vm ∷ decimal spec.min ∷ decimal spec.max ∷ decimal spec.overhead ∷ decimal spec.shares ∷ decimal spec.balloon_max ∷ perhaps_number spec.tau))) }
+    ensures failures { W.failures sink.new ≡ W.failures sink.old + sink_faults result }
+    ensures flushes { W.flushes sink.new ≡ W.flushes sink.old }
+{
+    put_spec_head(sink, held, verb, vm, spec)?;
+    put_perhaps_number(sink, held, spec.tau)
 }
 
 /// A first word and a name.
@@ -239,20 +284,6 @@ fn put_alone<W: Sink>(sink: &mut W, held: &mut AnswerBuffer, verb: &str) -> Resu
     put_line(sink, held, &verb)
 }
 
-/// A further word.
-fn put_sample_word<W: Sink>(
-    sink: &mut W,
-    held: &mut AnswerBuffer,
-    word: u64,
-) -> Result<(), SinkFailed>
-    ensures bytes { Puts (W.contents sink.old) held.old (W.contents sink.new) held.new (word_text word) result }
-    ensures utf8 { OnOk result (IsUtf8 (word_text word)) }
-    ensures failures { W.failures sink.new ≡ W.failures sink.old + sink_faults result }
-    ensures flushes { W.flushes sink.new ≡ W.flushes sink.old }
-{
-    put_line(sink, held, &line![" ", word])
-}
-
 /// Further words.
 fn put_sample_words<W: Sink>(
     sink: &mut W,
@@ -265,7 +296,7 @@ fn put_sample_words<W: Sink>(
     ensures flushes { W.flushes sink.new ≡ W.flushes sink.old }
 {
     for word in words {
-        put_sample_word(sink, held, *word)?;
+        put_word(sink, held, *word)?;
     }
     Ok(())
 }
@@ -339,6 +370,7 @@ pub fn put_event<W: Sink>(
         ),
         Event::SetShares { vm, shares } => put_place(sink, held, verbs::SHARES, *vm, *shares),
         Event::SetTax { tau } => put_number(sink, held, verbs::TAX, *tau),
+        Event::SetVmTax { vm, tau } => put_place(sink, held, verbs::VMTAX, *vm, *tau),
         Event::Stop { vm } => put_machine(sink, held, verbs::STOP, *vm),
         Event::DropPage { vm, page } => put_place(sink, held, verbs::DROP, *vm, *page),
         Event::Gone { vm } => put_machine(sink, held, verbs::GONE, *vm),

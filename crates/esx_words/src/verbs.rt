@@ -29,6 +29,8 @@ pub const DROP: &str = "drop";
 
 pub const SHARES: &str = "shares";
 
+pub const VMTAX: &str = "vmtax";
+
 pub const READ: &str = "read";
 
 pub const WRITE: &str = "write";
@@ -88,6 +90,7 @@ pub enum PlaceEvent {
     Scan,
     DropPage,
     SetShares,
+    SetVmTax,
 }
 
 /// First words of events.
@@ -319,6 +322,11 @@ fn verb_of_five(word: &str) -> Option<Verb>
         }),
         TABLE => Some(Verb::Alone {
             verb: AloneVerb::Table,
+        }),
+        VMTAX => Some(Verb::Event {
+            verb: EventVerb::Place {
+                verb: PlaceEvent::SetVmTax,
+            },
         }),
         _ => None,
     }

@@ -24,7 +24,7 @@ loop-entry-preserved g c =
     let so_far = c.loop-entry.invariant in
     let done = c.loop-entry.yielded in
     let e = c.in-Some.entry in
-    let step : c.loop-entry.entry-iterator.rest.items ≡ e ∷ c.next.new.self.rest.items = search rules in
+    let step : c.loop-entry.entry-iterator.rest.items ≡ e ∷ c.next.new.self.rest.items = c.in-Some.ensures.steps.0 in
     let is = c.in_ok-has_same_reply.ensures in
     record {
       can_next = tt;
@@ -43,7 +43,7 @@ returns-then-not-branch-clause-ok g c =
     let so_far = c.loop-entry.invariant in
     let done = c.loop-entry.yielded in
     let e = c.in-Some.entry in
-    let step : c.loop-entry.entry-iterator.rest.items ≡ e ∷ c.next.new.self.rest.items = search rules in
+    let step : c.loop-entry.entry-iterator.rest.items ≡ e ∷ c.next.new.self.rest.items = c.in-Some.ensures.steps.0 in
     let is = c.in_ok-has_same_reply.ensures in
     differs_here _ c.args.entries.items done c.next.new.self.rest.items e c.loop-entry.count (so_far.split ∙ ap (λ v. done ++ v) step) so_far.same
     (is_not _ _ (is.same (made _ done) so_far.console) c.if-not-branch.true) so_far.count
@@ -56,7 +56,7 @@ returns-in_err-has_same_reply-clause-some g c =
     let so_far = c.loop-entry.invariant in
     let done = c.loop-entry.yielded in
     let e = c.in-Some.entry in
-    let step : c.loop-entry.entry-iterator.rest.items ≡ e ∷ c.next.new.self.rest.items = search rules in
+    let step : c.loop-entry.entry-iterator.rest.items ≡ e ∷ c.next.new.self.rest.items = c.in-Some.ensures.steps.0 in
     let goes = goes_to_next _ c.args.entries.items done c.next.new.self.rest.items e c.loop-entry.count (so_far.split ∙ ap (λ v. done ++ v) step) so_far.same so_far.count in
     let split = so_far.split ∙ ap (λ v. done ++ v) step in
     let wants : NextWantsMemory c.args.site c.args.entries.items c.loop-entry.count = record {

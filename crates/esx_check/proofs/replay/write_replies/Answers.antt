@@ -18,7 +18,7 @@ loop-request-init g c = record {
 pub loop-request-preserved : goal.loop-request-preserved
 loop-request-preserved g c =
     let inv = c.loop-request.invariant in
-    let step : c.loop-request.request-iterator.rest.items ≡ c.in-Some.request ∷ c.next.new.self.rest.items = search rules in
+    let step : c.loop-request.request-iterator.rest.items ≡ c.in-Some.request ∷ c.next.new.self.rest.items = c.in-Some.ensures.steps.0 in
     let is = c.in_ok-written.ensures in
     record {
       can_next = tt;
@@ -35,7 +35,7 @@ loop-request-preserved g c =
 pub returns-in_err-written-clause-fault : goal.returns-in_err-written-clause-fault
 returns-in_err-written-clause-fault g c = λ site entries answers are.
     let so_far = c.loop-request.invariant.so_far site entries answers are in
-    let step : c.loop-request.request-iterator.rest.items ≡ c.in-Some.request ∷ c.next.new.self.rest.items = search rules in
+    let step : c.loop-request.request-iterator.rest.items ≡ c.in-Some.request ∷ c.next.new.self.rest.items = c.in-Some.ensures.steps.0 in
     let stops = c.in_err-written.ensures in
     handed_on c.from_residual.result c.in_err-written.field-0.0 _ c.from_residual.ensures.1
     (stops_at_request site entries _ _ c.in-Some.request _ _ _ _ so_far step c.in_err-written.field-0.0 (stops.fault (made site so_far.done) so_far.answers)

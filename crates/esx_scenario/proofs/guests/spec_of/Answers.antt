@@ -17,5 +17,8 @@ returns-in_err-shares-clause-exact c = refuses _ _ _ c.from_residual-in_err-shar
 pub returns-in_err-balloon-clause-exact : goal.returns-in_err-balloon-clause-exact
 returns-in_err-balloon-clause-exact c = refuses _ _ _ c.from_residual-in_err-balloon.ensures.1 (then_ok _ _ _ _ c.in_ok-min.ensures.exact (then_ok _ _ _ _ c.in_ok-max.ensures.exact (then_ok _ _ _ _ c.in_ok-overhead.ensures.exact (then_ok _ _ _ _ c.in_ok-shares.ensures.exact (then_err _ _ _ c.in_err-balloon.ensures.exact)))))
 
+pub returns-in_err-tau-clause-exact : goal.returns-in_err-tau-clause-exact
+returns-in_err-tau-clause-exact c = refuses _ _ _ c.from_residual-in_err-tau.ensures.1 (then_ok _ _ _ _ c.in_ok-min.ensures.exact (then_ok _ _ _ _ c.in_ok-max.ensures.exact (then_ok _ _ _ _ c.in_ok-overhead.ensures.exact (then_ok _ _ _ _ c.in_ok-shares.ensures.exact (then_ok _ _ _ _ c.in_ok-balloon.ensures.exact (then_err _ _ _ c.in_err-tau.ensures.exact))))))
+
 pub returns-clause-exact : goal.returns-clause-exact
-returns-clause-exact c = then_ok _ _ _ _ c.in_ok-min.ensures.exact (then_ok _ _ _ _ c.in_ok-max.ensures.exact (then_ok _ _ _ _ c.in_ok-overhead.ensures.exact (then_ok _ _ _ _ c.in_ok-shares.ensures.exact (then_ok _ _ _ _ c.in_ok-balloon.ensures.exact refl))))
+returns-clause-exact c = then_ok _ _ _ _ c.in_ok-min.ensures.exact (then_ok _ _ _ _ c.in_ok-max.ensures.exact (then_ok _ _ _ _ c.in_ok-overhead.ensures.exact (then_ok _ _ _ _ c.in_ok-shares.ensures.exact (then_ok _ _ _ _ c.in_ok-balloon.ensures.exact (then_ok _ _ _ _ c.in_ok-tau.ensures.exact refl)))))

@@ -5,5 +5,5 @@ use Rattle.esx_scenario.proofs.strange.least_in.Given as goal
 
 abbrev pub invariant-members : goal.invariant-members
 invariant-members l =
-    fold lesser (option_map string_bytes l.fn.least) (strange_in l.place l.prefix (members_view l.table.entries))
-    ≡ fold lesser (option_map string_bytes l.least) (strange_in l.place l.prefix (members_view l.key-iterator))
+    fold lesser (option_map string_bytes l.fn.least) (strange_in l.version l.place l.prefix (members_view l.table.entries))
+    ≡ fold lesser (option_map string_bytes l.least) (strange_in l.version l.place l.prefix (members_view l.key-iterator))

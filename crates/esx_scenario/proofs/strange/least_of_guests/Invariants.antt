@@ -5,5 +5,5 @@ use Rattle.esx_scenario.proofs.strange.least_of_guests.Given as goal
 
 abbrev pub invariant-loop-place : goal.invariant-loop-place
 invariant-loop-place l =
-    fold lesser (option_map string_bytes l.fn.least) (strange_from 0 (items_view l.values))
-    ≡ fold lesser (option_map string_bytes l.least) (strange_from l.place (items_view (drop l.place l.values)))
+    fold lesser (option_map string_bytes l.fn.least) (strange_from l.version 0 (items_view l.values))
+    ≡ fold lesser (option_map string_bytes l.least) (strange_from l.version l.place (items_view (drop l.place l.values)))

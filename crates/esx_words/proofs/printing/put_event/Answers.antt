@@ -83,6 +83,12 @@ returns-in-SetTax-clause-bytes g c = puts_same _ _ _ _ _ _ _ (sym (ap (λ (e : E
 pub returns-in-SetTax-clause-utf8 : goal.returns-in-SetTax-clause-utf8
 returns-in-SetTax-clause-utf8 g c = utf8_same _ _ _ (sym (ap (λ (e : Event). joined (event_words e)) c.in-SetTax.is)) c.put_number.ensures.utf8
 
+pub returns-in-SetVmTax-clause-bytes : goal.returns-in-SetVmTax-clause-bytes
+returns-in-SetVmTax-clause-bytes g c = puts_same _ _ _ _ _ _ _ (sym (ap (λ (e : Event). joined (event_words e)) c.in-SetVmTax.is)) c.put_place-in-SetVmTax.ensures.bytes
+
+pub returns-in-SetVmTax-clause-utf8 : goal.returns-in-SetVmTax-clause-utf8
+returns-in-SetVmTax-clause-utf8 g c = utf8_same _ _ _ (sym (ap (λ (e : Event). joined (event_words e)) c.in-SetVmTax.is)) c.put_place-in-SetVmTax.ensures.utf8
+
 pub returns-in-Stop-clause-bytes : goal.returns-in-Stop-clause-bytes
 returns-in-Stop-clause-bytes g c = puts_same _ _ _ _ _ _ _ (sym (ap (λ (e : Event). joined (event_words e)) c.in-Stop.is)) c.put_machine-in-Stop.ensures.bytes
 
