@@ -1,6 +1,7 @@
 use Rattle.std.proofs.Common.{◌≡◌, ◌∙◌, ◌+◌, ℕ, List, Some, map, ap, sym, subst, length, slice_get}
 use Rattle.std.specs.Borrow.{Bor}
 use Rattle.esx_events.specs.declared.call.Line.{Line}
+use Rattle.esx_events.specs.declared.event.Refusal.{Refusal}
 use Rattle.esx_scenario.specs.declared.plan.Guest.{Guest}
 use Rattle.esx_scenario.specs.Plans.{Plan}
 use Rattle.esx_opening.specs.Orders.{in_order}
@@ -26,11 +27,14 @@ pub returns-in_err-console-clause-refused : goal.returns-in_err-console-clause-r
 returns-in_err-console-clause-refused g c = handed_on c.from_residual.result c.in_err-console.field-0.0 _ c.from_residual.ensures.1 (λ e is. c.in_err-console.ensures.refused e is)
 
 -- want of memory is no refusal
+no_refusal : (e : Refusal) → faults.OutOfMemory ≡ faults.Refused e → ⊥
+no_refusal e is = cc
+
 pub returns-in_err-machines-clause-refused : goal.returns-in_err-machines-clause-refused
-returns-in_err-machines-clause-refused g c = handed_on c.from_residual-in_err-machines.result faults.OutOfMemory _ c.from_residual-in_err-machines.ensures.1 (λ e is. cc)
+returns-in_err-machines-clause-refused g c = handed_on c.from_residual-in_err-machines.result faults.OutOfMemory _ c.from_residual-in_err-machines.ensures.1 (λ e is. absurd (no_refusal e is))
 
 pub returns-in_err-workers-clause-refused : goal.returns-in_err-workers-clause-refused
-returns-in_err-workers-clause-refused g c = handed_on c.from_residual-in_err-workers.result faults.OutOfMemory _ c.from_residual-in_err-workers.ensures.1 (λ e is. cc)
+returns-in_err-workers-clause-refused g c = handed_on c.from_residual-in_err-workers.result faults.OutOfMemory _ c.from_residual-in_err-workers.ensures.1 (λ e is. absurd (no_refusal e is))
 
 pub returns : goal.returns
 returns g c =
