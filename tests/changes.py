@@ -17,25 +17,34 @@ from program import Told, Wrong, ask, expect, file_of
 SEED = 20021209
 COUNTS = {"lines": 6000, "sessions": 2000, "scenarios": 1700, "words": 300}
 LINES_AT_ONCE = 200
-EDGES = ["0", "1", "00", "01", "31", "32", "63", "64", "99", "100", "255", "4096", "65536", "65537", "1048576", "1048577",
-         "4294967295", "4294967296", "18446744073709551615", "18446744073709551616", "9" * 40, "-1", "+1", "1.0", "1e3", "0x1",
-         "1_0", "", "x", "true", '"1"', "9223372036854775807", "9223372036854775808"]
+EDGES = ["0", "1", "2", "3", "00", "01", "31", "32", "63", "64", "99", "100", "255", "256", "511", "512", "4096", "65536",
+         "65537", "1048576", "1048577", "4294967295", "4294967296", "18446744073709551615", "18446744073709551616", "9" * 40,
+         "-1", "+1", "1.0", "1e3", "0x1", "1_0", "", "x", "true", '"1"', "9223372036854775807", "9223372036854775808"]
 PIECES = [b" ", b"  ", b"\n", b"\n\n", b"\r\n", b"\r", b"\t", b"#", b"= ", b"=", b"0", b"9", b"-", b".", b"[", b"]", b'"',
           b"'", b";", b"; ", b",", b"\0", b"\x7f", b"\xff", "é".encode(), b"a", b"Z", b"_", b"end 1", b"end", b"esx session 1",
-          b"session", b"[[vm]]\n", b"[run]\n", b"id = 1\n", b"tau = 3\n", b"x.y = 1\n"]
+          b"esx session 2", b"session", b"[[vm]]\n", b"[run]\n", b"id = 1\n", b"tau = 3\n", b"x.y = 1\n", b"version = 1\n"]
+PAIRS = [(0, 1), (0, 200), (31, 32), (254, 255)]  # the two machines that are opened
 
 
 def number(draw, most):
     return draw.choice(EDGES) if draw.random() < 0.03 else str(draw.randrange(most))
 
 
-def event(draw):
-    """An event, mostly of machines 0 and 1 with pages 0 to 6."""
+def machine(draw, pair):
+    return draw.choice(EDGES) if draw.random() < 0.03 else str(draw.choice(pair))
+
+
+def event(draw, pair):
+    """An event, mostly of one of two machines and with pages 0 to 6."""
     word = draw.choice(list(reader.EVENTS))
-    vm, page = number(draw, 2), number(draw, 7)
+    vm, page = machine(draw, pair), number(draw, 7)
     if word == "admit":
         least = draw.choice([1, 1, 2, 3])
-        return f"admit {vm} {least} {least + draw.choice([0, 2, 4])} {number(draw, 4)} {number(draw, 2000)} {number(draw, 3)}"
+        own_tax = draw.choice(["", "", f" {number(draw, 102)}"])
+        return (f"admit {vm} {least} {least + draw.choice([0, 2, 4])} {number(draw, 4)} {number(draw, 2000)} {number(draw, 3)}"
+                f"{own_tax}")
+    if word == "vmtax":
+        return f"vmtax {vm} {number(draw, 102)}"
     if word == "read":
         return f"read {vm} {page} {number(draw, 16)} {number(draw, 18)}"
     if word == "write":
@@ -47,13 +56,13 @@ def event(draw):
     return " ".join([word] + [vm if kind == reader.VM else page for kind in reader.EVENTS[word]])
 
 
-def command(draw):
+def command(draw, pair=PAIRS[0]):
     word = draw.choice(["event"] * 12 + list(reader.OTHERS) + ["whatif", "session", "#", ""])
     if word == "event":
-        return event(draw)
+        return event(draw, pair)
     if word == "whatif":
-        return "whatif " + "; ".join(event(draw) for _ in range(draw.choice([1, 2, 3, 64, 65])))
-    fields = {"name": draw.choice(["base", "a-1", "x_9", "z" * 32, "z" * 33, "Top"]), reader.VM: number(draw, 2),
+        return "whatif " + "; ".join(event(draw, pair) for _ in range(draw.choice([1, 2, 3, 64, 65])))
+    fields = {"name": draw.choice(["base", "a-1", "x_9", "z" * 32, "z" * 33, "Top"]), reader.VM: machine(draw, pair),
               reader.NUMBER: number(draw, 6)}
     return " ".join([word] + [fields[kind] for kind in reader.OTHERS.get(word, [])])
 
@@ -97,7 +106,8 @@ def made_other(draw, data):
     return other
 
 
-OPENING = [b"admit 0 2 6 1 1000 2", b"start 0", b"admit 1 1 3 1 500 0", b"start 1"]
+def opening(one, other):
+    return [b"admit %d 2 6 1 1000 2" % one, b"start %d" % one, b"admit %d 1 3 1 500 0" % other, b"start %d" % other]
 
 
 def told_calls(calls):
@@ -108,9 +118,10 @@ def told_calls(calls):
 def check_lines(program, draw, count):
     """Batches of lines, each with `session` at its end; gives the sessions, which are checked too."""
     for _ in range(0, count, LINES_AT_ONCE):
-        drawn = [command(draw).encode() for _ in range(LINES_AT_ONCE)]
+        pair = draw.choice(PAIRS)
+        drawn = [command(draw, pair).encode() for _ in range(LINES_AT_ONCE)]
         pieces = [made_other(draw, line) if draw.random() < 0.5 else line for line in drawn]
-        asked = b"\n".join(OPENING + pieces + [b"session"]) + b"\n"
+        asked = b"\n".join(opening(*pair) + pieces + [b"session"]) + b"\n"
         wanted = console.answers(Console(console.FIRST_SITE), asked)
         told = ask(program, [], asked)
         if told != Told(0, b"".join(wanted), b""):
@@ -122,9 +133,10 @@ def check_lines(program, draw, count):
 
 
 def short_sessions(draw, sessions):
-    """Sessions of the first few calls of those that were told."""
-    head = b"\n".join(words.EMPTY.split(b"\n")[:2]) + b"\n"
-    return [words.SESSION, words.EMPTY] + [head + told_calls(session.calls[:draw.randint(4, 20)]) for session in sessions]
+    """Sessions of the first few calls of those that were told, and the same as texts of version 1, which some of them are."""
+    told = [words.EMPTY[:-len(b"end 0\n")] + told_calls(session.calls[:draw.randint(4, 20)]) for session in sessions]
+    return ([words.SESSION, words.OLD_SESSION, words.EMPTY] + told
+            + [text.replace(b"session 2", b"session 1", 1) for text in told])
 
 
 def check_sessions(program, draw, count, sessions):
@@ -148,8 +160,8 @@ def check_sessions(program, draw, count, sessions):
 
 def check_scenarios(program, draw, count):
     """How many of the changed ones were scenarios."""
-    two = words.SCENARIO + words.SCENARIO[words.SCENARIO.index(b"[[vm]]"):].replace(b"id = 7", b"id = 0")
-    bases, good = [words.SCENARIO, two, console.scenario_of([20, 16, 8, 75, 6, 4, 2, 1, 5])], 0
+    two = words.SCENARIO + words.SCENARIO[words.SCENARIO.index(b"[[vm]]"):].replace(b"id = 200", b"id = 0")
+    bases, good = [words.SCENARIO, words.OLD_SCENARIO, two, console.scenario_of([20, 16, 8, 75, 6, 4, 2, 1, 5])], 0
     for _ in range(count):
         text = made_other(draw, draw.choice(bases))
         wanted, frames = reader.told_of_scenario(text)

@@ -173,7 +173,7 @@ class Console:
 
     def session(self):
         frames, page, slots, tau, *levels, nodes = self.numbers
-        lines = ["esx session 1", f"frames {frames} page {page} slots {slots} tau {tau} levels "
+        lines = ["esx session 2", f"frames {frames} page {page} slots {slots} tau {tau} levels "
                  f"{' '.join(map(str, levels))} nodes {nodes}"]
         for caller, text, reply in self.log:
             lines += [f"{caller} {text}"] + [f"= {line}" for line in reply]
@@ -185,8 +185,8 @@ DEFAULTS = [None, None, None, 75, 6, 4, 2, 1, 2**24]
 FIRST_SITE = [20, 16, 8, 75, 6, 4, 2, 1, 2**24]
 
 
-def scenario_of(site):
-    return ("version = 1\n[machine]\n" + "".join(f"{name} = {one}\n" for name, one in zip(SITE_KEYS, site))).encode()
+def scenario_of(site, version=2):
+    return (f"version = {version}\n[machine]\n" + "".join(f"{name} = {one}\n" for name, one in zip(SITE_KEYS, site))).encode()
 
 
 def bytes_of(lines):

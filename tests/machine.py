@@ -33,11 +33,16 @@ def key(data):
     return hashlib.sha256(data).digest()[:8]
 
 
-class Vm:
-    """A virtual machine. A page that has no place is untouched."""
+def short(data):
+    """The upper half of the key, under which hints stand."""
+    return key(data)[:4]
 
-    def __init__(self, least, most, needed, shares, balloon):
-        self.least, self.most, self.needed, self.shares, self.balloon = least, most, needed, shares, balloon
+
+class Vm:
+    """A virtual machine. A page that has no place is untouched. Its tax is none where it pays the site's."""
+
+    def __init__(self, least, most, needed, shares, balloon, tau=None):
+        self.least, self.most, self.needed, self.shares, self.balloon, self.tau = least, most, needed, shares, balloon, tau
         self.state, self.target, self.epoch, self.is_due = "starting", most, 0, False
         self.overhead, self.slow, self.fast, self.period, self.pages = [], 65536, 65536, None, {}
 
@@ -86,14 +91,16 @@ class Vm:
 
 class Claim:
     """A machine's claim to so many pages. The least loses a page first: the one that has the fewest shares for what its pages
-    cost, where idle ones cost more by the tax, and of equal ones that of the lower number."""
+    cost, where idle ones cost more by the tax, and of equal ones that of the lower number. The tax is taken off the shares too,
+    so that it cancels where all pages are used: what a machine is taxed tells on its idle pages alone."""
 
     def __init__(self, site, number, pages):
         vm = site.vms[number]
-        self.number, self.shares, self.cost = number, vm.shares, pages * (6553600 - site.tau * vm.active())
+        tau = site.tau if vm.tau is None else vm.tau
+        self.number, self.left, self.cost = number, vm.shares * (100 - tau), pages * (6553600 - tau * vm.active())
 
     def __lt__(self, other):
-        left, right = self.shares * other.cost, other.shares * self.cost
+        left, right = self.left * other.cost, other.left * self.cost
         return left < right or left == right and self.number < other.number
 
 
@@ -107,7 +114,7 @@ class Site:
         self.vms = {}
         self.free, self.free_slots = list(range(frames)), list(range(slots))  # heaps
         self.at = {}                                                         # the pages that are in a frame
-        self.shared, self.hints, self.hint_of = {}, {}, {}                   # by key, by key, by page
+        self.shared, self.hints, self.hint_of = {}, {}, {}                   # by key, by short, by page
 
     def copy(self):
         other = object.__new__(Site)
@@ -162,7 +169,7 @@ class Site:
         self.put(page, Here(data, heapq.heappop(self.free), False))
 
     def hint(self, page):
-        under = key(self.place(page).data)
+        under = short(self.place(page).data)
         self.unhint(page)
         self.hints[under], self.hint_of[page] = page, under
 
@@ -190,10 +197,11 @@ class Site:
             raise Refused(7)
         return vm
 
-    def admit(self, number, least, most, overhead, shares, balloon):
+    def admit(self, number, least, most, overhead, shares, balloon, tau=None):
         if number in self.vms:
             raise Refused(2)
-        if not (1 <= least <= most <= 2**16 and 1 <= overhead <= 2**20 and 1 <= shares <= 2**20 and balloon <= most - least):
+        if not (1 <= least <= most <= 2**16 and 1 <= overhead <= 2**20 and 1 <= shares <= 2**20 and balloon <= most - least
+                and (tau is None or tau <= 99)):
             raise Refused(3)
         memory = least + overhead + sum(vm.least + vm.needed for vm in self.vms.values())
         swap = most - least + sum(vm.most - vm.least for vm in self.vms.values())
@@ -201,7 +209,7 @@ class Site:
             raise Refused(4)
         if swap > self.slots:
             raise Refused(5)
-        self.vms[number] = Vm(least, most, overhead, shares, balloon)
+        self.vms[number] = Vm(least, most, overhead, shares, balloon, tau)
         return f"ok memory {memory}/{self.frames} swap {swap}/{self.slots}"
 
     def start(self, number):
@@ -257,6 +265,13 @@ class Site:
         if tau > 99:
             raise Refused(3)
         self.tau = tau
+        return "ok"
+
+    def vmtax(self, number, tau):
+        vm = self.vm(number)
+        if tau > 99:
+            raise Refused(3)
+        vm.tau = tau
         return "ok"
 
     # Accesses.
@@ -379,14 +394,13 @@ class Site:
         place = self.place(page)
         if place.is_shared:
             return "already", None
-        under = key(place.data)
-        if under in self.shared:
-            other = min(self.at[self.shared[under]])
+        if key(place.data) in self.shared:
+            other = min(self.at[self.shared[key(place.data)]])
             return "shared" if self.place(other).data == place.data else "clash", other
-        other = self.hints.get(under, page)
+        other = self.hints.get(short(place.data), page)
         if other == page:
             return "hinted", None
-        if key(self.place(other).data) != under:
+        if short(self.place(other).data) != short(place.data):
             return "stale", other
         return "shared" if self.place(other).data == place.data else "clash", other
 

@@ -6,12 +6,17 @@ and of a scenario what is told of it. It is written to be read beside the README
 
 import re
 import tomllib
+from collections import namedtuple
 
-NUMBER, WORD, VM = "number", "word", "machine"
+NUMBER, WORD, VM, OWN_TAX = "number", "word", "machine", "own tax"
 
-# What follows the first word of each event.
+# What texts of each version may have: machines and callers below a number, and taxes of single machines, or none.
+Version = namedtuple("Version", "machines callers has_own_taxes")
+OLD, NEW = Version(32, 64, False), Version(256, 512, True)
+
+# What follows the first word of each event. An own tax may be left out.
 EVENTS = {
-    "admit": [VM, NUMBER, NUMBER, NUMBER, NUMBER, NUMBER],
+    "admit": [VM, NUMBER, NUMBER, NUMBER, NUMBER, NUMBER, OWN_TAX],
     "start": [VM],
     "read": [VM, NUMBER, NUMBER, NUMBER],
     "write": [VM, NUMBER, NUMBER, "bytes"],
@@ -25,6 +30,7 @@ EVENTS = {
     "replace": [VM, NUMBER, WORD],
     "shares": [VM, NUMBER],
     "tax": [NUMBER],
+    "vmtax": [VM, NUMBER],
     "stop": [VM],
     "drop": [VM, NUMBER],
     "gone": [VM],
@@ -54,38 +60,42 @@ def number(field, most):
     return int(field)
 
 
-def is_field(kind, field):
-    if kind == NUMBER:
+def is_field(kind, field, version):
+    if kind in (NUMBER, OWN_TAX):
         return number(field, 2**32 - 1) is not None
     if kind == WORD:
         return number(field, 2**64 - 1) is not None
     if kind == VM:
-        return number(field, 31) is not None
+        return number(field, version.machines - 1) is not None
     if kind == "bytes":
         return re.fullmatch(r"([0-9a-f]{2}){1,4096}", field) is not None
     return re.fullmatch(r"[a-z][a-z0-9_-]{0,31}", field) is not None
 
 
-def is_made_of(kinds, fields):
+def is_made_of(kinds, fields, version):
     if kinds[-1:] == ["words"]:
         kinds, words = kinds[:-1], fields[len(kinds) - 1:]
-        return (is_made_of(kinds, fields[:len(kinds)]) and len(words) <= 200
-                and all(is_field(WORD, word) for word in words))
-    return len(fields) == len(kinds) and all(is_field(kind, field) for kind, field in zip(kinds, fields))
+        return (is_made_of(kinds, fields[:len(kinds)], version) and len(words) <= 200
+                and all(is_field(WORD, word, version) for word in words))
+    if kinds[-1:] == [OWN_TAX] and len(fields) < len(kinds):
+        kinds = kinds[:-1]
+    return len(fields) == len(kinds) and all(is_field(kind, field, version) for kind, field in zip(kinds, fields))
 
 
-def is_event(text):
+def is_event(text, version=NEW):
     word, *fields = text.split(" ")
-    return word in EVENTS and is_made_of(EVENTS[word], fields)
+    if not version.has_own_taxes and (word == "vmtax" or word == "admit" and len(fields) > 6):
+        return False
+    return word in EVENTS and is_made_of(EVENTS[word], fields, version)
 
 
-def is_call(text):
-    """Whether a text is a command other than `session`."""
+def is_call(text, version=NEW):
+    """Whether a text is a command other than `session`, in a text of this version. At the console all are of the new one."""
     word, *fields = text.split(" ")
     if word == "whatif":
         events = text[len("whatif "):].split("; ")
-        return len(text) > len("whatif ") and len(events) <= 64 and all(is_event(event) for event in events)
-    return is_event(text) or word in OTHERS and is_made_of(OTHERS[word], fields)
+        return len(text) > len("whatif ") and len(events) <= 64 and all(is_event(event, version) for event in events)
+    return is_event(text, version) or word in OTHERS and is_made_of(OTHERS[word], fields, version)
 
 
 def lines_of(data):
@@ -137,9 +147,14 @@ class BadLine(Exception):
     """From this line on a text is no session."""
 
 
+HEADS = {"esx session 1": OLD, "esx session 2": NEW}
+
+
 def session_of(data):
+    """The session that some bytes are. Its first line tells the version, and so what its calls may be."""
     lines = [text_of(line) for line in lines_of(data)]
-    if lines[:1] != ["esx session 1"]:
+    version = HEADS.get(lines[0]) if lines else None
+    if version is None:
         raise BadLine(1)
     session = Session(site_of(lines[1] if len(lines) > 1 else None))
     if session.site is None:
@@ -156,7 +171,7 @@ def session_of(data):
             return session
         else:
             caller, _, call = line.partition(" ")
-            if not has_replies or number(caller, 63) is None or not is_call(call):
+            if not has_replies or number(caller, version.callers - 1) is None or not is_call(call, version):
                 raise BadLine(at)
             session.calls.append((int(caller), call, []))
     raise BadLine(len(lines) + 1)
@@ -189,7 +204,7 @@ def integer(table, key, path, least, most, default=None):
 def is_trace_line(line, pages, page):
     """Whether it is a command of a machine with so many pages of so many bytes, without its number."""
     word, *fields = line.split(" ") if isinstance(line, str) and line.isascii() else [""]
-    if word not in ("read", "write", "ask", "lend", "takeback") or not is_made_of(EVENTS[word][1:], fields):
+    if word not in ("read", "write", "ask", "lend", "takeback") or not is_made_of(EVENTS[word][1:], fields, NEW):
         return False
     if word == "ask":
         return True
@@ -220,8 +235,8 @@ def read_run(run):
         integer(run, key, "run.", least, most, 1)
 
 
-def read_vm(vm, path, taken, page):
-    number_of_it = integer(vm, "id", path, 0, 31)
+def read_vm(vm, path, taken, page, version):
+    number_of_it = integer(vm, "id", path, 0, version.machines - 1)
     if number_of_it in taken:
         raise BadKey(f"{path}id")
     taken.add(number_of_it)
@@ -230,6 +245,8 @@ def read_vm(vm, path, taken, page):
     integer(vm, "overhead", path, 1, 2**20)
     integer(vm, "shares", path, 1, 2**20)
     integer(vm, "balloon", path, 0, pages - least)
+    if version.has_own_taxes:
+        integer(vm, "tau", path, 0, 99, 0)
     trace = vm.get("trace", [])
     if not isinstance(trace, list) or len(trace) > 2**16 or not all(is_trace_line(line, pages, page) for line in trace):
         raise BadKey(f"{path}trace")
@@ -240,12 +257,13 @@ RUN = {"seed", "turns", "sample", "length"}
 MACHINE_OF_SITE = {"id", "min", "max", "overhead", "shares", "balloon", "trace"}
 
 
-def unknown_keys(table, vms):
+def unknown_keys(table, vms, version):
+    known = MACHINE_OF_SITE | ({"tau"} if version.has_own_taxes else set())
     paths = [key for key in table if key not in ("version", "machine", "run", "vm")]
     paths += [f"machine.{key}" for key in table["machine"] if key not in MACHINE]
     paths += [f"run.{key}" for key in table.get("run", {}) if key not in RUN]
     for place, vm in enumerate(vms):
-        paths += [f"vm.{place}.{key}" for key in vm if key not in MACHINE_OF_SITE]
+        paths += [f"vm.{place}.{key}" for key in vm if key not in known]
     return sorted(paths, key=str.encode)
 
 
@@ -259,19 +277,19 @@ def has_wide_number(value):
 
 
 def read_scenario(table):
-    integer(table, "version", "", 1, 1)
+    version = OLD if integer(table, "version", "", 1, 2) == 1 else NEW
     machine = table.get("machine")
     if not isinstance(machine, dict):
         raise BadKey("machine.frames")
     page = read_machine(machine)
     read_run(table.get("run", {}))
     vms = table.get("vm", [])
-    if not isinstance(vms, list) or len(vms) > 32 or not all(isinstance(vm, dict) for vm in vms):
+    if not isinstance(vms, list) or len(vms) > version.machines or not all(isinstance(vm, dict) for vm in vms):
         raise BadKey("vm")
     taken = set()
     for place, vm in enumerate(vms):
-        read_vm(vm, f"vm.{place}.", taken, page)
-    for path in unknown_keys(table, vms):
+        read_vm(vm, f"vm.{place}.", taken, page, version)
+    for path in unknown_keys(table, vms, version):
         raise BadKey(path)
     return machine["frames"]
 

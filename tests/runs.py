@@ -14,6 +14,7 @@ from pcg import Pcg64
 from program import Told, Wrong, ask, expect, file_of
 
 SEED, COUNT = 20021211, 60
+CROWDED = 256  # as many guests as there may be
 
 
 def drawn_trace(draw, pages, page):
@@ -25,24 +26,32 @@ def drawn_trace(draw, pages, page):
     return lines
 
 
-class Scenario:
-    """A drawn scenario: its site, its machines with their traces, and its text."""
+def drawn_tax(draw):
+    """A tax of a machine's own, mostly none."""
+    return draw.choice([[], [], [0], [draw.randrange(100)]])
 
-    def __init__(self, draw):
-        page, pages, count = draw.choice([16, 256, 4096]), draw.choice([4, 9, 9, 9, 300]), draw.choice([0, 1, 2, 5])
+
+class Scenario:
+    """A drawn scenario of either version: its site, its machines with their traces, and its text."""
+
+    def __init__(self, draw, count=None):
+        page, pages = draw.choice([16, 256, 4096]), draw.choice([4, 9, 9, 9, 300])
+        count = draw.choice([0, 1, 2, 5]) if count is None else count
         least = draw.choice([1, pages - 2])
         self.site = [max(8, count * (draw.choice([least, least, least + 1, pages]) + 1)), page, count * pages, 75, 6, 4, 2, 1, 2**24]
         self.turns, self.sample, self.length = draw.choice([1, 60, 200]), draw.choice([1, 7, 100]), draw.choice([1, 5, 1000])
-        numbers = sorted(draw.sample(range(32), count))
-        self.machines = {number: ([least, pages, 1, draw.choice([1, 1000]), draw.choice([0, pages - least])],
-                                  drawn_trace(draw, pages, page)) for number in numbers}
+        self.version = draw.choice([1, 2, 2]) if count <= 32 else 2
+        numbers = sorted(draw.sample(range(256 if self.version == 2 else 32), count))
+        self.machines = {number: ([least, pages, 1, draw.choice([1, 1000]), draw.choice([0, pages - least]),
+                                   *(drawn_tax(draw) if self.version == 2 else [])], drawn_trace(draw, pages, page))
+                         for number in numbers}
         self.seed = draw.getrandbits(63)
 
     def text(self):
-        parts = [console.scenario_of(self.site).decode(), "[run]\n", f"seed = {self.seed}\nturns = {self.turns}\n",
-                 f"sample = {self.sample}\nlength = {self.length}\n"]
+        parts = [console.scenario_of(self.site, self.version).decode(), "[run]\n",
+                 f"seed = {self.seed}\nturns = {self.turns}\nsample = {self.sample}\nlength = {self.length}\n"]
         for number, (numbers, trace) in self.machines.items():
-            keys = zip(("min", "max", "overhead", "shares", "balloon"), numbers)
+            keys = zip(("min", "max", "overhead", "shares", "balloon", "tau"), numbers)
             lines = ", ".join(f'"{line}"' for line in trace)
             parts += [f"[[vm]]\nid = {number}\n", *(f"{key} = {one}\n" for key, one in keys), f"trace = [{lines}]\n"]
         return "".join(parts).encode()
@@ -138,5 +147,8 @@ def check_run(program, scenario):
 
 
 def check(program, is_long):
-    calls = [check_run(program, Scenario(random.Random(f"{SEED} {number}"))) for number in range(COUNT * (10 if is_long else 1))]
+    times = 10 if is_long else 1
+    scenarios = [Scenario(random.Random(f"{SEED} {number}")) for number in range(COUNT * times)]
+    scenarios += [Scenario(random.Random(f"{SEED} crowded {number}"), CROWDED) for number in range(times)]
+    calls = [check_run(program, scenario) for scenario in scenarios]
     return f"{len(calls)} runs of {sum(calls)} calls are what their workers had to call, and answered as by the plain console"

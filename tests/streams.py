@@ -4,7 +4,11 @@ They are made so that long pages, long lists of pages, many marks, many machines
 has other ways for these than for few and short ones.
 """
 
-from changes import command
+import functools
+
+from changes import PAIRS, command
+from machine import short
+from program import Wrong
 
 LARGE = [240, 256, 272, 368, 384, 400, 1008, 1024, 2032, 4096]
 
@@ -13,11 +17,17 @@ def site(frames, page, slots, tau=75, levels=(6, 4, 2, 1), nodes=2**24):
     return [frames, page, slots, tau, *levels, nodes]
 
 
-def opened(machines):
-    """The lines that admit and start machines: their number, least and most pages, overhead, shares and balloon."""
-    for number, (least, most, overhead, shares, balloon) in enumerate(machines):
-        yield f"admit {number} {least} {most} {overhead} {shares} {balloon}"
+def opened(machines, numbers=range(256)):
+    """The lines that admit and start machines with these numbers: their least and most pages, overhead, shares, balloon, and
+    own tax where they have one."""
+    for number, (least, most, overhead, *rest) in zip(numbers, machines):
+        yield " ".join(map(str, ["admit", number, least, most, overhead, *rest]))
         yield from [f"start {number}"] * overhead
+
+
+def own_tax(draw):
+    """A tax of a machine's own, mostly none."""
+    return draw.choice([[], [], [], [0], [75], [draw.randrange(100)], [99]])
 
 
 def word(draw):
@@ -35,6 +45,32 @@ def moves(draw, lowest, question):
 
 
 # Contents.
+
+@functools.cache
+def of_one_short(page):
+    """The first two numbers, from 0 on, such that pages of so many bytes that begin with one of them, in eight bytes, and are
+    zero behind have keys of one short."""
+    seen = {}
+    for number in range(2**22):
+        found = short(number.to_bytes(8, "big") + bytes(page - 8))
+        if found in seen:
+            return seen[found], number
+        seen[found] = number
+    raise Wrong(f"no two of so many pages of {page} bytes have one short")
+
+
+class Shorts:
+    """Two contents of one short, zeros, and a content of another short."""
+
+    def __init__(self, draw, page):
+        self.draw, self.numbers, self.places = draw, [*of_one_short(page), 0, 1], [5, 6, 7]
+
+    def whole(self):
+        """A write that makes a page one of them, since its other bytes are zero."""
+        return f"0 {self.draw.choice(self.numbers).to_bytes(8, 'big').hex()}"
+
+    part = whole
+
 
 class Contents:
     """Few contents of pages of one size: a base, and others that differ from it in one byte, at the front, in the middle, at
@@ -59,8 +95,8 @@ class Contents:
         return f"{place} {byte:02x}"
 
 
-def content_event(draw, few, machines, pages):
-    vm, page, chance = draw.randrange(machines), draw.randrange(pages), draw.random()
+def content_event(draw, few, vms, pages):
+    vm, page, chance = draw.choice(vms), draw.randrange(pages), draw.random()
     if chance < 0.05:
         return f"write {vm} {page} {few.whole()}"
     if chance < 0.28:
@@ -75,28 +111,33 @@ def content_event(draw, few, machines, pages):
                         f"replace {vm} {page} {word(draw)}", f"shares {vm} {draw.randrange(1, 3000)}"])
 
 
-def contents(draw, page=None, pages=None):
+def contents(draw, page=None, pages=None, kind=Contents):
     """Pages of few, equal and nearly equal contents: written, scanned, scanned again, paged out and brought back."""
     page, machines, pages = page or draw.choice(LARGE), draw.choice([1, 2, 3]), pages or draw.choice([6, 12, 20])
-    few, most = Contents(draw, page), machines * pages
+    few, most, vms = kind(draw, page), machines * pages, sorted(draw.sample([0, 1, 31, 32, 255], machines))
     lowest = 2 * machines + most
     yield site(max(8, most + machines + draw.choice([0, 1, most // 4, most])), page, most, draw.choice([0, 75, 99]),
                draw.choice([(6, 4, 2, 1), (50, 40, 20, 5), (50, 50, 50, 1)]))
-    yield from opened([(1, pages, 1, 1000, draw.choice([0, 0, pages // 2]))] * machines)
-    yield from [f"write {vm} {number} {few.part()}" for vm in range(machines) for number in range(pages)]
+    yield from opened([(1, pages, 1, 1000, draw.choice([0, 0, pages // 2]))] * machines, vms)
+    yield from [f"write {vm} {number} {few.part()}" for vm in vms for number in range(pages)]
     for _ in range(draw.choice([60, 150])):
         chance = draw.random()
-        where = f"page {draw.randrange(machines)} {draw.randrange(pages)}"
+        where = f"page {draw.choice(vms)} {draw.randrange(pages)}"
         if chance < 0.8:
-            yield content_event(draw, few, machines, pages)
+            yield content_event(draw, few, vms, pages)
         elif chance < 0.86:
             yield from moves(draw, lowest, draw.choice([where, "table"]))
         elif chance < 0.94:
             yield where
         else:
-            tried = [content_event(draw, few, machines, pages) for _ in range(draw.choice([1, 3]))]
+            tried = [content_event(draw, few, vms, pages) for _ in range(draw.choice([1, 3]))]
             yield "whatif " + "; ".join(tried)
-    yield from [f"read {vm} {number} 0 {page}" for vm in range(machines) for number in range(pages)]
+    yield from [f"read {vm} {number} 0 {page}" for vm in vms for number in range(pages)]
+
+
+def shorts(draw):
+    """The same with contents of which two have one short, so that scans meet hints of pages with other bytes."""
+    yield from contents(draw, draw.choice([16, 16, 272, 400, 4096]), draw.choice([3, 6]), Shorts)
 
 
 def each_size(draw, page):
@@ -216,23 +257,26 @@ def samples(draw):
 # Many machines.
 
 def targets(draw):
-    """Up to 32 machines under pressure, with shares far apart, some at their least and some idle."""
-    count = draw.choice([1, 2, 5, 8, 12, 20, 32, 32])
+    """Up to 256 machines under pressure, with shares far apart and taxes of their own, some at their least and some idle."""
+    count = draw.choice([1, 2, 5, 8, 12, 20, 32, 33, 64, draw.choice([150, 256])])
+    vms = sorted(draw.sample(range(256), count))
     pages = [draw.choice([1, 3, 10, 1500 // count, 3000 // count]) for _ in range(count)]
     frames = max(8, sum(pages) + count)
     shares = draw.choice([lambda: 1000, lambda: draw.choice([1, 2**20]), lambda: draw.randrange(1, 2**20 + 1),
                           lambda: 2**draw.randrange(21)])
-    machines = [(draw.choice([1, 1, max(1, size // 2), size]), size, 1, shares(), 0) for size in pages]
+    machines = [(draw.choice([1, 1, max(1, size // 2), size]), size, 1, shares(), 0, *own_tax(draw)) for size in pages]
     yield site(frames, 16, frames, draw.choice([0, 1, 75, 99]), draw.choice([(50, 50, 50, 50), (50, 40, 20, 10), (20, 10, 5, 1)]))
-    yield from opened(machines)
-    for vm, size in enumerate(pages):
+    yield from opened(machines, vms)
+    for vm, size in zip(vms, pages):
         yield from [f"read {vm} {number} 0 1" for number in range(size - draw.choice([0, 0, 1, size // 3]))]
+        yield from [f"sample {vm} 1 {size - 1}", f"read {vm} 0 0 1"] * draw.choice([0, 1, 3])
     for _ in range(12):
-        for _ in range(draw.choice([0, 1, 4])):
-            vm = draw.randrange(count)
-            yield draw.choice([f"shares {vm} {shares()}", f"tax {draw.choice([0, 10, 75, 98, 99])}", f"swapout {vm} {word(draw)}",
-                               f"sample {vm} 1 {draw.randrange(pages[vm])} {draw.randrange(pages[vm])}",
-                               f"read {vm} {draw.randrange(pages[vm])} 0 1", f"read {vm} {draw.randrange(pages[vm])} 0 1"])
+        for _ in range(draw.choice([0, 1, 4, 8])):
+            at = draw.randrange(count)
+            vm, page, tau = vms[at], draw.randrange(pages[at]), draw.choice([0, 10, 75, 98, 99, 100, draw.randrange(100)])
+            yield draw.choice([f"shares {vm} {shares()}", f"tax {tau}", f"vmtax {vm} {tau}", f"vmtax {vm} {tau}",
+                               f"swapout {vm} {word(draw)}", f"sample {vm} 1 {page} {draw.randrange(pages[at])}",
+                               f"advise {vm} {page}", f"read {vm} {page} 0 1", f"read {vm} {page} 0 1"])
         yield from ("rebalance", "table")
     yield from ("undo 9", "table", "redo 9", "table")
 
@@ -331,7 +375,7 @@ def digits(draw):
 
 def verbs(draw, events, others):
     """Commands whose first word has another letter, one more or one less, and some that are as they should be."""
-    fields = {"machine": "0", "number": "3", "word": "5", "bytes": "2a", "words": "1 2", "name": "a"}
+    fields = {"machine": "0", "number": "3", "word": "5", "bytes": "2a", "words": "1 2", "name": "a", "own tax": "50"}
     yield site(20, 16, 8)
     yield from opened([(4, 4, 1, 1000, 0)])
     for verb, kinds in {**events, **others, "whatif": ["event"], "session": []}.items():
@@ -350,7 +394,7 @@ def mixed(draw):
     low = draw.choice([1, 1, 5])
     yield site(draw.choice([8, 8, 12, 20, 60, 400]), draw.choice([16, 32, 256, 4096]), draw.choice([0, 8, 20, 900]),
                draw.choice([0, 75, 99]), (draw.choice([6, 50]), low + 1, low, low), draw.choice([2**24, 2**24, 10, 60]))
-    least, more = draw.choice([1, 1, 2]), draw.choice([3, 5])
-    yield from opened([(least, least + more, 1, 1000, draw.choice([0, more]))] * draw.choice([1, 1, 2]))
-    yield from [f"write {draw.randrange(2)} {draw.randrange(6)} 0 {draw.choice(['2a', 'ff'])}" for _ in range(5)]
-    yield from [command(draw) for _ in range(draw.choice([40, 200]))]
+    least, more, pair = draw.choice([1, 1, 2]), draw.choice([3, 5]), draw.choice(PAIRS)
+    yield from opened([(least, least + more, 1, 1000, draw.choice([0, more]), *own_tax(draw))] * draw.choice([1, 1, 2]), pair)
+    yield from [f"write {draw.choice(pair)} {draw.randrange(6)} 0 {draw.choice(['2a', 'ff'])}" for _ in range(5)]
+    yield from [command(draw, pair) for _ in range(draw.choice([40, 200]))]

@@ -3,30 +3,56 @@
 import tempfile
 
 import reader
-from program import Told, ask, expect, file_of
+from program import Told, Wrong, ask, expect, file_of
 
 WRONG_WORDS = Told(2, b"", b"wrong words\n")
 
-SESSION = b"""esx session 1
+SESSION = b"""esx session 2
 frames 9 page 32 slots 3 tau 10 levels 8 8 3 3 nodes 12
-5 admit 7 3 4 2 40 1
+5 admit 200 3 4 2 40 1 60
 = ok memory 5/9 swap 1/3
-0 start 7
+0 start 200
 = ok frame 0 overhead 1/2 starting
-63 where
-= at 2 depth 2 jumps 0
+511 vmtax 200 100
+= no 3 BadSpec
 end 3
 """
 REPLAYED = b"""ok memory 5/9 swap 1/3
 ok frame 0 overhead 1/2 starting
-at 2 depth 2 jumps 0
+no 3 BadSpec
  vm state        min     max  target    here    lent     out  shares  active
-  7 starting       3       4       4       0       0       0      40   65536
+200 starting       3       4       4       0       0       0      40   65536
 overhead 1 private 0 shared 0 free 8 high
 """
+# A text of version 1, with the greatest numbers that it may have.
+OLD_SESSION = b"""esx session 1
+frames 9 page 32 slots 3 tau 10 levels 8 8 3 3 nodes 12
+5 admit 31 3 4 2 40 1
+= ok memory 5/9 swap 1/3
+0 whatif start 31; stop 31
+= whatif 2/2
+= before overhead 0 private 0 shared 0 free 9 high
+= 1 ok frame 0 overhead 1/2 starting
+= 2 ok
+= after overhead 1 private 0 shared 0 free 8 high
+63 where
+= at 1 depth 1 jumps 0
+end 3
+"""
+OLD_REPLAYED = b"""ok memory 5/9 swap 1/3
+whatif 2/2
+before overhead 0 private 0 shared 0 free 9 high
+1 ok frame 0 overhead 1/2 starting
+2 ok
+after overhead 1 private 0 shared 0 free 8 high
+at 1 depth 1 jumps 0
+ vm state        min     max  target    here    lent     out  shares  active
+ 31 starting       3       4       4       0       0       0      40   65536
+overhead 0 private 0 shared 0 free 9 high
+"""
 RUN_SITE = "frames 9 page 32 slots 3 tau 75 levels 6 4 2 1 nodes 16777216"
-ENDS = b"guest 7 done\nsharer turns\nswapper turns\npolicy turns\n"
-SHORT = b"""esx session 1
+ENDS = b"guest 200 done\nsharer turns\nswapper turns\npolicy turns\n"
+SHORT = b"""esx session 2
 frames 20 page 16 slots 8 tau 75 levels 6 4 2 1 nodes 16777216
 0 admit 0 2 6 1 1000 0
 = ok memory 3/20 swap 4/8
@@ -40,7 +66,7 @@ ok frame 0 overhead 1/1 running
   0 running        2       6       6       0       0       0    1000   65536
 overhead 1 private 0 shared 0 free 19 high
 """
-EMPTY = b"esx session 1\nframes 20 page 16 slots 8 tau 75 levels 6 4 2 1 nodes 16777216\nend 0\n"
+EMPTY = b"esx session 2\nframes 20 page 16 slots 8 tau 75 levels 6 4 2 1 nodes 16777216\nend 0\n"
 
 
 def changed(text, old, new):
@@ -53,15 +79,22 @@ CHECKED = [
     (SESSION, 0, b"same 3\n"),
     (SESSION[:-1], 0, b"same 3\n"),
     (SESSION.replace(b"\n", b"\r\n"), 0, b"same 3\n"),
+    (OLD_SESSION, 0, b"same 3\n"),
     (SHORT, 0, b"same 2\n"),
+    (changed(SHORT, b"session 2", b"session 1"), 0, b"same 2\n"),
     (SHORT[:-1], 0, b"same 2\n"),
     (changed(SHORT, b"3/20", b"3/21"), 1, b"differs 1\n"),
-    (SESSION.replace(b"= at 2", b"= at 1").replace(b"5/9", b"5/8"), 1, b"differs 1\n"),
+    (SESSION.replace(b"= no 3", b"= no 1").replace(b"5/9", b"5/8"), 1, b"differs 1\n"),
     (EMPTY, 0, b"same 0\n"),
+    (changed(EMPTY, b"session 2", b"session 1"), 0, b"same 0\n"),
     (changed(SESSION, b"5/9", b"5/8"), 1, b"differs 1\n"),
     (changed(SESSION, b"1/2 starting", b"2/2 running"), 1, b"differs 2\n"),
-    (changed(SESSION, b"= at 2", b"= "), 1, b"differs 3\n"),
-    (changed(SESSION, b"jumps 0\n", b"jumps 0\n= \n"), 1, b"differs 3\n"),
+    (changed(SESSION, b"= no 3", b"= "), 1, b"differs 3\n"),
+    (changed(SESSION, b"BadSpec\n", b"BadSpec\n= \n"), 1, b"differs 3\n"),
+    (changed(SESSION, b"200 100", b"200 99"), 1, b"differs 3\n"),
+    (changed(SESSION, b"5 admit 200", b"256 admit 255"), 1, b"differs 2\n"),
+    (changed(OLD_SESSION, b"5 admit 31", b"5 admit 30"), 1, b"differs 2\n"),
+    (changed(OLD_SESSION, b"session 1", b"session 2"), 0, b"same 3\n"),
 ]
 
 # The line from which on a text is no session.
@@ -72,8 +105,11 @@ BAD_LINES = [
     (SHORT + b"\n", 8),
     (b"", 1),
     (b"\n" + SESSION, 1),
-    (changed(SESSION, b"session 1", b"session 2"), 1),
-    (changed(SESSION, b"session 1", b"session 1 "), 1),
+    (changed(SESSION, b"session 2", b"session 3"), 1),
+    (changed(SESSION, b"session 2", b"session 0"), 1),
+    (changed(SESSION, b"session 2", b"session 2 "), 1),
+    (changed(SESSION, b"session 2", b"session 02"), 1),
+    (changed(SESSION, b"session 2", b"session 1"), 3),
     (changed(SESSION, b"frames 9", b"frames 7"), 2),
     (changed(SESSION, b"frames 9", b"frames 09"), 2),
     (changed(SESSION, b"page 32", b"page 40"), 2),
@@ -82,14 +118,29 @@ BAD_LINES = [
     (changed(SESSION, b"nodes 12", b"nodes 0"), 2),
     (changed(SESSION, b"5 admit", b"= ok\n5 admit"), 3),
     (changed(SESSION, b"5 admit", b"05 admit"), 3),
-    (changed(SESSION, b"5 admit", b"64 admit"), 3),
+    (changed(SESSION, b"5 admit", b"512 admit"), 3),
     (changed(SESSION, b"5 admit", b"5  admit"), 3),
-    (changed(SESSION, b"admit 7", b"admit 32"), 3),
+    (changed(SESSION, b"admit 200", b"admit 256"), 3),
+    (changed(SESSION, b"1 60", b"1 60 60"), 3),
+    (changed(SESSION, b"1 60", b"1 060"), 3),
+    (changed(SESSION, b"40 1 60", b"40"), 3),
+    (changed(OLD_SESSION, b"5 admit 31", b"64 admit 31"), 3),
+    (changed(OLD_SESSION, b"5 admit 31", b"5 admit 32"), 3),
+    (changed(OLD_SESSION, b"40 1", b"40 1 60"), 3),
+    (changed(OLD_SESSION, b"whatif start 31", b"whatif start 32"), 5),
+    (changed(OLD_SESSION, b"stop 31", b"vmtax 31 5"), 5),
+    (changed(OLD_SESSION, b"stop 31", b"admit 7 1 1 1 1 0 5"), 5),
+    (changed(OLD_SESSION, b"where", b"vmtax 31 5"), 11),
+    (changed(OLD_SESSION, b"where", b"page 32 0"), 11),
+    (changed(OLD_SESSION, b"63 where", b"64 where"), 11),
     (changed(SESSION, b"= ok memory", b"=ok memory"), 4),
-    (changed(SESSION, b"= ok memory", b"0 start 7\n= ok memory"), 4),
+    (changed(SESSION, b"= ok memory", b"0 start 200\n= ok memory"), 4),
     (changed(SESSION, b"0 start", b"0 session"), 5),
     (changed(SESSION, b"frame 0", b"frame \xc2\xb7"), 6),
-    (changed(SESSION, b"63 where", b"# where"), 7),
+    (changed(SESSION, b"511 vmtax", b"# vmtax"), 7),
+    (changed(SESSION, b"511 vmtax", b"512 vmtax"), 7),
+    (changed(SESSION, b"vmtax 200", b"vmtax 256"), 7),
+    (changed(SESSION, b"vmtax 200 100", b"vmtax 200 100 1"), 7),
     (changed(SESSION, b"end 3", b"end 03"), 9),
     (changed(SESSION, b"end 3", b"end 4"), 9),
     (changed(SESSION, b"end 3\n", b""), 9),
@@ -98,7 +149,7 @@ BAD_LINES = [
     (SESSION[:-1] + b"\r", 9),
 ]
 
-SCENARIO = b"""version = 1
+SCENARIO = b"""version = 2
 [machine]
 frames = 9
 page = 32
@@ -106,20 +157,32 @@ slots = 3
 [run]
 turns = 20
 [[vm]]
-id = 7
+id = 200
 min = 3
 max = 4
 overhead = 2
 shares = 40
 balloon = 1
+tau = 60
 trace = ["write 3 30 beef", "read 3 0 32", "ask", "lend 2", "takeback 2"]
 """
+OLD_SCENARIO = SCENARIO.replace(b"version = 2", b"version = 1").replace(b"tau = 60\n", b"").replace(b"id = 200", b"id = 31")
+
+
+def machines(first, last):
+    """Tables of small machines with these numbers."""
+    return b"".join(b"[[vm]]\nid = %d\nmin = 1\nmax = 1\noverhead = 1\nshares = 1\nballoon = 0\n" % number
+                    for number in range(first, last + 1))
+
 
 # The key that is named where one piece of the scenario is another.
 BAD_KEYS = [
-    (b"version = 1", b"version = 2", b"version"),
-    (b"version = 1", b"version = 1.0", b"version"),
-    (b"version = 1\n", b"", b"version"),
+    (b"version = 2", b"version = 3", b"version"),
+    (b"version = 2", b"version = 0", b"version"),
+    (b"version = 2", b"version = 2.0", b"version"),
+    (b"version = 2", b'version = "2"', b"version"),
+    (b"version = 2\n", b"", b"version"),
+    (b"version = 2", b"version = 1", b"vm.0.id"),
     (b"[machine]\n", b"[machines]\n", b"machine.frames"),
     (b"frames = 9", b"frames = 7", b"machine.frames"),
     (b"frames = 9", b"frames = 1048577", b"machine.frames"),
@@ -148,14 +211,25 @@ BAD_KEYS = [
     (b"[[vm]]", b"[vm]", b"vm"),
     (b"[[vm]]", b"[[vm]]\n[[vm]]", b"vm.0.id"),
     (b"[[vm]]", b"[[vms]]", b"vms"),
-    (b"id = 7", b"id = 32", b"vm.0.id"),
+    (b"id = 200", b"id = 255", None),
+    (b"id = 200", b"id = 256", b"vm.0.id"),
+    (b"id = 200", b"id = -1", b"vm.0.id"),
     (b"min = 3", b"min = 0", b"vm.0.min"),
     (b"min = 3", b"min = 5", b"vm.0.max"),
     (b"max = 4", b"max = 65537", b"vm.0.max"),
     (b"overhead = 2", b"overhead = 0", b"vm.0.overhead"),
     (b"shares = 40", b"shares = 1048577", b"vm.0.shares"),
     (b"balloon = 1", b"balloon = 2", b"vm.0.balloon"),
-    (b"balloon = 1", b"balloon = 1\ntau = 3", b"vm.0.tau"),
+    (b"tau = 60\n", b"", None),
+    (b"tau = 60", b"tau = 0", None),
+    (b"tau = 60", b"tau = 99", None),
+    (b"tau = 60", b"tau = 100", b"vm.0.tau"),
+    (b"tau = 60", b"tau = -1", b"vm.0.tau"),
+    (b"tau = 60", b'tau = "60"', b"vm.0.tau"),
+    (b"tau = 60", b"tau = 60.0", b"vm.0.tau"),
+    (b"tau = 60", b"tax = 60", b"vm.0.tax"),
+    (b"balloon = 1\ntau = 60", b"balloon = 2\ntau = 100", b"vm.0.balloon"),
+    (b'tau = 60\ntrace = ["', b'tau = 100\ntrace = ["x", "', b"vm.0.tau"),
     (b'"ask"', b'"ask 7"', b"vm.0.trace"),
     (b'"ask"', b'"lend 4"', b"vm.0.trace"),
     (b'"ask"', b'"read 0 0 33"', b"vm.0.trace"),
@@ -163,8 +237,24 @@ BAD_KEYS = [
     (b'"ask"', b'"write 0 32 00"', b"vm.0.trace"),
     (b'"ask"', b'"scan 0"', b"vm.0.trace"),
     (b'"ask"', b"7", b"vm.0.trace"),
+    (b"[[vm]]", machines(0, 199) + machines(201, 255) + b"[[vm]]", None),
+    (b"[[vm]]", machines(0, 199) + machines(201, 255) + b"[[vm]]\n[[vm]]", b"vm"),
 ]
-NO_TOML = [b"frames = \n", b"version = 1\nversion = 1\n", b"[machine\n", b"version: 1\n", b"a = 'b\n"]
+
+# The same in a text of version 1, in which a machine's tax is a key like any other that is unknown: it is named after all
+# others that are bad, in the order of paths.
+OLD_BAD_KEYS = [
+    (b"version = 1", b"version = 2", None),
+    (b"id = 31", b"id = 32", b"vm.0.id"),
+    (b"balloon = 1", b"balloon = 1\ntau = 3", b"vm.0.tau"),
+    (b"balloon = 1", b"balloon = 1\ntau = 100", b"vm.0.tau"),
+    (b'balloon = 1\ntrace = ["', b'balloon = 1\ntau = 3\ntrace = ["x", "', b"vm.0.trace"),
+    (b"balloon = 1", b"balloon = 1\ntau = 3\nshape = 1\nzoo = 1", b"vm.0.shape"),
+    (b"balloon = 1", b"balloon = 1\ntau = 3\n[[vm]]", b"vm.1.id"),
+    (b"[[vm]]", machines(0, 30) + b"[[vm]]", None),
+    (b"[[vm]]", machines(0, 30) + b"[[vm]]\n[[vm]]", b"vm"),
+]
+NO_TOML = [b"frames = \n", b"version = 2\nversion = 2\n", b"[machine\n", b"version: 2\n", b"a = 'b\n"]
 
 # As long as a line may be, and a command also if a digit is put into it.
 LONG_LINE = b"whatif write 0 0 0 %s; write 0 0 10 %s" % (b"ab" * 4096, b"cd" * 4079)
@@ -195,23 +285,28 @@ def check_sessions(program):
         with file_of(text) as name:
             for word in ("check", "replay"):
                 refuses(program, [word, name], 1, b"bad line %d\n" % line)
-    for text in (SESSION, SHORT):
+    for text in (SESSION, OLD_SESSION, SHORT):
         for end in range(len(text) - 1):
             with file_of(text[:end]) as name:
                 refuses(program, ["check", name], 1, f"{reader.told_of_session(text[:end])}\n".encode())
-    for text, replayed in ((SESSION, REPLAYED), (SHORT, SHORT_REPLAYED)):
+    for text, replayed in ((SESSION, REPLAYED), (OLD_SESSION, OLD_REPLAYED), (SHORT, SHORT_REPLAYED)):
         with file_of(text) as name:
             expect("replay", Told(0, replayed, b""), ask(program, ["replay", name]))
 
 
-def check_scenarios(program):
-    for old, new, key in BAD_KEYS:
-        with file_of(changed(SCENARIO, old, new)) as name:
+def check_keys(program, scenario, bad_keys):
+    for old, new, key in bad_keys:
+        with file_of(changed(scenario, old, new)) as name:
             if key is None:
                 expect(f"{new!r} for {old!r}", Told(0, b"", b""), ask(program, ["console", name]))
                 continue
             for word in ("console", "run"):
                 refuses(program, [word, name], 1, b"bad key %s\n" % key)
+
+
+def check_scenarios(program):
+    check_keys(program, SCENARIO, BAD_KEYS)
+    check_keys(program, OLD_SCENARIO, OLD_BAD_KEYS)
     for text in NO_TOML:
         with file_of(text) as name:
             refuses(program, ["console", name], 1, b"bad toml\n")
@@ -224,13 +319,16 @@ def check_scenarios(program):
         refuses(program, ["run", name], 1, b"no 5 NoSwapReserve\n")
 
 
-def check_run(program):
-    with file_of(SCENARIO) as name:
+def check_run(program, scenario, ends, admission):
+    """A run: how its workers end, and that its session is of version 2, admits the machine so, and is the same again."""
+    with file_of(scenario) as name:
         told = ask(program, ["run", name])
-    expect("run", Told(0, told.out, ENDS), told)
-    calls = int(told.out.splitlines()[-1].split()[1])
+    expect("run", Told(0, told.out, ends), told)
+    lines = told.out.splitlines()
+    if lines[:3] != [b"esx session 2", RUN_SITE.encode(), admission]:
+        raise Wrong(f"a run begins with {lines[:3]}")
     with file_of(told.out) as name:
-        expect("check of a run", Told(0, b"same %d\n" % calls, b""), ask(program, ["check", name]))
+        expect("check of a run", Told(0, b"same %s\n" % lines[-1].split()[1], b""), ask(program, ["check", name]))
 
 
 def check_long_lines(program):
@@ -247,6 +345,8 @@ def check(program, _is_long):
         check_words(program, folder)
     check_sessions(program)
     check_scenarios(program)
-    check_run(program)
+    check_run(program, SCENARIO, ENDS, b"0 admit 200 3 4 2 40 1 60")
+    check_run(program, OLD_SCENARIO, ENDS.replace(b"guest 200", b"guest 31"), b"0 admit 31 3 4 2 40 1")
     check_long_lines(program)
-    return f"{len(CHECKED) + len(BAD_LINES)} sessions and {len(BAD_KEYS) + len(NO_TOML)} scenarios told as written"
+    scenarios = len(BAD_KEYS) + len(OLD_BAD_KEYS) + len(NO_TOML)
+    return f"{len(CHECKED) + len(BAD_LINES)} sessions and {scenarios} scenarios told as written"

@@ -21,10 +21,7 @@ pub const OPENING: u64 = 4;
 
 /// The virtual machine 0 or 1.
 pub fn guest(number: u64) -> VmId {
-    match VmId::new((number % 2) as u8) {
-        Some(vm) => vm,
-        None => unreachable!(),
-    }
+    VmId::new((number % 2) as u8)
 }
 
 pub fn admit(vm: VmId) -> Call {
@@ -34,6 +31,7 @@ pub fn admit(vm: VmId) -> Call {
         overhead: 1,
         shares: 1000,
         balloon_max: 0,
+        tau: None,
     };
     Call::Do {
         event: Event::Admit { vm, spec },

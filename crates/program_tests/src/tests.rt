@@ -90,11 +90,11 @@ const ROWS: [Row; 16] = [
     // the session so far, which is no call
     Row {
         input: b"session\nadmit 0 2 6 1 1000 0\nstart 0\nsession\nmark a\nmarks\nsession\n",
-        output: b"esx session 1\nframes 20 page 16 slots 8 tau 75 levels 6 4 2 1 nodes 16777216\nend 0\nok memory 3/20 swap 4/8\nok frame 0 overhead 1/1 running\nesx session 1\nframes 20 page 16 slots 8 tau 75 levels 6 4 2 1 nodes 16777216\n0 admit 0 2 6 1 1000 0\n= ok memory 3/20 swap 4/8\n0 start 0\n= ok frame 0 overhead 1/1 running\nend 2\nok mark a at 2\nmarks 1\na 2\nesx session 1\nframes 20 page 16 slots 8 tau 75 levels 6 4 2 1 nodes 16777216\n0 admit 0 2 6 1 1000 0\n= ok memory 3/20 swap 4/8\n0 start 0\n= ok frame 0 overhead 1/1 running\n0 mark a\n= ok mark a at 2\n0 marks\n= marks 1\n= a 2\nend 4\n",
+        output: b"esx session 2\nframes 20 page 16 slots 8 tau 75 levels 6 4 2 1 nodes 16777216\nend 0\nok memory 3/20 swap 4/8\nok frame 0 overhead 1/1 running\nesx session 2\nframes 20 page 16 slots 8 tau 75 levels 6 4 2 1 nodes 16777216\n0 admit 0 2 6 1 1000 0\n= ok memory 3/20 swap 4/8\n0 start 0\n= ok frame 0 overhead 1/1 running\nend 2\nok mark a at 2\nmarks 1\na 2\nesx session 2\nframes 20 page 16 slots 8 tau 75 levels 6 4 2 1 nodes 16777216\n0 admit 0 2 6 1 1000 0\n= ok memory 3/20 swap 4/8\n0 start 0\n= ok frame 0 overhead 1/1 running\n0 mark a\n= ok mark a at 2\n0 marks\n= marks 1\n= a 2\nend 4\n",
     },
     // lines that are no command
     Row {
-        input: b"start 00\nREAD 0 0 0 1\nwrite 0 0 0 2A\nwrite 0 0 0 2\nread  0 0 0 1\n read 0 0 0 1\nread 0 0 0 1 \nread 32 0 0 1\nread 0 4294967296 0 1\nread 0 0 0 18446744073709551616\nsum sum\nundo\nundo -1\ngoto -1\nsessions\nhelp\n\xc3\xa9\n",
+        input: b"start 00\nREAD 0 0 0 1\nwrite 0 0 0 2A\nwrite 0 0 0 2\nread  0 0 0 1\n read 0 0 0 1\nread 0 0 0 1 \nread 256 0 0 1\nread 0 4294967296 0 1\nread 0 0 0 18446744073709551616\nsum sum\nundo\nundo -1\ngoto -1\nsessions\nhelp\n\xc3\xa9\n",
         output: b"? line 1\n? line 2\n? line 3\n? line 4\n? line 5\n? line 6\n? line 7\n? line 8\n? line 9\n? line 10\n? line 11\n? line 12\n? line 13\n? line 14\n? line 15\n? line 16\n? line 17\n",
     },
     // lines with no answer and odd ends
@@ -109,7 +109,7 @@ const ROWS: [Row; 16] = [
     },
     // numbers past what a call takes
     Row {
-        input: b"admit 0 4294967295 4294967295 4294967295 4294967295 4294967295\nread 31 4294967295 4294967295 4294967295\npage 31 4294967295\n",
+        input: b"admit 0 4294967295 4294967295 4294967295 4294967295 4294967295\nread 255 4294967295 4294967295 4294967295\npage 255 4294967295\n",
         output: b"no 3 BadSpec\nno 1 NoVm\nno 1 NoVm\n",
     },
 ];
@@ -248,9 +248,11 @@ fn failures(rt: HostRuntime) -> Result<(), Fail> {
     Ok(())
 }
 
-const COMMANDS: [&str; 9] = [
+const COMMANDS: [&str; 11] = [
     "admit 0 2 6 1 1000 0",
-    "start 31",
+    "admit 0 2 6 1 1000 0 4294967295",
+    "vmtax 255 0",
+    "start 255",
     "read 0 1 2 16",
     "write 0 1 0 2aff",
     "undo 3",

@@ -7,16 +7,27 @@ use esx_model::{Place, Site, Vm};
 use esx_steps::{free_count, pages_at};
 use esx_types::{Level, VmId, VmState};
 
-/// What a page costs: the less of the machine's memory is in use, the more.
-fn price(tau: u32, vm: &Vm) -> u64 {
-    6553600_u64.saturating_sub(u64::from(tau).saturating_mul(active(vm)))
+/// The tax of a machine: its own, or else the site's.
+fn tax(site: &Site, vm: &Vm) -> u32 {
+    vm.spec.tau.unwrap_or(site.tau)
 }
 
-/// What a machine pays for its pages, in shares of another.
-fn weight(tau: u32, payer: &Vm, other: &Vm) -> u64 {
-    u64::from(payer.spec.shares)
-        .saturating_mul(u64::from(here(other)))
-        .saturating_mul(price(tau, other))
+/// What a machine pays with: its shares, without the tax on them.
+fn purse(site: &Site, vm: &Vm) -> u128 {
+    let left = 100_u32.saturating_sub(tax(site, vm));
+    u128::from(vm.spec.shares).saturating_mul(u128::from(left))
+}
+
+/// What its pages cost: the less of its memory is in use, the more.
+fn price(site: &Site, vm: &Vm) -> u128 {
+    let used = u128::from(tax(site, vm)).saturating_mul(u128::from(active(vm)));
+    u128::from(here(vm)).saturating_mul(6553600_u128.saturating_sub(used))
+}
+
+/// Whether a machine's ratio is less than another's.
+fn is_less(site: &Site, vm: &Vm, other: &Vm) -> bool {
+    let own = purse(site, vm).saturating_mul(price(site, other));
+    own < purse(site, other).saturating_mul(price(site, vm))
 }
 
 /// Of the machines above their target, the one of least ratio; of equal ones the first.
@@ -31,9 +42,9 @@ fn payer(site: &Site) -> Option<VmId> {
         }
         let sooner = match best {
             None => true,
-            Some((_, own)) => weight(site.tau, vm, own) < weight(site.tau, own, vm),
+            Some((_, own)) => is_less(site, vm, own),
         };
-        let id = u8::try_from(number).ok().and_then(VmId::new);
+        let id = u8::try_from(number).ok().map(VmId::new);
         if let (true, Some(id)) = (sooner, id) {
             best = Some((id, vm));
         }

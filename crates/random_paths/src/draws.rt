@@ -3,7 +3,7 @@
 use crate::contents::content;
 use crate::site::Shape;
 use esx_events::{Boxed, Call, Event, Events, Name};
-use esx_types::{Rows, VmId, VmSpec};
+use esx_types::{MAX_TAU, Rows, VM_NUMBERS, VmId, VmSpec};
 use rand_core::SeedableRng;
 use rand_core::utils::NextWord;
 use rand_pcg::Pcg64;
@@ -15,22 +15,20 @@ pub struct Draws {
     alloc: Global,
     rng: Pcg64,
     shape: Shape,
-    first: VmId,
 }
 
 /// The numbers of machines where there are few.
-const FEW: [u32; 4] = [0, 1, 7, 31];
+const FEW: [u32; 4] = [0, 1, 40, 255];
 
 const NAMES: [&str; 5] = ["bare", "full", "x-1", "y_2", "none"];
 
 impl Draws {
-    /// The draws of a path, by its seed. `first` is the machine with the least number.
-    pub fn new(alloc: Global, shape: Shape, seed: u64, first: VmId) -> Draws {
+    /// The draws of a path, by its seed.
+    pub fn new(alloc: Global, shape: Shape, seed: u64) -> Draws {
         Draws {
             alloc,
             rng: Pcg64::seed_from_u64(seed),
             shape,
-            first,
         }
     }
 
@@ -57,16 +55,13 @@ impl Draws {
             Some(number) if self.shape.machines <= 4 => *number,
             _ => place,
         };
-        u8::try_from(number)
-            .ok()
-            .and_then(VmId::new)
-            .unwrap_or(self.first)
+        VmId::new(u8::try_from(number).unwrap_or(0))
     }
 
     /// Mostly one of the shape's machines.
     pub fn machine(&mut self) -> VmId {
         let of = match self.below(12) {
-            0 => 32,
+            0 => VM_NUMBERS as u32,
             _ => self.shape.machines,
         };
         let place = self.below(of);
@@ -83,9 +78,17 @@ impl Draws {
         }
     }
 
+    /// A tax in its range mostly, or above it.
+    fn tax(&mut self) -> u32 {
+        self.below(MAX_TAU + 10)
+    }
+
     /// What a machine asks for that comes later: what those of the shape do, or nearly so.
     pub fn spec(&mut self) -> VmSpec {
-        let spec = self.shape.spec;
+        let spec = VmSpec {
+            tau: self.own_tax(),
+            ..self.shape.spec
+        };
         match self.below(10) {
             0 => VmSpec {
                 balloon_max: 0,
@@ -109,15 +112,30 @@ impl Draws {
                 ..spec
             },
             5 => VmSpec { shares: 0, ..spec },
+            6 => VmSpec {
+                tau: Some(self.tax()),
+                ..spec
+            },
             _ => spec,
         }
     }
 
-    /// A machine of the shape, as it is admitted at the beginning.
-    pub fn admission(&self, place: u32) -> Event {
+    /// A tax of a machine's own, mostly none.
+    fn own_tax(&mut self) -> Option<u32> {
+        match self.below(4) {
+            0 => Some(self.below(MAX_TAU + 1)),
+            _ => None,
+        }
+    }
+
+    /// A machine of the shape, as it is admitted at the beginning; some have a tax of their own.
+    pub fn admission(&mut self, place: u32) -> Event {
         Event::Admit {
             vm: self.machine_at(place),
-            spec: self.shape.spec,
+            spec: VmSpec {
+                tau: self.own_tax(),
+                ..self.shape.spec
+            },
         }
     }
 
@@ -218,13 +236,15 @@ impl Draws {
         match kind {
             0..=5 => Event::Ask { vm },
             6..=11 => Event::Rebalance,
-            12..=16 => Event::SetTax {
-                tau: self.below(110),
+            12..=16 => Event::SetTax { tau: self.tax() },
+            17..=20 => Event::SetVmTax {
+                vm,
+                tau: self.tax(),
             },
-            17 | 18 => Event::Stop { vm },
-            19..=21 => Event::DropPage { vm, page },
-            22..=24 => Event::Gone { vm },
-            25..=27 => Event::Admit {
+            21 | 22 => Event::Stop { vm },
+            23..=25 => Event::DropPage { vm, page },
+            26..=28 => Event::Gone { vm },
+            29..=31 => Event::Admit {
                 vm,
                 spec: self.spec(),
             },
@@ -244,7 +264,7 @@ impl Draws {
                 Ok(self.paging(kind))
             }
             _ => {
-                let kind = self.below(32);
+                let kind = self.below(36);
                 Ok(self.standing(kind))
             }
         }

@@ -26,8 +26,7 @@ use crate::draws::Draws;
 use crate::play::Play;
 use crate::site::shape_of;
 use crate::tally::Tally;
-use anyhow::{Context, Result, bail, ensure};
-use esx_types::VmId;
+use anyhow::{Result, bail, ensure};
 use std::alloc::Global;
 
 const PATHS: u32 = 1600;
@@ -35,10 +34,10 @@ const PATHS: u32 = 1600;
 const SEED: u64 = 20021209;
 
 /// Makes the path of a number.
-fn make_path(alloc: Global, first: VmId, number: u32, tally: &mut Tally) -> Result<()> {
+fn make_path(alloc: Global, number: u32, tally: &mut Tally) -> Result<()> {
     let shape = shape_of(number);
     let seed = SEED.wrapping_add(u64::from(number));
-    let mut draws = Draws::new(alloc, shape, seed, first);
+    let mut draws = Draws::new(alloc, shape, seed);
     let mut play = Play::open(alloc, shape)?;
     if let Err(fault) = play.go(&mut draws, tally) {
         let step = play.calls;
@@ -48,10 +47,9 @@ fn make_path(alloc: Global, first: VmId, number: u32, tally: &mut Tally) -> Resu
 }
 
 fn main(rt: HostRuntime) -> Result<()> {
-    let first = VmId::new(0).context("there is no machine")?;
     let mut tally = Tally::new();
     for number in 0..PATHS {
-        make_path(rt.alloc(), first, number, &mut tally)?;
+        make_path(rt.alloc(), number, &mut tally)?;
     }
     tally.print(&rt)?;
     ensure!(tally.is_whole(), "something was met too seldom");

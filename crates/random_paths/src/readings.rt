@@ -216,11 +216,10 @@ fn table_row(number: VmId, vm: &Vm) -> TableRow {
 
 pub fn table(plain: &Plain, alloc: Global) -> Result<Vec<TableRow>, AllocError> {
     let mut rows = Vec::new(alloc);
-    for number in 0..32_u8 {
-        if let Some(number) = VmId::new(number) {
-            if let Some(vm) = vm_at(plain, number) {
-                rows.push(table_row(number, vm))?;
-            }
+    for number in 0..=u8::MAX {
+        let number = VmId::new(number);
+        if let Some(vm) = vm_at(plain, number) {
+            rows.push(table_row(number, vm))?;
         }
     }
     Ok(rows)

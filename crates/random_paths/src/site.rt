@@ -47,6 +47,7 @@ const HALF: VmSpec = VmSpec {
     overhead: 1,
     shares: 1000,
     balloon_max: 3,
+    tau: None,
 };
 
 /// All frames are promised, so that pages are replaced.
@@ -130,6 +131,7 @@ const LARGE: Shape = Shape {
         overhead: 1,
         shares: 1000,
         balloon_max: 100,
+        tau: None,
     },
     fill: 34,
     between: 100,
@@ -149,6 +151,7 @@ const HUGE: Shape = Shape {
         overhead: 1,
         shares: 1000,
         balloon_max: 100,
+        tau: None,
     },
     fill: 30,
     calls: 60,
@@ -156,11 +159,11 @@ const HUGE: Shape = Shape {
     ..PAIR
 };
 
-/// As many machines as there may be, of which many pages are revoked at once.
+/// Many machines, of which many pages are revoked at once.
 const MANY: Shape = Shape {
     site: Config {
-        frames: 150,
-        slots: 140,
+        frames: 190,
+        slots: 170,
         tau: 90,
         high: 50,
         soft: 45,
@@ -168,15 +171,16 @@ const MANY: Shape = Shape {
         low: 2,
         ..SMALL
     },
-    machines: 32,
+    machines: 40,
     spec: VmSpec {
         min: 1,
         max: 5,
         overhead: 1,
         shares: 1000,
         balloon_max: 3,
+        tau: None,
     },
-    fill: 118,
+    fill: 150,
     between: 100,
     ..PAIR
 };

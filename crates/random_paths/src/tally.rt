@@ -13,7 +13,7 @@ const LEAST_MET: u32 = 20;
 /// Each turn of an answer is met as often at least.
 const LEAST_TURN: u32 = 4;
 
-const KINDS: [&str; 17] = [
+const KINDS: [&str; 18] = [
     "admit",
     "start",
     "read",
@@ -28,6 +28,7 @@ const KINDS: [&str; 17] = [
     "replace",
     "shares",
     "tax",
+    "vmtax",
     "stop",
     "drop",
     "gone",
@@ -38,12 +39,13 @@ const CALLS: [&str; 14] = [
     "advise", "where", "marks",
 ];
 
-const TURNS: [&str; 24] = [
+const TURNS: [&str; 25] = [
     "reset",
     "hinted",
     "shared",
     "stale",
     "already",
+    "clash",
     "out",
     "shared out",
     "copied on write",
@@ -69,11 +71,11 @@ const TURNS: [&str; 24] = [
 /// and each turn of an answer met; and how many books were compared.
 #[derive(Drop)]
 pub struct Tally {
-    accepted: [u32; 17],
-    refused: [u32; 17],
+    accepted: [u32; 18],
+    refused: [u32; 18],
     answered: [u32; 14],
     refusals: [u32; 28],
-    turns: [u32; 24],
+    turns: [u32; 25],
     calls: u32,
     books: u32,
 }
@@ -94,9 +96,10 @@ fn kind_of(event: &Event) -> usize {
         Event::Replace { .. } => 11,
         Event::SetShares { .. } => 12,
         Event::SetTax { .. } => 13,
-        Event::Stop { .. } => 14,
-        Event::DropPage { .. } => 15,
-        Event::Gone { .. } => 16,
+        Event::SetVmTax { .. } => 14,
+        Event::Stop { .. } => 15,
+        Event::DropPage { .. } => 16,
+        Event::Gone { .. } => 17,
     }
 }
 
@@ -138,11 +141,11 @@ fn are_all(counts: &[u32], least: u32) -> bool {
 impl Tally {
     pub fn new() -> Tally {
         Tally {
-            accepted: [0; 17],
-            refused: [0; 17],
+            accepted: [0; 18],
+            refused: [0; 18],
             answered: [0; 14],
             refusals: [0; 28],
-            turns: [0; 24],
+            turns: [0; 25],
             calls: 0,
             books: 0,
         }

@@ -1,6 +1,7 @@
 // What is run of threads that come and go at one lock, over and over: a wake that is lost would keep one of them for ever.
 
 use crate::crowd::{TURNS, share};
+use esx_types::CALLERS;
 use std::test::Fail;
 
 const PLAYS: u32 = 2_500;
@@ -15,5 +16,14 @@ fn nobody_sleeps_for_ever(rt: HostRuntime) -> Result<(), Fail> {
             );
         }
     }
+    Ok(())
+}
+
+#[test]
+fn as_many_callers_as_there_may_be(rt: HostRuntime) -> Result<(), Fail> {
+    assert_eq!(rt;
+        share(&rt, rt.alloc(), CALLERS)?,
+        Some(CALLERS * TURNS as usize)
+    );
     Ok(())
 }

@@ -8,7 +8,7 @@ use esx_session::parse_session;
 use esx_types::Config;
 use std::test::Fail;
 
-const ROWS: [Row; 6] = [
+const ROWS: [Row; 7] = [
     // shares, in and out of their range
     Row {
         input: b"admit 0 2 6 1 1000 0\nstart 0\nshares 0 2000\ntable\nshares 0 0\nshares 9 1\nshares 0 1048577\nshares 0 1048576\n",
@@ -18,6 +18,11 @@ const ROWS: [Row; 6] = [
     Row {
         input: b"tax 100\ntax 99\ntax 0\nwhere\n",
         output: b"no 3 BadSpec\nok\nok\nat 2 depth 2 jumps 0\n",
+    },
+    // a tax of a machine's own, in and out of its range
+    Row {
+        input: b"vmtax 0 100\nadmit 0 2 6 1 1000 0 100\nadmit 0 2 6 1 1000 0 99\nvmtax 0 100\nvmtax 0 20\nvmtax 255 0\ntax 50\ntable\nwhere\n",
+        output: b"no 1 NoVm\nno 3 BadSpec\nok memory 3/20 swap 4/8\nno 3 BadSpec\nok\nno 1 NoVm\nok\n vm state        min     max  target    here    lent     out  shares  active\n  0 starting       2       6       6       0       0       0    1000   65536\noverhead 0 private 0 shared 0 free 20 high\nat 3 depth 3 jumps 0\n",
     },
     // a machine leaves by two overhead frames
     Row {
@@ -80,16 +85,23 @@ fn tries_at_a_full_journal(rt: HostRuntime) -> Result<(), Fail> {
 }
 
 const SAME: &str =
-    "esx session 1\nframes 20 page 16 slots 8 tau 75 levels 6 4 2 1 nodes 16777216\n0 admit 0 2 6 1 1000 0\n= ok memory 3/20 swap 4/8\n0 start 0\n= ok frame 0 overhead 1/1 running\n0 sum\n= overhead 1 private 0 shared 0 free 19 high\nend 3\n";
+    "esx session 2\nframes 20 page 16 slots 8 tau 75 levels 6 4 2 1 nodes 16777216\n0 admit 0 2 6 1 1000 0\n= ok memory 3/20 swap 4/8\n0 start 0\n= ok frame 0 overhead 1/1 running\n0 sum\n= overhead 1 private 0 shared 0 free 19 high\nend 3\n";
+
+const OLD: &str =
+    "esx session 1\nframes 20 page 16 slots 8 tau 75 levels 6 4 2 1 nodes 16777216\n63 admit 31 2 6 1 1000 0\n= ok memory 3/20 swap 4/8\nend 1\n";
 
 const DIFFERS: &str =
-    "esx session 1\nframes 20 page 16 slots 8 tau 75 levels 6 4 2 1 nodes 16777216\n0 admit 0 2 6 1 1000 0\n= ok memory 3/20 swap 4/8\n0 start 0\n= ok frame 1 overhead 1/1 running\n0 sum\n= overhead 1 private 0 shared 0 free 19 high\nend 3\n";
+    "esx session 2\nframes 20 page 16 slots 8 tau 75 levels 6 4 2 1 nodes 16777216\n0 admit 0 2 6 1 1000 0\n= ok memory 3/20 swap 4/8\n0 start 0\n= ok frame 1 overhead 1/1 running\n0 sum\n= overhead 1 private 0 shared 0 free 19 high\nend 3\n";
 
 /// A session, and the text of one, come to the same.
 #[test]
 fn checks(rt: HostRuntime) -> Result<(), Fail> {
     let alloc = rt.alloc();
-    for (text, checked) in [(SAME, Checked::Same(3)), (DIFFERS, Checked::Differs(2))] {
+    for (text, checked) in [
+        (SAME, Checked::Same(3)),
+        (OLD, Checked::Same(1)),
+        (DIFFERS, Checked::Differs(2)),
+    ] {
         let Ok(session) = parse_session(alloc, text) else {
             return Err(Fail::new("the session"));
         };
@@ -97,7 +109,7 @@ fn checks(rt: HostRuntime) -> Result<(), Fail> {
         assert_eq!(rt; check_text(alloc, text), Ok(checked));
     }
     let text =
-        "esx session 1\nframes 20 page 16 slots 8 tau 75 levels 6 4 2 1 nodes 16777216\n0 sum\nend 1\n";
+        "esx session 2\nframes 20 page 16 slots 8 tau 75 levels 6 4 2 1 nodes 16777216\n0 sum\nend 1\n";
     assert_eq!(rt; check_text(alloc, text), Err(TextFault::BadLine(4)));
     Ok(())
 }

@@ -29,14 +29,14 @@ struct Row {
 
 const ROWS: [Row; 2] = [
     Row {
-        text: "esx session 1\nframes 20 page 16 slots 8 tau 75 levels 6 4 2 1 nodes 16777216\n0 admit 0 2 6 1 1000 0\n= ok memory 3/20 swap 4/8\n0 start 0\n= ok frame 0 overhead 1/1 running\n0 sum\n= overhead 1 private 0 shared 0 free 19 high\nend 3\n",
+        text: "esx session 2\nframes 20 page 16 slots 8 tau 75 levels 6 4 2 1 nodes 16777216\n0 admit 0 2 6 1 1000 0\n= ok memory 3/20 swap 4/8\n0 start 0\n= ok frame 0 overhead 1/1 running\n0 sum\n= overhead 1 private 0 shared 0 free 19 high\nend 3\n",
         checked: Checked::Same(3),
         line: b"same 3\n",
         status: 0,
         progress: b"\r3 calls\n",
     },
     Row {
-        text: "esx session 1\nframes 20 page 16 slots 8 tau 75 levels 6 4 2 1 nodes 16777216\n0 admit 0 2 6 1 1000 0\n= ok memory 3/20 swap 4/8\n0 start 0\n= ok frame 1 overhead 1/1 running\n0 sum\n= overhead 1 private 0 shared 0 free 19 high\nend 3\n",
+        text: "esx session 2\nframes 20 page 16 slots 8 tau 75 levels 6 4 2 1 nodes 16777216\n0 admit 0 2 6 1 1000 0\n= ok memory 3/20 swap 4/8\n0 start 0\n= ok frame 1 overhead 1/1 running\n0 sum\n= overhead 1 private 0 shared 0 free 19 high\nend 3\n",
         checked: Checked::Differs(2),
         line: b"differs 2\n",
         status: 1,
@@ -187,7 +187,7 @@ fn a_writer_that_cannot_flush(rt: HostRuntime) {
 fn a_bad_line_behind_a_difference(rt: HostRuntime) {
     let alloc = rt.alloc();
     let text =
-        "esx session 1\nframes 20 page 16 slots 8 tau 75 levels 6 4 2 1 nodes 16777216\n0 sum\n= ok\nend 2\n";
+        "esx session 2\nframes 20 page 16 slots 8 tau 75 levels 6 4 2 1 nodes 16777216\n0 sum\n= ok\nend 2\n";
     let to: Option<&Screen> = None;
     assert_eq!(rt; check_watched(alloc, text, to), Err(TextFault::BadLine(5)));
 }
@@ -233,13 +233,13 @@ fn fault_of<R: AllocGlobal + Threads + Wait + Sync>(
 fn no_sessions(rt: HostRuntime) -> Result<(), Fail> {
     assert_eq!(rt; fault_of(&rt, b"", false)?, TextFault::BadLine(1));
     assert_eq!(rt;
-        fault_of(&rt, b"esx session 1\n", false)?,
+        fault_of(&rt, b"esx session 2\n", false)?,
         TextFault::BadLine(2)
     );
     assert_eq!(rt;
-        fault_of(&rt, b"esx session 1\n\xff", false)?,
+        fault_of(&rt, b"esx session 2\n\xff", false)?,
         TextFault::NotText
     );
-    assert_eq!(rt; fault_of(&rt, b"esx session 1\n", true)?, TextFault::Read);
+    assert_eq!(rt; fault_of(&rt, b"esx session 2\n", true)?, TextFault::Read);
     Ok(())
 }

@@ -7,7 +7,7 @@ use std::test::Fail;
 
 const SMALL: Config = Config { frames: 8, ..SITE };
 
-const MECHANISMS: [Row; 9] = [
+const MECHANISMS: [Row; 10] = [
     // pages of equal content share a frame, and part again
     Row {
         input: b"admit 0 2 6 1 1000 0\nstart 0\nread 0 0 0 16\npage 0 0\nsum\nadmit 1 2 6 1 1000 0\nstart 1\nwrite 0 1 0 2a\nwrite 1 0 0 2a\nscan 0 1\nscan 1 0\nsum\nwrite 1 0 0 2b\npage 1 0\npage 0 1\nread 0 1 0 1\n",
@@ -22,6 +22,11 @@ const MECHANISMS: [Row; 9] = [
     Row {
         input: b"admit 0 2 6 1 1000 0\nstart 0\nread 0 0 0 16\npage 0 0\nsum\nwrite 0 1 0 2a\nscan 0 1\nwrite 0 1 0 2b\nwrite 0 2 0 2a\nscan 0 2\npage 0 1\npage 0 2\n",
         output: b"ok memory 3/20 swap 4/8\nok frame 0 overhead 1/1 running\nok 00000000000000000000000000000000\nhere frame 1 private\noverhead 1 private 1 shared 0 free 18 high\nok\nok hinted\nok\nok\nok stale\nhere frame 2 private\nhere frame 3 private hint\n",
+    },
+    // two contents whose keys have one short
+    Row {
+        input: b"admit 0 2 6 1 1000 0\nstart 0\nwrite 0 0 0 00000000000095280000000000000000\nwrite 0 1 0 000000000000e6ff0000000000000000\nscan 0 0\nscan 0 1\npage 0 0\npage 0 1\nwrite 0 2 6 9528\nscan 0 2\nsum\n",
+        output: b"ok memory 3/20 swap 4/8\nok frame 0 overhead 1/1 running\nok\nok\nok hinted\nok clash\nhere frame 1 private hint\nhere frame 2 private\nok\nok shared frame 1 count 2\noverhead 1 private 1 shared 1 free 17 high\n",
     },
     // sampled activity
     Row {
@@ -55,7 +60,7 @@ const MECHANISMS: [Row; 9] = [
     },
 ];
 
-const SCARCE: [Row; 8] = [
+const SCARCE: [Row; 9] = [
     // a balloon, and its reset
     Row {
         input: b"admit 0 2 8 1 1000 4\nstart 0\nread 0 0 0 1\nread 0 1 0 1\nread 0 2 0 1\nread 0 3 0 1\nread 0 4 0 1\nrebalance\nask 0\nlend 0 4\nlend 0 3\nlend 0 3\nwrite 0 4 2 7f\nread 0 4 0 4\npage 0 4\nask 0\ntakeback 0 3\nask 0\nread 0 3 0 1\npage 0 3\n",
@@ -90,6 +95,11 @@ const SCARCE: [Row; 8] = [
     Row {
         input: b"admit 0 1 6 1 1000 0\nadmit 1 1 4 1 1000 0\nstart 0\nstart 1\nwrite 0 0 0 2a\nwrite 1 0 0 2a\nscan 1 0\nread 0 1 0 1\nread 0 2 0 1\nrebalance\nswapout 0 0\nsum\nswapout 0 0\npage 1 0\nundo 2\nsum\npage 1 0\nredo 2\npage 0 0\n",
         output: b"ok memory 2/8 swap 5/8\nok memory 4/8 swap 8/8\nok frame 0 overhead 1/1 running\nok frame 1 overhead 1/1 running\nok\nok\nok hinted\nok 00\nok 00\nok need 3 revoked 2\nok shared 0 frame 3\noverhead 2 private 2 shared 1 free 3 soft\nok out 0 slot 0\nhere frame 3 shared 1\nat 10 depth 10 jumps 1\noverhead 2 private 4 shared 0 free 2 soft\nhere frame 3 private hint\nat 12 depth 12 jumps 2\nout slot 0\n",
+    },
+    // of two machines that are alike and partly idle the one with the higher tax loses pages first
+    Row {
+        input: b"admit 0 1 5 1 1000 0\nadmit 255 1 5 1 1000 0 76\nstart 0\nstart 255\nread 0 0 0 1\nread 0 1 0 1\nread 0 2 0 1\nread 255 0 0 1\nread 255 1 0 1\nread 255 2 0 1\nsample 0 1 4\nread 0 0 0 1\nsample 255 1 4\nread 255 0 0 1\nrebalance\nadvise 0 3\nvmtax 255 75\nadvise 0 3\nundo 1\nadvise 0 3\n",
+        output: b"ok memory 2/8 swap 4/8\nok memory 4/8 swap 8/8\nok frame 0 overhead 1/1 running\nok frame 1 overhead 1/1 running\nok 00\nok 00\nok 00\nok 00\nok 00\nok 00\nok period 1 pages 1\nok 00\nok period 1 pages 1\nok 00\nok need 5 revoked 4\nswapout 255\nok\nswapout 0\nat 15 depth 15 jumps 1\nswapout 255\n",
     },
     // a page that waits gets on by four advised events
     Row {

@@ -84,7 +84,7 @@ impl Read for Tape {
 
 const SMALL: &[u8] = b"version = 1\n[machine]\nframes = 20\npage = 16\nslots = 8\n";
 
-const OTHER: &[u8] = b"version = 1\n[machine]\nframes = 8\npage = 32\nslots = 0\nnodes = 2\n";
+const OTHER: &[u8] = b"version = 2\n[machine]\nframes = 8\npage = 32\nslots = 0\nnodes = 2\n";
 
 /// Serves one `sum` at the site of a file, and gives what is answered.
 fn sum_at<R: AllocGlobal + Threads + Wait + Sync>(
@@ -137,7 +137,7 @@ fn no_sites(rt: HostRuntime) -> Result<(), Fail> {
         (taped(SMALL, true), 1, "read fault"),
         (taped(b"version = 1\n\xff", false), 1, "bad text"),
         (taped(b"frames = ", false), 1, "bad toml"),
-        (taped(b"version = 2", false), 1, "bad key version"),
+        (taped(b"version = 3", false), 1, "bad key version"),
         (Err(io::Error::from(ErrorKind::NotFound)), 1, "read fault"),
         (Err(io::Error::from(ErrorKind::OutOfMemory)), 3, "no memory"),
     ];

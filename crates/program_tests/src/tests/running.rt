@@ -14,12 +14,12 @@ use std::test::Fail;
 use std::thread::Threads;
 
 const TWO_GUESTS: &str =
-    "version = 1\n[machine]\nframes = 20\npage = 16\nslots = 8\n[run]\nturns = 6\n[[vm]]\nid = 1\nmin = 2\nmax = 6\noverhead = 1\nshares = 1000\nballoon = 0\ntrace = [\"read 0 0 1\", \"read 1 0 1\", \"read 2 0 1\", \"read 3 0 1\", \"read 4 0 1\"]\n[[vm]]\nid = 0\nmin = 2\nmax = 6\noverhead = 1\nshares = 1000\nballoon = 0\ntrace = [\"read 0 0 1\", \"read 1 0 1\", \"read 2 0 1\", \"read 3 0 1\", \"read 4 0 1\"]\n";
+    "version = 2\n[machine]\nframes = 20\npage = 16\nslots = 8\n[run]\nturns = 6\n[[vm]]\nid = 200\nmin = 2\nmax = 6\noverhead = 1\nshares = 1000\nballoon = 0\ntau = 50\ntrace = [\"read 0 0 1\", \"read 1 0 1\", \"read 2 0 1\", \"read 3 0 1\", \"read 4 0 1\"]\n[[vm]]\nid = 0\nmin = 2\nmax = 6\noverhead = 1\nshares = 1000\nballoon = 0\ntrace = [\"read 0 0 1\", \"read 1 0 1\", \"read 2 0 1\", \"read 3 0 1\", \"read 4 0 1\"]\n";
 
 const TOO_MUCH: &str =
     "version = 1\n[machine]\nframes = 20\npage = 16\nslots = 8\n[[vm]]\nid = 0\nmin = 20\nmax = 20\noverhead = 1\nshares = 1000\nballoon = 0\n";
 
-const ENDS: &[u8] = b"guest 0 done\nguest 1 done\nsharer turns\nswapper turns\npolicy turns\n";
+const ENDS: &[u8] = b"guest 0 done\nguest 200 done\nsharer turns\nswapper turns\npolicy turns\n";
 
 /// Runs the scenario of a text, and gives the end and the two writers.
 fn run<R: AllocGlobal + Threads + Wait + Sync, E: Write + Drop, W: Write + Drop>(
@@ -104,7 +104,7 @@ fn runs_onto_full_disks(rt: HostRuntime) {
     let (ended, errors, writer) = run(&rt, TWO_GUESTS, Vec::new(alloc), disk(alloc, 14));
     assert!(rt; matches!(&ended, Err(Failure::Run(RunFault::Write))));
     assert!(rt; errors.as_slice() == ENDS);
-    assert!(rt; writer.bytes.as_slice() == b"esx session 1\n".as_slice());
+    assert!(rt; writer.bytes.as_slice() == b"esx session 2\n".as_slice());
     let (ended, errors, writer) = run(&rt, TWO_GUESTS, disk(alloc, 0), Vec::new(alloc));
     assert!(rt; matches!(&ended, Ok(Done::Ran)));
     assert!(rt; errors.bytes.is_empty() && !writer.is_empty());

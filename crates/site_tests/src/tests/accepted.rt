@@ -14,13 +14,6 @@ use std::test::Fail;
 /// A small site, where frames are soon scarce.
 const FEW: Config = Config { frames: 8, ..SITE };
 
-fn machine(number: u8) -> Result<VmId, Fail> {
-    match VmId::new(number) {
-        Some(vm) => Ok(vm),
-        None => Err(Fail::new("the number")),
-    }
-}
-
 fn read(vm: VmId, page: u32) -> Event {
     let (at, len) = (0, 1);
     Event::Read { vm, page, at, len }
@@ -47,24 +40,43 @@ fn expect_set(
     rt: &impl Abort,
     alloc: Global,
     path: &[Event],
-    want: (u32, u32),
+    want: (u32, Option<u32>, u32),
 ) -> Result<(), Fail> {
     let book = book_of(alloc, &SITE, path)?;
     let row = first_row(&book)?;
-    assert_eq!(rt; (row.spec.shares, book.tau), want);
+    assert_eq!(rt; (row.spec.shares, row.spec.tau, book.tau), want);
     Ok(())
 }
 
 #[test]
-fn shares_and_a_tax_are_set(rt: HostRuntime) -> Result<(), Fail> {
-    let vm = machine(0)?;
+fn shares_and_taxes_are_set(rt: HostRuntime) -> Result<(), Fail> {
+    let vm = VmId::new(0);
     let path = [
         Event::Admit { vm, spec: SPEC },
         Event::SetShares { vm, shares: 2000 },
         Event::SetTax { tau: 50 },
+        Event::SetVmTax { vm, tau: 50 },
+        Event::SetTax { tau: 99 },
     ];
-    expect_set(&rt, rt.alloc(), &path[..2], (2000, 75))?;
-    expect_set(&rt, rt.alloc(), &path, (2000, 50))
+    expect_set(&rt, rt.alloc(), &path[..2], (2000, None, 75))?;
+    expect_set(&rt, rt.alloc(), &path[..3], (2000, None, 50))?;
+    expect_set(&rt, rt.alloc(), &path, (2000, Some(50), 99))
+}
+
+#[test]
+fn a_machine_comes_with_a_tax(rt: HostRuntime) -> Result<(), Fail> {
+    let vm = VmId::new(0);
+    let spec = VmSpec {
+        tau: Some(99),
+        ..SPEC
+    };
+    let path = [
+        Event::Admit { vm, spec },
+        Event::SetTax { tau: 0 },
+        Event::SetVmTax { vm, tau: 20 },
+    ];
+    expect_set(&rt, rt.alloc(), &path[..2], (1000, Some(99), 0))?;
+    expect_set(&rt, rt.alloc(), &path, (1000, Some(20), 0))
 }
 
 fn expect_taken_back(rt: &impl Abort, pages: &[MapRow]) {
@@ -74,7 +86,7 @@ fn expect_taken_back(rt: &impl Abort, pages: &[MapRow]) {
 
 #[test]
 fn a_lent_page_is_taken_back(rt: HostRuntime) -> Result<(), Fail> {
-    let vm = machine(0)?;
+    let vm = VmId::new(0);
     let spec = VmSpec {
         balloon_max: 4,
         ..SPEC
@@ -130,7 +142,7 @@ fn expect_counted(rt: &impl Abort, alloc: Global, path: &[Event]) -> Result<(), 
 
 #[test]
 fn a_period_opens_and_counts(rt: HostRuntime) -> Result<(), Fail> {
-    let vm = machine(0)?;
+    let vm = VmId::new(0);
     let path = [
         Event::Admit { vm, spec: SPEC },
         Event::Start { vm },
@@ -162,7 +174,7 @@ fn expect_one_held(rt: &impl Abort, slots: &[SlotRow]) {
 
 #[test]
 fn a_page_makes_room_for_another(rt: HostRuntime) -> Result<(), Fail> {
-    let (one, two) = (machine(0)?, machine(1)?);
+    let (one, two) = (VmId::new(0), VmId::new(1));
     let spec = VmSpec { min: 3, ..SPEC };
     let path = [
         Event::Admit { vm: one, spec },
@@ -230,7 +242,7 @@ fn are_free(frames: &[FrameRow]) -> bool {
 
 #[test]
 fn a_machine_leaves(rt: HostRuntime) -> Result<(), Fail> {
-    let vm = machine(0)?;
+    let vm = VmId::new(0);
     let spec = VmSpec {
         overhead: 2,
         ..SPEC

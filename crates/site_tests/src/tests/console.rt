@@ -14,7 +14,7 @@ fn make(console: &mut Console, event: Event) -> Result<(), Fail> {
 }
 
 fn start(console: &mut Console) -> Result<(), Fail> {
-    let vm = VmId::new(0).ok_or("vm")?;
+    let vm = VmId::new(0);
     make(console, Event::Admit { vm, spec: SPEC })?;
     make(console, Event::Start { vm })
 }

@@ -35,33 +35,63 @@ fn expect_chain(rt: &impl Abort, found: u32, want: u32) {
     assert_eq!(rt; found, want);
 }
 
+/// The least key with this short.
+fn key_of(short: u64) -> u64 {
+    short << 32
+}
+
 #[test]
 fn one_head_holds_eight_hints(rt: HostRuntime) -> Result<(), Fail> {
-    let vm = VmId::new(0).expect(&rt, "a machine has number 0");
+    let vm = VmId::new(0);
     let mut keys = Keys::new(rt.alloc(), 8)?;
     for page in 0..8_u32 {
-        let key = u64::from(page) * 8;
+        let key = key_of(u64::from(page) * 8);
         assert!(rt; keys.hint(key).is_none());
         keys.put(key, Entry::Hint { vm, page });
     }
     expect_chain(&rt, keys.chain(0), 8);
     expect_chain(&rt, keys.chain(1), 0);
     assert_eq!(rt;
-        keys.take(24, Kind::Hint),
+        keys.take(key_of(24), Kind::Hint),
         Some(Entry::Hint { vm, page: 3 })
     );
     for page in [0, 1, 2, 4, 5, 6, 7_u32] {
-        expect_page(&rt, keys.hint(u64::from(page) * 8), Some((vm, page)));
+        let key = key_of(u64::from(page) * 8);
+        expect_page(&rt, keys.hint(key), Some((vm, page)));
     }
-    assert!(rt; keys.hint(64).is_none());
-    keys.put(64, Entry::Hint { vm, page: 8 });
-    expect_page(&rt, keys.hint(64), Some((vm, 8)));
+    let key = key_of(64);
+    assert!(rt; keys.hint(key).is_none());
+    keys.put(key, Entry::Hint { vm, page: 8 });
+    expect_page(&rt, keys.hint(key), Some((vm, 8)));
+    Ok(())
+}
+
+#[test]
+fn keys_with_one_short_have_one_hint(rt: HostRuntime) -> Result<(), Fail> {
+    let vm = VmId::new(1);
+    let mut keys = Keys::new(rt.alloc(), 3)?;
+    let (one, other) = (0x5_0000_0000, 0x5_0000_0001);
+    assert!(rt; keys.shared(one).is_none());
+    keys.put(one, Entry::Shared { frame: 3 });
+    assert!(rt; keys.shared(other).is_none());
+    keys.put(other, Entry::Shared { frame: 4 });
+    assert!(rt; keys.hint(one).is_none());
+    keys.put(one, Entry::Hint { vm, page: 2 });
+    expect_page(&rt, keys.hint(other), Some((vm, 2)));
+    expect_frame(&rt, keys.shared(one), Some(3));
+    expect_frame(&rt, keys.shared(other), Some(4));
+    expect_entry(
+        &rt,
+        keys.take(other, Kind::Hint),
+        Entry::Hint { vm, page: 2 },
+    );
+    expect_page(&rt, keys.hint(one), None);
     Ok(())
 }
 
 #[test]
 fn a_key_leads_to_a_frame_and_a_page(rt: HostRuntime) -> Result<(), Fail> {
-    let vm = VmId::new(31).expect(&rt, "a machine has number 31");
+    let vm = VmId::new(255);
     let mut keys = Keys::new(rt.alloc(), 2)?;
     assert!(rt; keys.shared(7).is_none());
     keys.put(7, Entry::Shared { frame: 5 });
@@ -77,7 +107,7 @@ fn a_key_leads_to_a_frame_and_a_page(rt: HostRuntime) -> Result<(), Fail> {
 
 #[test]
 fn the_least_frame_under_a_key_is_found(rt: HostRuntime) -> Result<(), Fail> {
-    let vm = VmId::new(3).expect(&rt, "a machine has number 3");
+    let vm = VmId::new(3);
     let mut listings = Listings::new(rt.alloc(), 4)?;
     let mut hint = Listing::Hinted {
         vm,
@@ -156,7 +186,7 @@ fn expect_hints(rt: &impl Abort, hints: &[Hint], vm: VmId) {
 
 #[test]
 fn what_stands_is_read_in_order_of_key(rt: HostRuntime) -> Result<(), Fail> {
-    let vm = VmId::new(3).expect(&rt, "a machine has number 3");
+    let vm = VmId::new(3);
     let mut listings = Listings::new(rt.alloc(), 6)?;
     list_in_order(&mut listings, vm);
     let shared = listings.shared(rt.alloc())?;

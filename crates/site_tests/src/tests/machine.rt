@@ -34,7 +34,7 @@ fn answer(rt: &impl Abort, machine: &mut Machine, event: &Event) -> Result<Answe
 }
 
 fn expect_admitted(rt: &impl Abort, machine: &mut Machine) -> Result<(), Fail> {
-    let vm = VmId::new(0).ok_or("vm")?;
+    let vm = VmId::new(0);
     let admitted = answer(rt, machine, &Event::Admit { vm, spec: SPEC })?;
     assert!(rt; matches!(&admitted, Answer::Admitted { reserves } if reserves.get().memory == 3));
     Ok(())

@@ -15,6 +15,7 @@ const SPEC: VmSpec = VmSpec {
     overhead: 1,
     shares: 1000,
     balloon_max: 0,
+    tau: None,
 };
 
 fn text_in(alloc: Global, vm: VmId) -> Result<Event, AllocError> {
@@ -61,8 +62,8 @@ fn expect_equal(rt: &impl Abort, book: &Book) {
 #[test]
 fn equal_pages_come_into_one_frame(rt: HostRuntime) {
     let alloc = rt.alloc();
-    let one = VmId::new(0).expect(&rt, "a number");
-    let two = VmId::new(1).expect(&rt, "a number");
+    let one = VmId::new(0);
+    let two = VmId::new(1);
     let path = [
         Event::Admit {
             vm: one,
@@ -83,9 +84,47 @@ fn equal_pages_come_into_one_frame(rt: HostRuntime) {
     expect_equal(&rt, &book);
 }
 
+/// A write that makes an untouched page end its first eight bytes with these.
+fn ends_in(alloc: Global, vm: VmId, page: u32, bytes: [u8; 2]) -> Result<Event, AllocError> {
+    Ok(Event::Write {
+        vm,
+        page,
+        at: 6,
+        bytes: SmallBytes::copy_of(alloc, &bytes)?,
+    })
+}
+
+fn expect_apart(rt: &impl Abort, book: &Book) {
+    assert_eq!(rt; book.shared.len(), 0);
+    assert_eq!(rt; book.hints.len(), 1);
+    assert!(rt;
+        book.hints
+            .as_slice()
+            .first()
+            .is_some_and(|hint| hint.page == 0)
+    );
+}
+
+/// The keys of these two contents differ in their lower halves alone.
+#[test]
+fn pages_of_one_short_stay_apart(rt: HostRuntime) {
+    let alloc = rt.alloc();
+    let vm = VmId::new(0);
+    let path = [
+        Event::Admit { vm, spec: SPEC },
+        Event::Start { vm },
+        ends_in(alloc, vm, 0, [0x95, 0x28]).expect(&rt, "memory"),
+        ends_in(alloc, vm, 1, [0xe6, 0xff]).expect(&rt, "memory"),
+        Event::Scan { vm, page: 0 },
+        Event::Scan { vm, page: 1 },
+    ];
+    let book = replay(alloc, &SITE, &path).expect(&rt, "a book");
+    expect_apart(&rt, &book);
+}
+
 /// The third event of a path is refused so.
 fn expect_refused(rt: &impl Abort, alloc: Global, last: Event, refusal: Refusal) {
-    let vm = VmId::new(0).expect(rt, "a number");
+    let vm = VmId::new(0);
     let path = [Event::Admit { vm, spec: SPEC }, Event::Start { vm }, last];
     let fault = replay(alloc, &SITE, &path).err();
     assert_eq!(rt; fault, Some(PlainFault::Refused { at: 2, refusal }));
@@ -96,8 +135,24 @@ fn refuses_a_machine(rt: &impl Abort, alloc: Global, vm: VmId, other: VmId) {
     expect_refused(rt, alloc, Event::Admit { vm, spec }, Refusal::VmThere);
     expect_refused(rt, alloc, Event::Start { vm }, Refusal::NotNeeded);
     expect_refused(rt, alloc, Event::Ask { vm: other }, Refusal::NoVm);
-    expect_refused(rt, alloc, Event::SetTax { tau: 100 }, Refusal::BadSpec);
     expect_refused(rt, alloc, Event::Gone { vm }, Refusal::NotNeeded);
+}
+
+fn refuses_a_tax(rt: &impl Abort, alloc: Global, vm: VmId, other: VmId) {
+    let tau = 100;
+    let spec = VmSpec {
+        tau: Some(tau),
+        ..SPEC
+    };
+    expect_refused(rt, alloc, Event::SetTax { tau }, Refusal::BadSpec);
+    expect_refused(rt, alloc, Event::SetVmTax { vm, tau }, Refusal::BadSpec);
+    expect_refused(rt, alloc, Event::SetVmTax { vm: other, tau }, Refusal::NoVm);
+    expect_refused(
+        rt,
+        alloc,
+        Event::Admit { vm: other, spec },
+        Refusal::BadSpec,
+    );
 }
 
 fn refuses_a_balloon(rt: &impl Abort, alloc: Global, vm: VmId) {
@@ -133,9 +188,10 @@ fn refuses_a_page(rt: &impl Abort, alloc: Global, vm: VmId) {
 
 #[test]
 fn the_first_refusal_ends_a_path(rt: HostRuntime) {
-    let vm = VmId::new(0).expect(&rt, "a number");
-    let other = VmId::new(1).expect(&rt, "a number");
+    let vm = VmId::new(0);
+    let other = VmId::new(1);
     refuses_a_machine(&rt, rt.alloc(), vm, other);
+    refuses_a_tax(&rt, rt.alloc(), vm, other);
     refuses_a_balloon(&rt, rt.alloc(), vm);
     refuses_a_page(&rt, rt.alloc(), vm);
 }
@@ -191,7 +247,7 @@ fn expect_out_of_range(rt: &impl Abort, fault: Option<PlainFault>) {
 
 #[test]
 fn a_page_comes_to_the_least_frame(rt: HostRuntime) {
-    let vm = VmId::new(0).expect(&rt, "a number");
+    let vm = VmId::new(0);
     let path = [
         Event::Admit { vm, spec: SPEC },
         Event::Start { vm },
@@ -219,13 +275,14 @@ fn expect_row(
 
 #[test]
 fn a_page_that_was_lent_pops_the_balloon(rt: HostRuntime) {
-    let vm = VmId::new(0).expect(&rt, "a number");
+    let vm = VmId::new(0);
     let spec = VmSpec {
         min: 2,
         max: 6,
         overhead: 1,
         shares: 1000,
         balloon_max: 4,
+        tau: None,
     };
     let path = [
         Event::Admit { vm, spec },
@@ -274,13 +331,14 @@ fn expect_three_out(rt: &impl Abort, book: &Book) {
 
 #[test]
 fn pages_go_to_the_least_slots(rt: HostRuntime) {
-    let vm = VmId::new(0).expect(&rt, "a number");
+    let vm = VmId::new(0);
     let spec = VmSpec {
         min: 2,
         max: 5,
         overhead: 1,
         shares: 1000,
         balloon_max: 0,
+        tau: None,
     };
     let path = [
         Event::Admit { vm, spec },

@@ -103,7 +103,7 @@ fn expect_records(
 
 #[test]
 fn records_hold_the_bytes_that_moved(rt: HostRuntime) -> Result<(), Fail> {
-    let vm = VmId::new(0).ok_or("vm")?;
+    let vm = VmId::new(0);
     let write = bytes_written(rt.alloc(), vm)?;
     match Machine::open(rt.alloc(), SITE) {
         Ok(mut machine) => {

@@ -20,6 +20,7 @@ pub const SPEC: VmSpec = VmSpec {
     overhead: 1,
     shares: 1000,
     balloon_max: 0,
+    tau: None,
 };
 
 /// Drops a value. Where a large one goes, this call is much less to prove than its fields' own drops, one by one.

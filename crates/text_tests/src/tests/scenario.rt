@@ -15,6 +15,8 @@ fn outcome(alloc: Global, text: &str) -> Result<String, AllocError> {
 
 const SITE: &str = "version = 1\n[machine]\nframes = 20\npage = 16\nslots = 8\n";
 
+const SITE_OF_TWO: &str = "version = 2\n[machine]\nframes = 20\npage = 16\nslots = 8\n";
+
 const VM: &str = "[[vm]]\nid = 0\nmin = 2\nmax = 6\noverhead = 1\nshares = 1000\nballoon = 4\n";
 
 #[test]
@@ -84,6 +86,7 @@ fn greatest_numbers(rt: HostRuntime) -> Result<(), Fail> {
         overhead: 1,
         shares: 1,
         balloon_max: 0,
+        tau: None,
     };
     assert_eq!(rt; guests[1].spec, spec);
     let trace = guests[0].trace.as_slice();
@@ -110,10 +113,15 @@ fn greatest_numbers(rt: HostRuntime) -> Result<(), Fail> {
     Ok(())
 }
 
-const TEXTS: [(&str, &str); 50] = [
+const TEXTS: [(&str, &str); 57] = [
     ("frames = ", "bad toml"),
     ("", "bad key version"),
-    ("version = 2", "bad key version"),
+    ("version = 0", "bad key version"),
+    ("version = 3", "bad key version"),
+    ("version = 3\nmachine = 3\nvm = 3", "bad key version"),
+    ("version = 2.0", "bad key version"),
+    ("version = '2'", "bad key version"),
+    ("version = 2", "bad key machine.frames"),
     ("version = '1'", "bad key version"),
     ("version = 1.0", "bad key version"),
     ("version = 1", "bad key machine.frames"),
@@ -221,6 +229,14 @@ const TEXTS: [(&str, &str); 50] = [
     ),
     (
         "version = 1\nvm = [{ id = 32 }]\n[machine]\nframes = 8\npage = 32\nslots = 0",
+        "bad key vm.0.id",
+    ),
+    (
+        "version = 2\nvm = [{ id = 255 }]\n[machine]\nframes = 8\npage = 32\nslots = 0",
+        "bad key vm.0.min",
+    ),
+    (
+        "version = 2\nvm = [{ id = 256 }]\n[machine]\nframes = 8\npage = 32\nslots = 0",
         "bad key vm.0.id",
     ),
     (
@@ -348,6 +364,105 @@ fn machines(rt: HostRuntime) -> Result<(), Fail> {
     Ok(())
 }
 
+/// Keys of a machine, and what they come to in each version: in version 1 a tax of its own is an unknown key.
+const OWN_TAXES: [(&str, &str, &str); 13] = [
+    ("", "ok", "ok"),
+    ("tau = 0", "bad key vm.0.tau", "ok"),
+    ("tau = 99", "bad key vm.0.tau", "ok"),
+    ("tau = 100", "bad key vm.0.tau", "bad key vm.0.tau"),
+    ("tau = -1", "bad key vm.0.tau", "bad key vm.0.tau"),
+    ("tau = 'x'", "bad key vm.0.tau", "bad key vm.0.tau"),
+    ("tau = 1.0", "bad key vm.0.tau", "bad key vm.0.tau"),
+    (
+        "tau = 100\ntrace = 1",
+        "bad key vm.0.trace",
+        "bad key vm.0.tau",
+    ),
+    (
+        "tau = 1\ntrace = 1",
+        "bad key vm.0.trace",
+        "bad key vm.0.trace",
+    ),
+    (
+        "tau = 1\nshape = 1",
+        "bad key vm.0.shape",
+        "bad key vm.0.shape",
+    ),
+    (
+        "tau = 100\nshape = 1",
+        "bad key vm.0.shape",
+        "bad key vm.0.tau",
+    ),
+    ("tau = 1\nzone = 1", "bad key vm.0.tau", "bad key vm.0.zone"),
+    (
+        "tau = 100\n[[vm]]\nid = 0",
+        "bad key vm.1.id",
+        "bad key vm.0.tau",
+    ),
+];
+
+#[test]
+fn own_taxes(rt: HostRuntime) -> Result<(), Fail> {
+    let alloc = rt.alloc();
+    for (keys, in_one, in_two) in &OWN_TAXES {
+        let text = format!(in alloc; "{SITE}{VM}{keys}\n")?;
+        let came = outcome(alloc, text.as_str())?;
+        assert_eq!(rt; came.as_str(), *in_one, "{keys}");
+        let text = format!(in alloc; "{SITE_OF_TWO}{VM}{keys}\n")?;
+        let came = outcome(alloc, text.as_str())?;
+        assert_eq!(rt; came.as_str(), *in_two, "{keys}");
+    }
+    Ok(())
+}
+
+/// A tax of its own is tried behind the balloon.
+const BALLOON_AND_TAX: &str = "version = 2
+vm = [{ id = 0, min = 1, max = 1, overhead = 1, shares = 1, balloon = 1, tau = 100 }]
+machine = { frames = 20, page = 16, slots = 8 }
+";
+
+const TWO_MACHINES: &str = "version = 2
+[machine]
+frames = 20
+page = 16
+slots = 8
+[[vm]]
+id = 255
+min = 1
+max = 1
+overhead = 1
+shares = 1
+balloon = 0
+tau = 20
+trace = ['ask']
+[[vm]]
+id = 32
+min = 1
+max = 1
+overhead = 1
+shares = 1
+balloon = 0
+";
+
+#[test]
+fn machines_with_their_own_tax(rt: HostRuntime) -> Result<(), Fail> {
+    let alloc = rt.alloc();
+    let came = outcome(alloc, BALLOON_AND_TAX)?;
+    assert_eq!(rt; came.as_str(), "bad key vm.0.balloon");
+    let Ok(scenario) = parse_scenario(alloc, TWO_MACHINES) else {
+        panic!(rt; "a scenario was refused");
+    };
+    assert_eq!(rt; scenario.config().tau, 75);
+    let guests = scenario.guests();
+    assert_eq!(rt; guests.len(), 2);
+    assert_eq!(rt; guests[0].vm.number(), 255);
+    assert_eq!(rt; guests[0].spec.tau, Some(20));
+    assert_eq!(rt; guests[0].trace.as_slice().len(), 1);
+    assert_eq!(rt; guests[1].vm.number(), 32);
+    assert_eq!(rt; guests[1].spec.tau, None);
+    Ok(())
+}
+
 const GOOD_LINES: [&str; 7] = [
     "read 5 15 1",
     "read 0 0 16",
@@ -402,6 +517,34 @@ fn traces(rt: HostRuntime) -> Result<(), Fail> {
             "bad key vm.0.trace",
             "{line}"
         );
+    }
+    Ok(())
+}
+
+/// A version, a number of machines, and what they come to.
+const MANY: [(u32, u32, &str); 5] = [
+    (1, 32, "ok"),
+    (1, 33, "bad key vm"),
+    (2, 33, "ok"),
+    (2, 256, "ok"),
+    (2, 257, "bad key vm"),
+];
+
+#[test]
+fn many_machines(rt: HostRuntime) -> Result<(), Fail> {
+    let alloc = rt.alloc();
+    for (version, count, wanted) in &MANY {
+        let mut text = format!(in alloc;
+            "version = {version}\nmachine = {{ frames = 20, page = 16, slots = 8 }}\n"
+        )?;
+        for id in 0..*count {
+            let vm = format!(in alloc;
+                "[[vm]]\nid = {id}\nmin = 1\nmax = 1\noverhead = 1\nshares = 1\nballoon = 0\n"
+            )?;
+            text.push_str(vm.as_str())?;
+        }
+        let came = outcome(alloc, text.as_str())?;
+        assert_eq!(rt; came.as_str(), *wanted, "{version} {count}");
     }
     Ok(())
 }

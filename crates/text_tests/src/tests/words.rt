@@ -5,9 +5,11 @@ use std::alloc::Global;
 use std::rt::HostRuntime;
 use std::test::Fail;
 
-const LINES: [&str; 32] = [
+const LINES: [&str; 36] = [
     "admit 0 2 6 1 1000 0",
-    "start 31",
+    "admit 0 2 6 1 1000 0 0",
+    "admit 255 2 6 1 1000 0 4294967295",
+    "start 255",
     "read 0 7 8 16",
     "write 0 7 8 00ff10",
     "ask 1",
@@ -21,6 +23,8 @@ const LINES: [&str; 32] = [
     "replace 0 5 9",
     "shares 0 1000",
     "tax 75",
+    "vmtax 0 4294967295",
+    "vmtax 255 99",
     "stop 0",
     "drop 0 3",
     "gone 0",
@@ -35,17 +39,26 @@ const LINES: [&str; 32] = [
     "where",
     "marks",
     "vm 0",
-    "page 31 0",
-    "advise 31 0",
-    "whatif ask 1; sample 2 1000 0 7; rebalance",
+    "page 255 0",
+    "advise 255 0",
+    "whatif ask 1; sample 2 1000 0 7; admit 1 2 6 1 1000 0 99; vmtax 1 0; rebalance",
 ];
 
-const NO_LINES: [&str; 16] = [
+const NO_LINES: [&str; 25] = [
     "",
     " sum",
     "sum ",
     "Sum",
-    "start 32",
+    "admit 0 2 6 1 1000",
+    "admit 0 2 6 1 1000 0 ",
+    "admit 0 2 6 1 1000 0 01",
+    "admit 0 2 6 1 1000 0 4294967296",
+    "admit 0 2 6 1 1000 0 0 0",
+    "vmtax 0",
+    "vmtax 0 20 0",
+    "vmtax 0 4294967296",
+    "vmtax 256 20",
+    "start 256",
     "start 01",
     "start +1",
     "read 0 7 8 16 1",

@@ -68,6 +68,15 @@ fn threads_share_one_console(rt: HostRuntime) -> Result<(), Fail> {
     }
 }
 
+/// More callers than one word has bits, of which most peek.
+#[test]
+fn many_threads_share_one_console(rt: HostRuntime) -> Result<(), Fail> {
+    match share(&rt, rt.alloc(), 80) {
+        Ok((console, seen)) => expect_console(&rt, rt.alloc(), console, seen.as_slice()),
+        Err(refusal) => Err(Fail::from(refusal)),
+    }
+}
+
 /// What the word of a peek is.
 fn expect_word(rt: &impl Abort, desk: &Desk, pass: &mut Pass, word: u64)
     requires { IsOf desk.now pass.old }

@@ -31,10 +31,10 @@ fn site() -> Config {
     }
 }
 
-fn machine() -> Result<Machine, Fail> {
-    match VmId::new(0) {
-        Some(vm) => Ok(Machine { vm, pages: 6 }),
-        None => Err(Fail::new("the number")),
+fn machine() -> Machine {
+    Machine {
+        vm: VmId::new(0),
+        pages: 6,
     }
 }
 
@@ -45,13 +45,14 @@ fn make(console: &mut Console, event: Event) -> Result<(), Fail> {
 
 // Lets in one virtual machine, which then runs.
 fn start(console: &mut Console) -> Result<(), Fail> {
-    let vm = machine()?.vm;
+    let vm = machine().vm;
     let spec = VmSpec {
         min: 2,
         max: 6,
         overhead: 1,
         shares: 1000,
         balloon_max: 0,
+        tau: None,
     };
     make(console, Event::Admit { vm, spec })?;
     make(console, Event::Start { vm })
@@ -111,7 +112,7 @@ fn expect_own(rt: &impl Abort, own: usize, end: End, lines: usize, passed: u32) 
 
 fn share(rt: &impl Abort, alloc: Global, door: &mut ConsoleDoor) -> Result<(), Fail> {
     start(&mut door.console)?;
-    let machines = [machine()?];
+    let machines = [machine()];
     let rng = Pcg64::seed_from_u64(1);
     let end = sharer(alloc, door, &mut Open, &machines, rng, 5)?;
     expect_own(rt, scans(door.console.log()), end, 5, 5);
@@ -132,7 +133,7 @@ fn a_sharer_scans_five_times(rt: HostRuntime) -> Result<(), Fail> {
 
 fn swap(rt: &impl Abort, alloc: Global, door: &mut ConsoleDoor) -> Result<(), Fail> {
     start(&mut door.console)?;
-    let machines = [machine()?];
+    let machines = [machine()];
     let rng = Pcg64::seed_from_u64(1);
     let end = swapper(alloc, door, &mut Open, &machines, rng, 5)?;
     expect_own(rt, swap_outs(door.console.log()), end, 5, 5);
@@ -153,7 +154,7 @@ fn a_swapper_pages_out_five_times(rt: HostRuntime) -> Result<(), Fail> {
 
 fn set_targets(rt: &impl Abort, alloc: Global, door: &mut ConsoleDoor) -> Result<(), Fail> {
     start(&mut door.console)?;
-    let machines = [machine()?];
+    let machines = [machine()];
     let rng = Pcg64::seed_from_u64(1);
     let end = policy(alloc, door, &mut Open, &machines, 2, 100, rng, 5)?;
     expect_own(rt, policies(door.console.log()), end, 5, 1);
