@@ -19,10 +19,7 @@ const SITE: Config = Config {
 
 /// The virtual machine 0.
 fn guest() -> VmId {
-    match VmId::new(0) {
-        Some(vm) => vm,
-        None => unreachable!(),
-    }
+    VmId::new(0)
 }
 
 /// A console with one machine, which is to be started.
@@ -34,6 +31,7 @@ pub fn opened(alloc: Global) -> Result<Console, Refusal> {
         overhead: 1,
         shares: 1000,
         balloon_max: 0,
+        tau: None,
     };
     let event = Event::Admit { vm: guest(), spec };
     let _ = console.call(0, Call::Do { event })?;

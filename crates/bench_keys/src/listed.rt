@@ -4,7 +4,7 @@ ghost use Rattle.std.specs.Prelude.{◌<◌};
 
 use crate::numbers::mixed;
 use crate::work::Work;
-use esx_keys::Listings;
+use esx_keys::{Listings, short_of};
 use esx_types::Listing;
 use rand_core::Rng;
 use rand_pcg::Pcg32;
@@ -14,7 +14,7 @@ use std::alloc::{AllocError, Global};
 pub fn made(alloc: Global, work: &Work) -> Result<Listings, AllocError> {
     let mut listings = Listings::new(alloc, work.room)?;
     for page in 0..work.hints {
-        let key = mixed(u64::from(page));
+        let key = short_of(mixed(u64::from(page)));
         listings.trade(
             page,
             &mut Listing::Hinted {
@@ -33,7 +33,7 @@ pub fn look_up(listings: &Listings, work: &Work) -> u64 {
     let mut sum = 0_u64;
     for _ in 0..work.operations {
         let key = mixed(rng.next_u64() % (2 * u64::from(work.hints)));
-        if let Some(frame) = listings.hinted_under(key) {
+        if let Some(frame) = listings.hinted_under(short_of(key)) {
             sum = sum.wrapping_add(u64::from(frame));
         }
     }
@@ -45,7 +45,8 @@ fn trade_one(listings: &mut Listings, frame: u32) -> u64 {
     let mut listing = Listing::Unlisted;
     listings.trade(frame, &mut listing);
     let key = match listing {
-        Listing::Hinted { key, .. } | Listing::Shared { key } => key,
+        Listing::Hinted { key, .. } => u64::from(key),
+        Listing::Shared { key } => key,
         Listing::Unlisted => 0,
     };
     listings.trade(frame, &mut listing);

@@ -39,14 +39,11 @@ impl Work {
         let hints = number(words.next())?;
         let operations = number(words.next())?;
         let pages = number(words.next())?;
-        let Some(vm) = VmId::new(0) else {
-            return Err(wrong_words());
-        };
         if hints == 0 || room <= hints {
             return Err(wrong_words());
         }
         Ok(Work {
-            vm,
+            vm: VmId::new(0),
             room,
             hints,
             operations,

@@ -1,7 +1,7 @@
 //! Finds targets of made-up rows again and again, and prints a checksum of them.
 //!
 //! `bench_targets WAY ROWS NEED ROUNDS`: WAY is `chunks`, as the machine finds targets, or `pages`, page by
-//! page; ROWS is how many machines there are, 0 to 32; NEED is how many pages are needed; ROUNDS is how
+//! page; ROWS is how many machines there are, 0 to 255; NEED is how many pages are needed; ROUNDS is how
 //! often it is done, each time with other rows.
 #![tactic(auto)]
 
@@ -75,12 +75,9 @@ fn checksum(alloc: Global, work: &Work) -> Result<u64> {
 fn make_rows(alloc: Global, count: u8, round: u32) -> Result<Vec<Row>, AllocError> {
     let mut rows = Vec::new(alloc);
     for number in 0..count {
-        let Some(vm) = VmId::new(number) else {
-            return Ok(rows);
-        };
         let seed = u64::from(round) * 256 + u64::from(number);
         rows.push(Row {
-            vm,
+            vm: VmId::new(number),
             shares: 1 + mixed(seed, 1, 1 << 20),
             pages: 32768 + mixed(seed, 2, 32769),
             floor: mixed(seed, 3, 1024),
