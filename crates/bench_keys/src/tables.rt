@@ -37,7 +37,7 @@ pub fn look_up(keys: &Keys, work: &Work) -> u64 {
     sum
 }
 
-/// Takes out the hint under a key and puts it back, if there is one.
+/// Takes out the hint under a key's short and puts it back, if there is one.
 fn trade_one(keys: &mut Keys, key: u64) -> bool
     requires { entry_count keys.old < keys.old.room }
     ensures { entry_count keys.new < keys.new.room }

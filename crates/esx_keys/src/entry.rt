@@ -1,4 +1,4 @@
-//! What stands under a key.
+//! What stands under a key or a short.
 
 ghost use Rattle.std.specs.Prelude.{◌≡◌};
 ghost use Rattle.esx_keys.specs.Kinds.{kind_of};

@@ -1,6 +1,6 @@
 //! Shared frames under content keys, and hints under the upper 32 bits of them, their shorts, from
 //! Waldspurger's section on content-based page sharing: `Listings` by frame, with an index by key and short,
-//! and `Keys` by key alone.
+//! and `Keys`, the same index alone.
 #![tactic(auto)]
 
 mod arena;

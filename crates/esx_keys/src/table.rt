@@ -1,4 +1,4 @@
-//! The table of entries by key: shared frames under keys, hints under shorts.
+//! The table of entries: shared frames under keys, hints under shorts.
 
 ghost use Rattle.std.specs.Prelude.{◌≡◌, ◌+◌, ◌<◌, None, IfOk, IfSome, IfNone, OnSome};
 ghost use Rattle.std.specs.FinMap as map;

@@ -1,4 +1,4 @@
--- Where the rules of version 1 and the present ones agree: on paths of version 1's events, where no two contents that its looks were at have different keys with the same upper bits.
+-- Where the rules of version 1 and those of version 2 agree: on paths of version 1's events, where no two contents that its looks were at have different keys with the same upper bits.
 use Rattle.std.specs.Prelude.{◌≡◌, ℕ, true, Bool, List, [], ◌∷◌, map, Option, Some, None, Result, Ok, Err}
 use Rattle.std.specs.List.{AllByRecursion}
 use Rattle.esx_types.specs.declared.config.Config.{Config}
@@ -23,7 +23,7 @@ use Rattle.esx_model.specs.Replay.{opening, next}
 use Rattle.esx_laws.specs.v1.Replay as v1
 use Rattle.esx_laws.specs.v1.Step.{IsOfVersion1}
 
--- a site with each hint's key cut to its upper bits
+-- a site with each hint under the short of its key
 abbrev pub cut_hint : Hint → Hint
 cut_hint h = record { key = short_of h.key; vm = h.vm; page = h.page }
 

@@ -97,7 +97,7 @@ hints_where at after hints fine same = record {
 pub hints_stay : (at after : ℕ → ℕ → Place) (hints : List Hint) → AreHints at hints → ((m k : ℕ) → after m k ≡ at m k) → AreHints after hints
 hints_stay at after hints fine same = hints_where at after hints fine (λ m k e. same m k)
 
--- A page that is here and private becomes the hint under its key.
+-- A page that is here and private becomes the hint under its short.
 
 all_in_order_one : (P : Hint → Type 0) (new x : Hint) (xs : List Hint) → P new → AllByRecursion P (x ∷ xs) → AllByRecursion P (in_order new xs) → (b : Bool) → AllByRecursion P (cond b (new ∷ x ∷ xs) (x ∷ in_order new xs))
 all_in_order_one P new x xs p h rest true = (p, h)

@@ -196,7 +196,7 @@ retargeted_shown c s ts =
     ∙ ap (λ xs. record (tables_of c t) { frames = frame_rows c.frames s; slots = xs }) ss
     ∙ ap (λ xs. record (tables_of c t) { frames = frame_rows c.frames s; slots = slot_rows c.slots s; listings = xs }) ls
 
--- A hint comes under a key.
+-- A hint comes under a short.
 
 hinted_rows : (c : Config) (s : Site) (hints : List Hint) → ((f : ℕ) → frame_row (record s { hints = hints }) f ≡ frame_row s f) × ((i : ℕ) → slot_row (record s { hints = hints }) i ≡ slot_row s i)
 unfolding all_places all_overhead frame_row slot_row
@@ -221,7 +221,7 @@ found_kept : {X : Type 0} (q keep : X → Bool) (xs : List X) → length (filter
 found_kept q keep [] one = refl
 found_kept q keep (x ∷ xs) one = found_kept_one q keep x xs (keep x) (q x) refl refl (λ few. found_kept q keep xs few) one
 
--- a search in the order of keys
+-- a search in the order of shorts
 found_in_order : (q : Hint → Bool) (new : Hint) (xs : List Hint) → q new ≡ false → find q (in_order new xs) ≡ find q xs
 found_in_order q new [] fails = ap (λ b. cond b (Some new) None) fails
 found_in_order q new (x ∷ xs) fails = of (nat_le new.key x.key) (found_in_order q new xs fails)
@@ -269,7 +269,7 @@ map_twice : {X Y Z : Type 0} (f : X → Y) (g : Y → Z) (xs : List X) → map (
 map_twice f g [] = refl
 map_twice {Z = Z} f g (x ∷ xs) = ap (λ (zs : List Z). g (f x) ∷ zs) (map_twice f g xs)
 
--- A page that is private in frame f becomes the hint under its key.
+-- A page that is private in frame f becomes the hint under its short.
 pub hinted_shown : (c : Config) (s : Site) (n page : ℕ) (v : Vm) (bytes old : List ℕ) (f : ℕ) → IsSound c s → vm_at s n ≡ Some v → page < length v.places → place_at v page ≡ Here old f false
     → tables_of c (hinted s n page bytes) ≡ record (tables_of c s) { listings = set (map (listing_without (hint_key bytes)) (listing_rows c.frames s)) f (listings.Hinted n page (hint_key bytes)) }
 hinted_shown c s n page v bytes old f sound there within was =

@@ -15,15 +15,15 @@ is_hint_of n page h = (h.vm == n) && (h.page == page)
 abbrev pub without_hint : ℕ → ℕ → List Hint → List Hint
 without_hint n page hints = filter (λ h. not (is_hint_of n page h)) hints
 
--- a hint at its place in the order of keys
+-- a hint at its place in the order of shorts
 abbrev pub in_order : Hint → List Hint → List Hint
 in_order new hints = with_placed (λ (h : Hint). h.key) new hints
 
--- the hints with this one, alone under its key and alone of its page
+-- the hints with this one, alone under its short and alone of its page
 abbrev pub with_hint : Hint → List Hint → List Hint
 with_hint new hints = in_order new (filter (λ h. not ((h.key == new.key) || is_hint_of new.vm new.page h)) hints)
 
--- the hint of another page under a key
+-- the hint of another page under a short
 abbrev pub other_hint : ℕ → ℕ → ℕ → List Hint → Option Hint
 other_hint key n page hints = find (λ h. (h.key == key) && not (is_hint_of n page h)) hints
 

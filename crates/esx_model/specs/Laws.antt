@@ -72,7 +72,7 @@ AreAllFramesCounted = (c : Config) (t : Scene) → AreFramesCounted c t
 abbrev pub IsBookRead : Type 0
 IsBookRead = (c : Config) (s : Site) (level : Level) → IsSound c s → book_from (tables_of c s) level ≡ book_of c s level
 
--- what each path keeps: targets in their range, pages out within what is reserved for them, and hints of private pages, one under a key and one of a page
+-- what each path keeps: targets in their range, pages out within what is reserved for them, and hints of private pages, one under a short and one of a page
 pub record AreWithinReserves (c : Config) (t : Scene) : Type 0 where
   pub least : (n : ℕ) (v : Vm) → vm_at t.site n ≡ Some v → v.spec.min ≤ v.target
   pub most : (n : ℕ) (v : Vm) → vm_at t.site n ≡ Some v → v.target ≤ v.spec.max

@@ -49,7 +49,7 @@ abbrev pub listing_for : List ℕ → Bool → Listing
 listing_for bytes false = listings.Unlisted
 listing_for bytes true = listings.Shared (content_key bytes)
 
--- a listing gives way to a hint that comes under its key
+-- the listing of a hint gives way to another that comes under its short
 abbrev pub listing_without : ℕ → Listing → Listing
 listing_without key listings.Unlisted = listings.Unlisted
 listing_without key (listings.Shared k) = listings.Shared k

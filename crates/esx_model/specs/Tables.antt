@@ -61,7 +61,7 @@ abbrev pub hint_listing : Option Hint → Listing
 hint_listing None = listings.Unlisted
 hint_listing (Some h) = listings.Hinted h.vm h.page h.key
 
--- a shared frame stands under its key, a private one under that of its page's hint
+-- a shared frame stands under its key, a private one under the short of its page's hint
 abbrev pub listing_by : FrameRow → Option Hint → Listing
 listing_by frames.Free hint = listings.Unlisted
 listing_by frames.Overhead hint = listings.Unlisted
@@ -94,7 +94,7 @@ read_place epoch (maps.Lent e) = if e == epoch then maps.Lent e else maps.Untouc
 abbrev pub read_vm : VmRow → VmRow
 read_vm v = record v { pages = map (read_place v.epoch) v.pages }
 
--- the hints that the listings name, and the shared frames, both in order of key
+-- the hints that the listings name, in order of short, and the shared frames, in order of key
 abbrev pub read_hints : List Listing → List Hint
 read_hints rows = in_order (λ (h : Hint). h.key) (hints_of rows)
 

@@ -44,7 +44,7 @@ pub struct Vm {
     pub period: Option<Period>,
 }
 
-/// The virtual machines at their numbers, the hints in order of key, and the idle memory tax in percent.
+/// The virtual machines at their numbers, the hints in order of short, and the idle memory tax in percent.
 #[derive(Debug, Drop)]
 pub struct Site {
     pub vms: Rows<Option<Vm>>,

@@ -204,7 +204,7 @@ impl SiteTables {
         self.listings.shared_under(key)
     }
 
-    /// The least frame whose page is a hint under a key.
+    /// The least frame whose page is a hint under a short.
     pub fn hinted_under(&self, key: u32) -> Option<u32>
         ensures { result ≡ position_from (is_hinted_under key) 0 self.now.listings }
     {

@@ -6,9 +6,9 @@ ghost use Rattle.esx_types.specs.Versions.{vm_numbers, callers, has_own_taxes};
 use crate::config::{CALLERS, VM_NUMBERS};
 
 /// How many virtual machine numbers a text of version 1 has.
-pub const VM_NUMBERS_OF_ONE: usize = 32;
+pub const VM_NUMBERS_OF_VERSION_ONE: usize = 32;
 /// How many callers a text of version 1 has.
-pub const CALLERS_OF_ONE: usize = 64;
+pub const CALLERS_OF_VERSION_ONE: usize = 64;
 
 /// The version of a text. Texts are printed as version 2; one of version 1 is read under the limits that were then.
 #[derive(Clone, Copy, Debug, PartialEq, Eq)]
@@ -23,7 +23,7 @@ impl Version {
         ensures { result ≡ vm_numbers self }
     {
         match self {
-            Version::One => VM_NUMBERS_OF_ONE,
+            Version::One => VM_NUMBERS_OF_VERSION_ONE,
             Version::Two => VM_NUMBERS,
         }
     }
@@ -33,7 +33,7 @@ impl Version {
         ensures { result ≡ callers self }
     {
         match self {
-            Version::One => CALLERS_OF_ONE,
+            Version::One => CALLERS_OF_VERSION_ONE,
             Version::Two => CALLERS,
         }
     }

@@ -256,7 +256,7 @@ share_both c s n page v bytes g m q f sound there below was sees =
     let i : IsIn (all_places t) p = subst Q (get_or-set_same w.places q p Untouched within) (page_is_in t m q (with_place q p w) there1 (let len = length-set w.places q p in omega (arith, len, within))) in
     share_joined c t n page own.vm bytes g f sound1 own.there (let same = ap (λ (x : VmSpec). x.max) own.spec in omega (arith, same, below)) (own.place ∙ was) i
 
--- A page becomes the hint under its key.
+-- A page becomes the hint under its short.
 
 hinted_sound : (c : Config) (s : Site) (n page : ℕ) (v : Vm) (bytes : List ℕ) → IsSound c s → vm_at s n ≡ Some v → is_private (place_at v page) ≡ true → IsSound c (hinted s n page bytes)
 unfolding all_places all_overhead

@@ -36,7 +36,7 @@ look_at_shared bytes Untouched = Nothing
 look_at_shared bytes (Out others slot) = Nothing
 look_at_shared bytes (Lent epoch) = Nothing
 
--- at the page of a hint under the same upper bits: it is another content where its bytes say so, and stale only where those bits are other ones now
+-- at the page of a hint under the same short: it is another content where its bytes say so, and stale only where its short is another one now
 abbrev pub look_at_hinted : List ℕ → Hint → Place → Look
 look_at_hinted bytes h (Here others f shared) =
     if not (hint_key others == h.key) then Changed
@@ -61,7 +61,7 @@ look s n page Untouched = Nothing
 look s n page (Out bytes slot) = Nothing
 look s n page (Lent epoch) = Nothing
 
--- the site where the page is the hint under the upper bits of its key
+-- the site where the page is the hint under its short
 abbrev pub hinted : Site → ℕ → ℕ → List ℕ → Site
 hinted s n page bytes = record s { hints = with_hint (record { key = hint_key bytes; vm = n; page = page }) s.hints }
 

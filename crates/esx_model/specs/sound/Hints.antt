@@ -7,7 +7,7 @@ use Rattle.esx_model.specs.declared.scene.Place.{Place}
 use Rattle.esx_model.specs.Places.{is_private}
 use Rattle.esx_model.specs.Hints.{is_hint_of}
 
--- in order of key, so that one stands under a key at most
+-- in order of short, so that one stands under a short at most
 abbrev pub AreOrdered : List Hint → Type 0
 AreOrdered [] = Unit {0}
 AreOrdered (h ∷ hints) = AllByRecursion (λ (later : Hint). h.key < later.key) hints × AreOrdered hints

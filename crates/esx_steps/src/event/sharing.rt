@@ -64,7 +64,7 @@ fn shared_under(site: &Site, key: u64) -> Option<&Place>
     None
 }
 
-/// The hint of another page under a key.
+/// The hint of another page under a short.
 fn other_hint(hints: &[Hint], key: u32, number: usize, page: u32) -> Option<Hint>
     ensures { result ≡ other_hint key number page hints.now }
 {
@@ -173,7 +173,7 @@ pub fn look(site: &Site, number: usize, page: u32, place: Option<&Place>) -> Loo
     }
 }
 
-/// The first hint whose key is not below a key.
+/// The first hint whose short is not below a short.
 fn first_from(hints: &[Hint], key: u32) -> Option<usize>
     ensures place { result ≡ position_from (λ own. nat_le key own.key) 0 hints.now }
     ensures within { IfSome result (λ at. at < length hints.now) }
@@ -191,7 +191,7 @@ pub fn is_in_frame(place: Option<&Place>) -> bool
     }
 }
 
-/// Puts a hint at its place in the order of keys.
+/// Puts a hint at its place in the order of shorts.
 fn add_hint(hints: &mut Vec<Hint>, new: Hint) -> Result<(), AllocError>
     ensures { OnOk result (hints.new.items ≡ in_order new hints.old.items) }
 {
@@ -200,7 +200,7 @@ fn add_hint(hints: &mut Vec<Hint>, new: Hint) -> Result<(), AllocError>
     Ok(())
 }
 
-/// The hints without those under a key, and without that of a page.
+/// The hints without those under a short, and without that of a page.
 fn others(alloc: Global, hints: &[Hint], new: &Hint) -> Result<Vec<Hint>, AllocError>
     ensures { IfOk result (λ kept. kept.items ≡ filter (λ h. not ((h.key == new.now.key) || is_hint_of new.now.vm new.now.page h)) hints.now) }
 {
@@ -213,7 +213,7 @@ fn others(alloc: Global, hints: &[Hint], new: &Hint) -> Result<Vec<Hint>, AllocE
         .collect(alloc)
 }
 
-/// The page becomes the hint under its key.
+/// The page becomes the hint under its short.
 fn hinted(alloc: Global, site: Site, vm: VmId, page: u32, bytes: &[u8]) -> Result<Site, AllocError>
     ensures { IfOk result (λ t. t ≡ hinted site vm page bytes.now) }
 {
