@@ -200,7 +200,7 @@ def closed(program, asked, shell, given=b""):
 
 def check_closed(program, session):
     """Standard streams that are closed when the program begins."""
-    for asked in ([], ["check", session], ["replay", session]):
+    for asked in ([], ["check", session], ["replay", session], ["migrate", session]):
         expect(f"{asked} with no output", WRITE_FAULT, closed(program, asked, ">&-", b"sum\n"))
         told = closed(program, asked, "2>&-", b"sum\n")
         expect(f"{asked} with nowhere to tell faults", ask(program, asked, b"sum\n"), told)
@@ -245,6 +245,7 @@ def check_failing_calls(program, tried, step):
         with file_of(words.SESSION) as session, file_of(words.SCENARIO) as scenario:
             for case in (Case("check FILE", ["check", session], b"", b"same 3\n", {0}),
                          Case("replay FILE", ["replay", session], b"", words.REPLAYED, {0}),
+                         Case("migrate FILE", ["migrate", session], b"", words.SESSION, {0}),
                          Case("console FILE", ["console", scenario], b"", b"", {0})):
                 count += check_file(faults, program, case, case.name == "check FILE" or step == 1)
             count += check_run_calls(faults, program, scenario, 60 * step)
@@ -262,8 +263,10 @@ def check(program, is_long):
             check_small_disk(program, row.words, row.asked, row.answered, range(0, len(row.answered) + 2, 1 if is_long else 7))
             check_full(program, row.words, row.asked)
         check_small_disk(program, ["replay", session], b"", words.REPLAYED, range(len(words.REPLAYED) + 2))
+        check_small_disk(program, ["migrate", session], b"", words.SESSION, range(len(words.SESSION) + 2))
         check_small_disk(program, ["check", session], b"", b"same 3\n", range(9))
         check_full(program, ["replay", session], b"")
+        check_full(program, ["migrate", session], b"")
         check_full(program, ["check", session], b"")
         check_no_input(program)
         check_closed(program, session)

@@ -59,7 +59,7 @@ def sweep_case(faults, program, case):
 @contextmanager
 def cases_of_files():
     """Sessions and scenarios, good ones and such that are refused."""
-    texts = {"session": words.SESSION, "short": words.SHORT, "scenario": words.SCENARIO,
+    texts = {"session": words.SESSION, "old": words.OLD_SESSION, "short": words.SHORT, "scenario": words.SCENARIO,
              "other": words.changed(words.SHORT, b"3/20", b"3/21"), "cut": words.changed(words.SHORT, b"end 2\n", b""),
              "strange": words.changed(words.SCENARIO, b"slots = 3", b"slots = 3\ncolour = 1"), "no_toml": words.NO_TOML[0]}
     with ExitStack() as stack:
@@ -68,6 +68,8 @@ def cases_of_files():
             Case("check", ["check", names["session"]], b"", b"same 3\n", {0}),
             Case("check of another", ["check", names["other"]], b"", b"differs 1\n", {0}, 1),
             Case("check of a cut one", ["check", names["cut"]], b"", b"", {0}, 1, b"bad line 7\n"),
+            Case("migration", ["migrate", names["old"]], b"", words.in_version_2(words.OLD_SESSION), {0}),
+            Case("migration of another", ["migrate", names["other"]], b"", b"differs 1\n", {0}, 1),
             Case("replay", ["replay", names["session"]], b"", words.REPLAYED, lines_of(words.REPLAYED)),
             Case("replay of a short one", ["replay", names["short"]], b"", words.SHORT_REPLAYED, lines_of(words.SHORT_REPLAYED)),
             Case("console FILE", ["console", names["scenario"]], b"", b"", {0}),

@@ -143,6 +143,7 @@ def check_run(program, scenario):
     with file_of(told.out) as file:
         expect("check of a run", Told(0, b"same %d\n" % len(session.calls), b""), ask(program, ["check", file]))
         expect("replay of a run", Told(0, console.told_of_replay(session), b""), ask(program, ["replay", file]))
+        expect("migration of a run", Told(0, told.out, b""), ask(program, ["migrate", file]))
     return len(session.calls)
 
 

@@ -74,6 +74,11 @@ def changed(text, old, new):
     return text.replace(old, new)
 
 
+def in_version_2(text):
+    """A session in whole lines whose first says version 2."""
+    return b"\n".join([b"esx session 2", *text.replace(b"\r\n", b"\n").removesuffix(b"\n").split(b"\n")[1:], b""])
+
+
 # What `check` tells of a session: its status, and what it prints.
 CHECKED = [
     (SESSION, 0, b"same 3\n"),
@@ -102,6 +107,7 @@ BAD_LINES = [
     (changed(SHORT, b"end 2\n", b""), 7),
     (changed(SHORT, b"end 2", b"end 3"), 7),
     (changed(SHORT, b"end 2", b"end 02"), 7),
+    (changed(changed(SHORT, b"3/20", b"3/21"), b"end 2", b"end 3"), 7),
     (SHORT + b"\n", 8),
     (b"", 1),
     (b"\n" + SESSION, 1),
@@ -266,10 +272,10 @@ def refuses(program, words, status, told):
 
 
 def check_words(program, folder):
-    for words in (["serve"], ["run"], ["check"], ["replay"], ["--help"], ["-h"], ["--version"], ["console", "a", "b"],
-                  ["check", "a", "b"], ["sum"], ["Console"], [""], ["--", "--help"]):
+    for words in (["serve"], ["run"], ["check"], ["replay"], ["migrate"], ["--help"], ["-h"], ["--version"],
+                  ["console", "a", "b"], ["check", "a", "b"], ["migrate", "a", "b"], ["sum"], ["Console"], [""], ["--", "--help"]):
         expect(" ".join(words), WRONG_WORDS, ask(program, words))
-    for words in (["console"], ["run"], ["check"], ["replay"]):
+    for words in (["console"], ["run"], ["check"], ["replay"], ["migrate"]):
         refuses(program, [*words, f"{folder}/none"], 1, b"read fault\n")
         refuses(program, [*words, folder], 1, b"read fault\n")
     nobody = Told(0, b"overhead 0 private 0 shared 0 free 20 high\n", b"")
@@ -281,9 +287,11 @@ def check_sessions(program):
     for text, status, out in CHECKED:
         with file_of(text) as name:
             expect(f"check of {text!r}", Told(status, out, b""), ask(program, ["check", name]))
+            printed = in_version_2(text) if status == 0 else out
+            expect(f"migration of {text!r}", Told(status, printed, b""), ask(program, ["migrate", name]))
     for text, line in BAD_LINES:
         with file_of(text) as name:
-            for word in ("check", "replay"):
+            for word in ("check", "replay", "migrate"):
                 refuses(program, [word, name], 1, b"bad line %d\n" % line)
     for text in (SESSION, OLD_SESSION, SHORT):
         for end in range(len(text) - 1):
@@ -310,7 +318,7 @@ def check_scenarios(program):
     for text in NO_TOML:
         with file_of(text) as name:
             refuses(program, ["console", name], 1, b"bad toml\n")
-    for word in ("console", "run", "check", "replay"):
+    for word in ("console", "run", "check", "replay", "migrate"):
         with file_of(b"esx \xff\n") as name:
             refuses(program, [word, name], 1, b"bad text\n")
     with file_of(changed(SCENARIO, b"min = 3", b"min = 8").replace(b"max = 4", b"max = 9")) as name:
@@ -329,6 +337,7 @@ def check_run(program, scenario, ends, admission):
         raise Wrong(f"a run begins with {lines[:3]}")
     with file_of(told.out) as name:
         expect("check of a run", Told(0, b"same %s\n" % lines[-1].split()[1], b""), ask(program, ["check", name]))
+        expect("migration of a run", Told(0, told.out, b""), ask(program, ["migrate", name]))
 
 
 def check_long_lines(program):

@@ -6,3 +6,4 @@ pub mod LawLemmas
 pub mod ReplayLemmas
 pub mod NameLemmas
 pub mod TextLemmas
+pub mod MigrateLemmas

@@ -13,3 +13,4 @@ pub mod Checks
 pub mod Gates
 pub mod Wants
 pub mod Replays
+pub mod Migrations

@@ -1,10 +1,13 @@
 //! Laws of checks. A function here does nothing: its contract is the law.
 
-ghost use Rattle.std.specs.Prelude.{◌≡◌, ℕ, List, length, map};
+ghost use Rattle.std.specs.Prelude.{◌≡◌, ◌∷◌, ℕ, List, length, map};
+ghost use Rattle.std.specs.Str.Lines.{lines};
 ghost use Rattle.esx_types.specs.declared.config.Config.{Config};
+ghost use Rattle.esx_types.specs.declared.version.Version.{Version};
+ghost use Rattle.esx_types.specs.declared.version.Version.TheVariants.{Two};
 ghost use Rattle.esx_model.specs.Console.{Session, IsLegal};
 ghost use Rattle.esx_session.specs.declared.session.Entry.{Entry};
-ghost use Rattle.esx_session.specs.Sessions.{logged, session_text, Reads};
+ghost use Rattle.esx_session.specs.Sessions.{ended, head_line, logged, session_text, Reads};
 ghost use Rattle.esx_check.specs.declared.check.Checked.{Checked};
 ghost use Rattle.esx_check.specs.declared.check.Checked.TheVariants.{Same};
 ghost use Rattle.esx_check.specs.Again.{made};
@@ -69,4 +72,10 @@ pub fn printed_text_is_same()
 /// A session is the same only where it is what is told of a log: that of a console at which its calls were made.
 pub fn same_is_told_log()
     ensures { (site : Config) (entries : List Entry) → Checks site entries (Same (length entries)) → map logged (made site entries).log ≡ entries }
+{}
+
+/// What is printed of a session that was read has the lines of its text, but for the first, which says version 2.
+pub fn first_line_alone()
+    ensures { (text : List ℕ) (version : Version) (others : List (List ℕ)) (site : Config) (entries : List Entry) → lines text ≡ head_line version ∷ others
+        → Reads text site entries → session_text site entries ≡ ended (head_line Two ∷ others) }
 {}

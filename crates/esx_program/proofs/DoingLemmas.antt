@@ -16,9 +16,9 @@ use Rattle.esx_check.specs.Replays.{replay_text, write_faults}
 use Rattle.esx_check.specs.declared.fault.OutputFault.{OutputFault}
 use Rattle.esx_check.specs.declared.fault.OutputFault.TheVariants as output
 use Rattle.esx_program.specs.declared.words.Asked.{Asked}
-use Rattle.esx_program.specs.declared.words.Asked.TheVariants.{Console, Run as RunOf, Replay, Check}
+use Rattle.esx_program.specs.declared.words.Asked.TheVariants.{Console, Run as RunOf, Replay, Check, Migrate}
 use Rattle.esx_program.specs.declared.Done.{Done}
-use Rattle.esx_program.specs.declared.Done.TheVariants.{Served, Ran, Replayed, Checked}
+use Rattle.esx_program.specs.declared.Done.TheVariants.{Served, Ran, Replayed, Checked, Migrated}
 use Rattle.esx_program.specs.declared.Failure.{Failure}
 use Rattle.esx_program.specs.declared.Failure.TheVariants.{Words, Text, Serve, Output, Run}
 use Rattle.esx_program.specs.Doing.{Does, EndsCheck, LacksSite}
@@ -85,18 +85,27 @@ module _ (unread left : SourceState) (errors errors' out out' : SinkState) where
   does_word (Console file) (Ok Ran) d = absurd d.0
   does_word (Console file) (Ok Replayed) d = absurd d.0
   does_word (Console file) (Ok (Checked c)) d = absurd d.0
+  does_word (Console file) (Ok (Migrated c)) d = absurd d.0
   does_word (RunOf file) (Ok Served) d = absurd d.0
   does_word (RunOf file) (Ok Ran) d = refl
   does_word (RunOf file) (Ok Replayed) d = absurd d.0
   does_word (RunOf file) (Ok (Checked c)) d = absurd d.0
+  does_word (RunOf file) (Ok (Migrated c)) d = absurd d.0
   does_word (Replay file) (Ok Served) d = absurd d.0
   does_word (Replay file) (Ok Ran) d = absurd d.0
   does_word (Replay file) (Ok Replayed) d = refl
   does_word (Replay file) (Ok (Checked c)) d = absurd d.0
+  does_word (Replay file) (Ok (Migrated c)) d = absurd d.0
   does_word (Check file) (Ok Served) d = absurd d.0
   does_word (Check file) (Ok Ran) d = absurd d.0
   does_word (Check file) (Ok Replayed) d = absurd d.0
   does_word (Check file) (Ok (Checked c)) d = refl
+  does_word (Check file) (Ok (Migrated c)) d = absurd d.0
+  does_word (Migrate file) (Ok Served) d = absurd d.0
+  does_word (Migrate file) (Ok Ran) d = absurd d.0
+  does_word (Migrate file) (Ok Replayed) d = absurd d.0
+  does_word (Migrate file) (Ok (Checked c)) d = absurd d.0
+  does_word (Migrate file) (Ok (Migrated c)) d = refl
   does_word asked (Err e) d = tt
 
   -- it fails only as that may fail
@@ -119,10 +128,15 @@ module _ (unread left : SourceState) (errors errors' out out' : SinkState) where
   does_fail (Replay file) (Err (Output e)) d = inl refl
   does_fail (Replay file) (Err (Run e)) d = absurd d.0
   does_fail (Check file) (Err Words) d = absurd d.0
-  does_fail (Check file) (Err (Text e)) d = no_check_may_fail (asked_of (Check file)) refl file e (inr refl) d.0.0
+  does_fail (Check file) (Err (Text e)) d = no_check_may_fail (asked_of (Check file)) refl file e (inr (inl refl)) d.0.0
   does_fail (Check file) (Err (Serve e)) d = absurd d.0
-  does_fail (Check file) (Err (Output e)) d = inr refl
+  does_fail (Check file) (Err (Output e)) d = inr (inl refl)
   does_fail (Check file) (Err (Run e)) d = absurd d.0
+  does_fail (Migrate file) (Err Words) d = absurd d.0
+  does_fail (Migrate file) (Err (Text e)) d = no_session_may_fail (asked_of (Migrate file)) refl file e (inr (inr refl)) d.0.0
+  does_fail (Migrate file) (Err (Serve e)) d = absurd d.0
+  does_fail (Migrate file) (Err (Output e)) d = inr (inr refl)
+  does_fail (Migrate file) (Err (Run e)) d = absurd d.0
 
 -- the text of a file was checked
 module _ (read : Opened) (out out' : SinkState) (bytes : List ℕ) (here : HasText read bytes) where
@@ -131,6 +145,7 @@ module _ (read : Opened) (out out' : SinkState) (bytes : List ℕ) (here : HasTe
   checked_done Ran t = absurd t
   checked_done Replayed t = absurd t
   checked_done (Checked c) t = (bytes, here, t.0, t.1)
+  checked_done (Migrated c) t = absurd t
 
   not_checked : (failure : Failure) → TellsNoCheck bytes failure out out' → EndsCheck read (Err failure) out out'
   not_checked Words t = absurd t

@@ -7,3 +7,4 @@ pub mod DoingLemmas
 pub mod GivenLemmas
 pub mod FileLemmas
 pub mod StandardLemmas
+pub mod MigrationLemmas

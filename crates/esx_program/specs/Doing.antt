@@ -16,14 +16,14 @@ use Rattle.esx_check.specs.declared.check.Checked.{Checked as Outcome}
 use Rattle.esx_program.specs.declared.words.Asked.{Asked}
 use Rattle.esx_program.specs.declared.words.Asked.TheVariants as asked
 use Rattle.esx_program.specs.declared.Done.{Done}
-use Rattle.esx_program.specs.declared.Done.TheVariants.{Served, Ran, Replayed, Checked}
+use Rattle.esx_program.specs.declared.Done.TheVariants.{Served, Ran, Replayed, Checked, Migrated}
 use Rattle.esx_program.specs.declared.Failure.{Failure}
 use Rattle.esx_program.specs.declared.Failure.TheVariants.{Words, Text, Serve, Output, Run}
 use Rattle.esx_program.specs.Failing.{Asks}
 use Rattle.esx_program.specs.Files.{Opened, IsFile, HasScenario, HasSession, HasText, LacksCheck, LacksScenario, LacksSession}
 use Rattle.esx_program.specs.Given.{Args}
 use Rattle.esx_program.specs.Runs.{Plays, RunStops}
-use Rattle.esx_program.specs.Sessions.{IsTold, IsNotTold, IsReplayed, IsNotReplayed}
+use Rattle.esx_program.specs.Sessions.{IsTold, IsNotTold, IsReplayed, IsNotReplayed, IsMigrated, IsNotMigrated}
 use Rattle.esx_program.specs.Streams.{IsServed}
 use Rattle.esx_program.specs.Words.{AskAlike, asked_in, program_app, word_and_file}
 
@@ -70,12 +70,20 @@ EndsCheck read (Err (Output e)) out out' =
     (bytes : List ℕ) × HasText read bytes × (checked : Outcome) × ChecksText bytes checked × IsNotTold e checked out out'
 EndsCheck read ended out out' = ⊥
 
+-- A migration ends: the session in a file was written in version 2, or the line of its first call with another reply, or writing that stopped. Or there is no such session, and nothing was written.
+abbrev pub EndsMigrate : Opened → Result Done Failure → SinkState → SinkState → Type 0
+EndsMigrate read (Ok (Migrated checked)) out out' = (site : Config) × (entries : List Entry) × HasSession read site entries × IsMigrated site entries checked out out'
+EndsMigrate read (Err (Text e)) out out' = LacksSession read e × (out' ≡ out)
+EndsMigrate read (Err (Output e)) out out' = (site : Config) × (entries : List Entry) × HasSession read site entries × IsNotMigrated e site entries out out'
+EndsMigrate read ended out out' = ⊥
+
 -- What is asked for was done, and ended so: with what a source had, with what was told of errors, and with what was written. The streams that it takes no part in are as they were.
 abbrev pub Does : Asked Opened → Result Done Failure → SourceState → SourceState → SinkState → SinkState → SinkState → SinkState → Type 0
 Does (asked.Console file) ended unread left errors errors' out out' = EndsConsole file ended unread left out out' × (errors' ≡ errors)
 Does (asked.Run read) ended unread left errors errors' out out' = EndsRun read ended errors errors' out out' × (left ≡ unread)
 Does (asked.Replay read) ended unread left errors errors' out out' = EndsReplay read ended out out' × (left ≡ unread) × (errors' ≡ errors)
 Does (asked.Check read) ended unread left errors errors' out out' = EndsCheck read ended out out' × (left ≡ unread) × (errors' ≡ errors)
+Does (asked.Migrate read) ended unread left errors errors' out out' = EndsMigrate read ended out out' × (left ≡ unread) × (errors' ≡ errors)
 
 -- The same of a file and of ends of the standard library, of which only the bytes are known.
 pub record DoesOver {F : Type 0} (remaining : F → Option (List ℕ)) (wanted : Asked (Result F Error)) (ended : Result Done Failure)

@@ -20,13 +20,13 @@ NamesScenario asked = IsSome asked.1 × ((asked.0 ≡ codes "console") ⊎ (aske
 
 -- a word that wants a session
 abbrev pub WantsSession : {A : Type 0} → Word × Option A → Type 0
-WantsSession asked = (asked.0 ≡ codes "replay") ⊎ (asked.0 ≡ codes "check")
+WantsSession asked = (asked.0 ≡ codes "replay") ⊎ ((asked.0 ≡ codes "check") ⊎ (asked.0 ≡ codes "migrate"))
 
 -- a word and a file that is a session
 abbrev pub NamesSession : {A : Type 0} → Word × Option A → Type 0
 NamesSession asked = IsSome asked.1 × WantsSession asked
 
--- how what is asked for may fail: at the file, if one is named, at the streams of a console, in a run, or where a replay or a check is written
+-- how what is asked for may fail: at the file, if one is named, at the streams of a console, in a run, or where a replay, a check or a migration is written
 abbrev pub MayFail : {A : Type 0} → Word × Option A → Failure → Type 0
 MayFail asked Words = ⊥
 MayFail asked (Text text.NotToml) = NamesScenario asked

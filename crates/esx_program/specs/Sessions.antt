@@ -1,15 +1,17 @@
 -- What is written where a session is gone through again.
-use Rattle.std.specs.Prelude.{ℕ, List, [], ◌≡◌, ◌⊎◌, ◌+◌, Option}
+use Rattle.std.specs.Prelude.{ℕ, List, [], ◌≡◌, ◌⊎◌, ◌+◌, Option, Result, Ok, Err}
 use Rattle.std.specs.Io.KnownBytes.{Appends}
 use Rattle.esx_types.specs.declared.config.Config.{Config}
+use Rattle.esx_types.specs.declared.ends.SinkFailed.{SinkFailed}
 use Rattle.esx_writing.specs.Writing.{WritesFront}
 use Rattle.esx_session.specs.declared.session.Entry.{Entry}
+use Rattle.esx_session.specs.Sessions.{session_text}
 use Rattle.esx_text.specs.States.{SinkState}
 use Rattle.esx_check.specs.declared.check.Checked.{Checked}
 use Rattle.esx_check.specs.declared.check.Checked.TheVariants.{Same, Differs}
 use Rattle.esx_check.specs.declared.fault.OutputFault.{OutputFault}
 use Rattle.esx_check.specs.declared.fault.OutputFault.TheVariants as output
-use Rattle.esx_check.specs.Checks.{checked_text}
+use Rattle.esx_check.specs.Checks.{Checks, checked_text}
 use Rattle.esx_check.specs.Replays.{ReplayStops, replay_text}
 
 -- the line of what a check came to was written, nothing failed, and after one flush nothing waits
@@ -56,6 +58,38 @@ ReplayEnds e site entries old new = ReplayStops e site entries old new ⊎ ((e �
 pub record IsNotReplayed (e : OutputFault) (site : Config) (entries : List Entry) (out out' : SinkState) : Type 0 where
   pub taken : Option (List ℕ)
   pub ends : ReplayEnds e site entries out.contents taken
+  pub given : GivenOut e taken out'.contents
+  pub failures : out'.failures ≡ out.failures + failed_writes e
+  pub flushes : out'.flushes + failed_writes e ≡ out.flushes + 1
+  pub sent : (e ≡ output.Write → ⊥) → out'.waiting ≡ []
+
+-- what a migration writes: the session in version 2, or the line of the first call with another reply
+abbrev pub migrated_text : Config → List Entry → Checked → List ℕ
+migrated_text site entries (Same count) = session_text site entries
+migrated_text site entries (Differs number) = checked_text (Differs number)
+
+-- a session that was checked and what was written of it, as the end of its migration
+abbrev pub migrated_as : Result (Unit {0}) SinkFailed → Checked → Result Checked OutputFault
+migrated_as (Ok v) checked = Ok checked
+migrated_as (Err e) checked = Err output.Write
+
+-- the session was checked, what its migration writes was written, nothing failed, and after one flush nothing waits
+pub record IsMigrated (site : Config) (entries : List Entry) (checked : Checked) (out out' : SinkState) : Type 0 where
+  pub checks : Checks site entries checked
+  pub told : Appends out.contents out'.contents (migrated_text site entries checked)
+  pub failures : out'.failures ≡ out.failures
+  pub flushes : out'.flushes ≡ out.flushes + 1
+  pub sent : out'.waiting ≡ []
+
+-- after a fault of writing a front of it was written, or nothing, and nothing where memory ran out
+abbrev pub MigrationEnds : OutputFault → Config → List Entry → Option (List ℕ) → Option (List ℕ) → Type 0
+MigrationEnds output.Write site entries old new = Appends old new [] ⊎ ((checked : Checked) × Checks site entries checked × WritesFront old new (migrated_text site entries checked))
+MigrationEnds output.OutOfMemory site entries old new = Appends old new []
+
+-- it was not written, or not all of it, or it could not be handed on
+pub record IsNotMigrated (e : OutputFault) (site : Config) (entries : List Entry) (out out' : SinkState) : Type 0 where
+  pub taken : Option (List ℕ)
+  pub ends : MigrationEnds e site entries out.contents taken
   pub given : GivenOut e taken out'.contents
   pub failures : out'.failures ≡ out.failures + failed_writes e
   pub flushes : out'.flushes + failed_writes e ≡ out.flushes + 1

@@ -11,7 +11,7 @@ use Rattle.esx_program.specs.declared.running.RunFault.TheVariants as run
 use Rattle.esx_program.specs.declared.words.WordsFault.{WordsFault}
 use Rattle.esx_program.specs.declared.words.WordsFault.TheVariants as words
 use Rattle.esx_program.specs.declared.Done.{Done}
-use Rattle.esx_program.specs.declared.Done.TheVariants.{Served, Ran, Replayed, Checked}
+use Rattle.esx_program.specs.declared.Done.TheVariants.{Served, Ran, Replayed, Checked, Migrated}
 use Rattle.esx_program.specs.declared.Failure.{Failure}
 use Rattle.esx_program.specs.declared.Failure.TheVariants.{Words, Text, Serve, Output, Run}
 use Rattle.esx_program.specs.Sessions.{IsTold, IsNotTold, check_status}
@@ -41,6 +41,7 @@ word_of_done Served = codes "console"
 word_of_done Ran = codes "run"
 word_of_done Replayed = codes "replay"
 word_of_done (Checked checked) = codes "check"
+word_of_done (Migrated checked) = codes "migrate"
 
 -- it is a check of that text, and the line of what it comes to was written
 abbrev pub TellsCheck : List ℕ → Done → SinkState → SinkState → Type 0
@@ -60,6 +61,7 @@ status_of_done Served = 0
 status_of_done Ran = 0
 status_of_done Replayed = 0
 status_of_done (Checked checked) = check_status checked
+status_of_done (Migrated checked) = check_status checked
 
 -- well, or otherwise
 abbrev pub status_of_end : Result Done Failure → ℕ

@@ -4,17 +4,17 @@ use Rattle.std.specs.Str.{bytes_eq}
 use Rattle.std.specs.Borrow.{Bor}
 use Rattle.clap.specs.Words.{App, Row, Text, fault_of, first_of, new_app, new_rule, subcommand_of, with_rule, with_subcommand}
 use Rattle.esx_program.specs.declared.words.Asked.{Asked}
-use Rattle.esx_program.specs.declared.words.Asked.TheVariants.{Console, Run, Replay, Check}
+use Rattle.esx_program.specs.declared.words.Asked.TheVariants.{Console, Run, Replay, Check, Migrate}
 
 -- a word, and at most one file behind it
 abbrev pub with_file : Text → App
 with_file word = with_rule (new_app word) (new_rule (codes "file"))
 
--- nothing, or one of the four words and at most one file
+-- nothing, or one of the five words and at most one file
 abbrev pub program_app : App
 program_app =
-    with_subcommand (with_subcommand (with_subcommand (with_subcommand (new_app (codes "esxplan")) (with_file (codes "console")).top) (with_file (codes "replay")).top)
-    (with_file (codes "check")).top) (with_file (codes "run")).top
+    with_subcommand (with_subcommand (with_subcommand (with_subcommand (with_subcommand (new_app (codes "esxplan")) (with_file (codes "console")).top)
+    (with_file (codes "replay")).top) (with_file (codes "check")).top) (with_file (codes "migrate")).top) (with_file (codes "run")).top
 
 -- the word that asks for it, and what it names
 abbrev pub asked_of : {F : Type 0} → Asked F → Text × Option F
@@ -22,6 +22,7 @@ asked_of (Console file) = (codes "console", file)
 asked_of (Run file) = (codes "run", Some file)
 asked_of (Replay file) = (codes "replay", Some file)
 asked_of (Check file) = (codes "check", Some file)
+asked_of (Migrate file) = (codes "migrate", Some file)
 
 -- the word that asks for it, and the path behind it
 abbrev pub word_and_file : Asked (Bor Text) → Text × Option Text
@@ -47,7 +48,8 @@ abbrev pub asked_by : Text → Option Text → Option (Text × Option Text)
 asked_by word file =
     if bytes_eq word (codes "run") then option_map (λ f. (codes "run", Some f)) file
     else (if bytes_eq word (codes "replay") then option_map (λ f. (codes "replay", Some f)) file
-    else (if bytes_eq word (codes "check") then option_map (λ f. (codes "check", Some f)) file else Some (codes "console", file)))
+    else (if bytes_eq word (codes "check") then option_map (λ f. (codes "check", Some f)) file
+    else (if bytes_eq word (codes "migrate") then option_map (λ f. (codes "migrate", Some f)) file else Some (codes "console", file))))
 
 -- what a word and what stands behind it ask for; without a word it is a console
 abbrev pub asked_at : Option (Text × List Row) → Option (Text × Option Text)

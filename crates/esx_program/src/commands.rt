@@ -4,11 +4,12 @@ ghost use Rattle.std.specs.Prelude.{◌≡◌, ◌≤◌, Option, IfOk, IfErr};
 ghost use Rattle.esx_types.specs.Ranges.{IsConfig};
 ghost use Rattle.esx_text.specs.States.{sink_state, source_state};
 ghost use Rattle.esx_program.specs.declared.words.Asked.{Asked as Wanted};
-ghost use Rattle.esx_program.specs.Doing.{Does, EndsCheck, EndsConsole, EndsReplay, EndsRun, IsSiteAsked, LacksSite};
+ghost use Rattle.esx_program.specs.Doing.{Does, EndsCheck, EndsConsole, EndsMigrate, EndsReplay, EndsRun, IsSiteAsked, LacksSite};
 ghost use Rattle.esx_program.specs.Files.{AreLeft, IsLeft, MayBeLeft, Opened};
 ghost use Rattle.esx_program.specs.Status.{TellsCheck, TellsNoCheck};
 
-use crate::files::{scenario_of_file, script_of_file, text_of_file};
+use crate::files::{scenario_of_file, script_of_file, session_of_file, text_of_file};
+use crate::migrating::migrate_to;
 use crate::outgoing::{Outgoing, Waiting};
 use crate::running::run_to;
 use crate::session::{check_watched, replay_watched, tell_check};
@@ -217,6 +218,45 @@ fn check_file<P: Print, F: Source, W: Sink>(
     }
 }
 
+/// Writes the session in a file in version 2, or the line of its first call with another reply. How far it is, is told to
+/// `to`, where there is one.
+fn migrate_file<P: Print, F: Source, I: Drop, E: Drop, W: Sink + Drop>(
+    alloc: Global,
+    opened: &mut io::Result<F>,
+    to: Option<&P>,
+    streams: Streams<I, E, W>,
+) -> Ended<I, E, W>
+    ensures migrated { (read : Opened) × IsLeft (source_state F.remaining F.calls F.failures F.empty_reads F.asked) opened.old opened.new read
+        × EndsMigrate read result.ended
+        (sink_state W.contents W.waiting W.failures W.flushes streams.writer) (sink_state W.contents W.waiting W.failures W.flushes result.streams.writer) }
+    ensures reader { result.streams.reader ≡ streams.reader }
+    ensures errors { result.streams.errors ≡ streams.errors }
+{
+    let session = match session_of_file(alloc, opened) {
+        Ok(session) => session,
+        Err(fault) => {
+            let ended = Err(Failure::Text(fault));
+            return Ended { ended, streams };
+        }
+    };
+    let Streams {
+        reader,
+        errors,
+        writer,
+    } = streams;
+    let migrated = migrate_to(alloc, session, to, writer);
+    let ended = match migrated.ended {
+        Ok(checked) => Ok(Done::Migrated(checked)),
+        Err(fault) => Err(Failure::Output(fault)),
+    };
+    let streams = Streams {
+        reader,
+        errors,
+        writer: migrated.writer,
+    };
+    Ended { ended, streams }
+}
+
 /// Does what is asked for. How far a long work is, is told to `to`, where there is one.
 pub fn run_asked<
     R: AllocGlobal + Threads + Wait + Sync,
@@ -247,5 +287,6 @@ pub fn run_asked<
             let ended = check_file(rt.alloc(), opened, to, &mut streams.writer);
             Ended { ended, streams }
         }
+        Asked::Migrate(opened) => migrate_file(rt.alloc(), opened, to, streams),
     }
 }

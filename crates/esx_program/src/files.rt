@@ -3,14 +3,14 @@
 ghost use Rattle.std.specs.Prelude.{◌≡◌, ℕ, List, string_bytes, IfOk, IfErr};
 ghost use Rattle.esx_types.specs.Ranges.{IsConfig};
 ghost use Rattle.esx_scenario.specs.Scenarios.{IsScenario};
-ghost use Rattle.esx_session.specs.Sessions.{ReadsScript};
+ghost use Rattle.esx_session.specs.Sessions.{Reads, ReadsScript};
 ghost use Rattle.esx_text.specs.States.{source_state};
-ghost use Rattle.esx_program.specs.Files.{Opened, IsLeft, IsNoScenario, IsNoSession, IsNoText, IsTextRead, HasScenario, HasScript, HasText, LacksScenario, LacksSession, LacksText};
+ghost use Rattle.esx_program.specs.Files.{Opened, IsLeft, IsNoScenario, IsNoSession, IsNoText, IsTextRead, HasScenario, HasScript, HasSession, HasText, LacksScenario, LacksSession, LacksText};
 ghost use Rattle.esx_program.specs.Given.{open_fault};
 
 use esx_reading::{TextFault, read_text};
 use esx_scenario::{Scenario, parse_scenario};
-use esx_session::{Script, parse_script};
+use esx_session::{Script, Session, parse_script, parse_session};
 use esx_types::Source;
 use std::alloc::Global;
 use std::io::{self, ErrorKind};
@@ -55,6 +55,17 @@ fn script_of_source<F: Source>(alloc: Global, file: &mut F) -> Result<Script, Te
     parse_script(alloc, text.as_str())
 }
 
+/// The session that a file gives.
+fn session_of_source<F: Source>(alloc: Global, file: &mut F) -> Result<Session, TextFault>
+    ensures session { IfOk result (λ session. (text : List ℕ)
+        × IsTextRead (source_state F.remaining F.calls F.failures F.empty_reads F.asked file.old) (source_state F.remaining F.calls F.failures F.empty_reads F.asked file.new) text
+        × Reads text session.site session.entries) }
+    ensures fault { IfErr result (IsNoSession (source_state F.remaining F.calls F.failures F.empty_reads F.asked file.old) (source_state F.remaining F.calls F.failures F.empty_reads F.asked file.new)) }
+{
+    let text = text_of_source(alloc, file)?;
+    parse_session(alloc, text.as_str())
+}
+
 /// The text in a file.
 pub fn text_of_file<F: Source>(
     alloc: Global,
@@ -94,6 +105,20 @@ pub fn script_of_file<F: Source>(
 {
     match opened {
         Ok(file) => script_of_source(alloc, file),
+        Err(error) => Err(fault_of_kind(error.kind())),
+    }
+}
+
+/// The session in a file.
+pub fn session_of_file<F: Source>(
+    alloc: Global,
+    opened: &mut io::Result<F>,
+) -> Result<Session, TextFault>
+    ensures { (read : Opened) × IsLeft (source_state F.remaining F.calls F.failures F.empty_reads F.asked) opened.old opened.new read
+        × IfOk result (λ session. HasSession read session.site session.entries) × IfErr result (LacksSession read) }
+{
+    match opened {
+        Ok(file) => session_of_source(alloc, file),
         Err(error) => Err(fault_of_kind(error.kind())),
     }
 }

@@ -13,6 +13,7 @@ mod commands;
 mod ends;
 mod files;
 mod gates;
+mod migrating;
 mod outgoing;
 mod progress;
 mod running;
@@ -26,6 +27,7 @@ use esx_check::{Checked, OutputFault};
 use esx_reading::TextFault;
 use esx_text::ServeFault;
 use esx_types::{Config, MAX_NODES};
+pub use migrating::migrate_watched;
 pub use running::RunFault;
 pub use session::check_watched;
 use session::status_of_check;
@@ -102,6 +104,7 @@ pub enum Done {
     Ran,
     Replayed,
     Checked(Checked),
+    Migrated(Checked),
 }
 
 impl Done {
@@ -114,7 +117,7 @@ impl Done {
     {
         match self {
             Done::Served | Done::Ran | Done::Replayed => 0,
-            Done::Checked(checked) => status_of_check(checked),
+            Done::Checked(checked) | Done::Migrated(checked) => status_of_check(checked),
         }
     }
 }

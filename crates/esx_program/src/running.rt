@@ -153,7 +153,7 @@ fn tell_session<W: Sink>(
 }
 
 /// The same, where the text waits until there is much of it.
-fn session_buffered<W: Sink + Drop, L: Ledger>(
+pub fn session_buffered<W: Sink + Drop, L: Ledger>(
     console: &Console,
     held: &mut AnswerBuffer,
     waiting: Waiting,

@@ -54,7 +54,7 @@ pub fn check_watched<P: Print>(
 }
 
 /// Hands on what waits, where memory ran out, and tells what an output comes to by that.
-fn give_up<W: Sink>(writer: &mut W) -> OutputFault
+pub fn give_up<W: Sink>(writer: &mut W) -> OutputFault
     ensures bytes { Keeps (W.contents writer.old) (W.contents writer.new) }
     ensures failures { W.failures writer.new ≡ W.failures writer.old + failed_writes result }
     ensures flushes { W.flushes writer.new + failed_writes result ≡ W.flushes writer.old + 1 }
@@ -67,7 +67,7 @@ fn give_up<W: Sink>(writer: &mut W) -> OutputFault
 }
 
 /// Writes what a check came to as a line, and hands it on.
-fn write_line<W: Sink>(
+pub fn write_line<W: Sink>(
     writer: &mut W,
     held: &mut AnswerBuffer,
     checked: Checked,

@@ -35,6 +35,7 @@ pub fn opened<R: Files>(rt: &R, asked: Asked<&str>) -> Asked<io::Result<R::File>
         Asked::Run(path) => Asked::Run(open_apart(rt, path)),
         Asked::Replay(path) => Asked::Replay(open_apart(rt, path)),
         Asked::Check(path) => Asked::Check(open_apart(rt, path)),
+        Asked::Migrate(path) => Asked::Migrate(open_apart(rt, path)),
     }
 }
 
@@ -70,6 +71,7 @@ fn with_source<F: Read + Drop, L: Ledger>(
         Asked::Run(opened) => Asked::Run(source_of(opened, calls)),
         Asked::Replay(opened) => Asked::Replay(source_of(opened, calls)),
         Asked::Check(opened) => Asked::Check(source_of(opened, calls)),
+        Asked::Migrate(opened) => Asked::Migrate(source_of(opened, calls)),
     }
 }
 

@@ -20,6 +20,8 @@ pub enum Asked<F> {
     Replay(F),
     /// Whether the calls of a session in a file have the replies that stand with them.
     Check(F),
+    /// A session in a file, printed in version 2 where its calls have these replies.
+    Migrate(F),
 }
 
 /// Why the words ask for nothing.
@@ -38,8 +40,8 @@ fn word_with_file<'a>(alloc: Global, word: &'a str) -> Result<Command<'a>, Alloc
     Command::new(alloc, word).arg(file)
 }
 
-/// What may stand on the program's command line: nothing, or `console` and at most one file, or `run`, `replay`
-/// or `check` and a file.
+/// What may stand on the program's command line: nothing, or `console` and at most one file, or `run`, `replay`,
+/// `check` or `migrate` and a file.
 fn program<'a>(alloc: Global) -> Result<Command<'a>, AllocError>
     ensures { IfOk result (λ c. app_of c ≡ program_app) }
 {
@@ -47,6 +49,7 @@ fn program<'a>(alloc: Global) -> Result<Command<'a>, AllocError>
         .subcommand(word_with_file(alloc, "console")?)?
         .subcommand(word_with_file(alloc, "replay")?)?
         .subcommand(word_with_file(alloc, "check")?)?
+        .subcommand(word_with_file(alloc, "migrate")?)?
         .subcommand(word_with_file(alloc, "run")?)
 }
 
@@ -58,6 +61,7 @@ fn asked_for<'a>(word: &str, file: Option<&'a str>) -> Option<Asked<&'a str>>
         "run" => Some(Asked::Run(file?)),
         "replay" => Some(Asked::Replay(file?)),
         "check" => Some(Asked::Check(file?)),
+        "migrate" => Some(Asked::Migrate(file?)),
         _ => Some(Asked::Console(file)),
     }
 }

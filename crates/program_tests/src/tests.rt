@@ -5,6 +5,7 @@ mod asking;
 mod checking;
 mod ends;
 mod mechanisms;
+mod migrating;
 mod opening;
 mod running;
 

@@ -15,7 +15,7 @@ use crate::desk::of_desk;
 use crate::input::{ROOM, fill};
 use crate::outcomes::Outcome;
 use crate::row::of_row;
-use crate::texts::{of_scenario, of_session};
+use crate::texts::{of_migration, of_scenario, of_session};
 use desk_tests::calls::SITE;
 use esx_types::Config;
 use std::alloc::{AllocGlobal, Global};
@@ -30,6 +30,7 @@ fn outcome_of(alloc: Global, kind: &str, text: &str) -> Outcome {
         "row" => of_row(alloc, SITE, text),
         "small row" => of_row(alloc, SMALL, text),
         "session" => of_session(alloc, text),
+        "migration" => of_migration(alloc, text),
         "scenario" => of_scenario(alloc, text),
         _ => Outcome::Otherwise,
     }

@@ -15,6 +15,8 @@ pub enum Outcome {
     Otherwise,
     /// A session's calls were made again, of which it has so many.
     Checked(Checked, usize),
+    /// A console has so many calls of a session, of which it has so many.
+    Migrated(usize, usize),
     Scenario(Scenario),
     Fault(TextFault),
 }
@@ -29,6 +31,7 @@ impl fmt::Display for Outcome {
             Outcome::Checked(Checked::Differs(call), calls) => {
                 write!(f, "differs {call} of {calls}")
             }
+            Outcome::Migrated(count, calls) => write!(f, "migrated {count} of {calls}"),
             Outcome::Scenario(scenario) => write!(f, "{scenario:?}"),
             Outcome::Fault(fault) => write!(f, "{fault}"),
         }

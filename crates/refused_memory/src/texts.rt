@@ -1,7 +1,7 @@
 //! Texts of sessions and of scenarios.
 
 use crate::outcomes::Outcome;
-use esx_check::check_session;
+use esx_check::{Checked, MigrateFault, check_session, migrate};
 use esx_reading::TextFault;
 use esx_scenario::parse_scenario;
 use esx_session::{Session, parse_session};
@@ -27,6 +27,23 @@ fn of_calls(alloc: Global, session: Session) -> Outcome {
 pub fn of_session(alloc: Global, text: &str) -> Outcome {
     match parse_session(alloc, text) {
         Ok(session) => of_calls(alloc, session),
+        Err(fault) => of_fault(fault),
+    }
+}
+
+fn of_migrated(alloc: Global, session: &Session) -> Outcome {
+    let calls = session.entries().len();
+    match migrate(alloc, session) {
+        Ok(console) => Outcome::Migrated(console.log().len(), calls),
+        Err(MigrateFault::Differs(call)) => Outcome::Checked(Checked::Differs(call), calls),
+        Err(MigrateFault::OutOfMemory) => Outcome::OutOfMemory(1),
+    }
+}
+
+/// The same of reading and migrating.
+pub fn of_migration(alloc: Global, text: &str) -> Outcome {
+    match parse_session(alloc, text) {
+        Ok(session) => of_migrated(alloc, &session),
         Err(fault) => of_fault(fault),
     }
 }

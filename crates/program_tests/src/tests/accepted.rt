@@ -1,10 +1,10 @@
 //! Events that are accepted, and refusals, each once through the whole console; and checks with ample memory.
 
 use super::{Row, served};
-use esx_check::{Checked, check_session, check_text};
+use esx_check::{Checked, MigrateFault, check_session, check_text, migrate};
 use esx_program::SITE;
 use esx_reading::TextFault;
-use esx_session::parse_session;
+use esx_session::{parse_session, print_session};
 use esx_types::Config;
 use std::test::Fail;
 
@@ -90,6 +90,9 @@ const SAME: &str =
 const OLD: &str =
     "esx session 1\nframes 20 page 16 slots 8 tau 75 levels 6 4 2 1 nodes 16777216\n63 admit 31 2 6 1 1000 0\n= ok memory 3/20 swap 4/8\nend 1\n";
 
+const MIGRATED: &str =
+    "esx session 2\nframes 20 page 16 slots 8 tau 75 levels 6 4 2 1 nodes 16777216\n63 admit 31 2 6 1 1000 0\n= ok memory 3/20 swap 4/8\nend 1\n";
+
 const DIFFERS: &str =
     "esx session 2\nframes 20 page 16 slots 8 tau 75 levels 6 4 2 1 nodes 16777216\n0 admit 0 2 6 1 1000 0\n= ok memory 3/20 swap 4/8\n0 start 0\n= ok frame 1 overhead 1/1 running\n0 sum\n= overhead 1 private 0 shared 0 free 19 high\nend 3\n";
 
@@ -111,5 +114,26 @@ fn checks(rt: HostRuntime) -> Result<(), Fail> {
     let text =
         "esx session 2\nframes 20 page 16 slots 8 tau 75 levels 6 4 2 1 nodes 16777216\n0 sum\nend 1\n";
     assert_eq!(rt; check_text(alloc, text), Err(TextFault::BadLine(4)));
+    Ok(())
+}
+
+/// A session is migrated to a console whose session is printed in version 2.
+#[test]
+fn migrations(rt: HostRuntime) -> Result<(), Fail> {
+    let alloc = rt.alloc();
+    for (text, printed) in [(SAME, SAME), (OLD, MIGRATED)] {
+        let Ok(session) = parse_session(alloc, text) else {
+            return Err(Fail::new("the session"));
+        };
+        let Ok(console) = migrate(alloc, &session) else {
+            return Err(Fail::new("the console"));
+        };
+        let written = print_session(alloc, &console.site(), console.log())?;
+        assert!(rt; written.as_str() == printed);
+    }
+    let Ok(session) = parse_session(alloc, DIFFERS) else {
+        return Err(Fail::new("the session"));
+    };
+    assert!(rt; matches!(migrate(alloc, &session), Err(MigrateFault::Differs(2))));
     Ok(())
 }

@@ -46,14 +46,14 @@ const ROWS: [Row; 2] = [
 
 /// A terminal that keeps what it was told, or that fails at each line.
 #[derive(Drop)]
-struct Screen {
+pub(super) struct Screen {
     alloc: Global,
     is_broken: bool,
-    told: RefCell<Vec<u8>>,
+    pub(super) told: RefCell<Vec<u8>>,
 }
 
 impl Screen {
-    fn new(alloc: Global, is_broken: bool) -> Screen {
+    pub(super) fn new(alloc: Global, is_broken: bool) -> Screen {
         Screen {
             alloc,
             is_broken,

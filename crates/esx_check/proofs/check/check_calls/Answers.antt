@@ -59,12 +59,13 @@ returns-in_err-has_same_reply-clause-some g c =
     let step : c.loop-entry.entry-iterator.rest.items ≡ e ∷ c.next.new.self.rest.items = c.in-Some.ensures.steps.0 in
     let goes = goes_to_next _ c.args.entries.items done c.next.new.self.rest.items e c.loop-entry.count (so_far.split ∙ ap (λ v. done ++ v) step) so_far.same so_far.count in
     let split = so_far.split ∙ ap (λ v. done ++ v) step in
+    let wanted = c.in_err-has_same_reply.ensures.wants (made _ done) so_far.console in
     let wants : NextWantsMemory c.args.site c.args.entries.items c.loop-entry.count = record {
       done = done;
       later = e ∷ c.next.new.self.rest.items;
       split = split;
       number = so_far.count;
-      wants = record { may = c.in_err-has_same_reply.ensures.room; comes = c.in_err-has_same_reply.ensures.there (made _ done) so_far.console };
+      wants = record { may = wanted.0; comes = wanted.1 };
     } in
     on_err c.from_residual-in_err-has_same_reply.result (some_more _ _ _ _ _ _ (inr (goes, (c.loop-entry.count, refl, wants))) so_far.gate c.in_err-has_same_reply.ensures.gate)
 

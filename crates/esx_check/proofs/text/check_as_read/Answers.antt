@@ -115,7 +115,8 @@ returns-in_default-has_same_reply-clause-wants g c = λ text site follows answer
     let so_far = c.loop-calls.invariant.so_far text site follows answers in
     let next = rw c.in-Some.is at (c.in_ok-entry.ensures.some text so_far.site so_far.done so_far.follows) in
     let call = c.in_default-has_same_reply.ensures in
-    let wants : WantsMemory so_far.site so_far.done c.in-Some.entry.call = record { may = call.room; comes = call.there (made so_far.site so_far.done) so_far.answers } in
+    let wanted = call.wants (made so_far.site so_far.done) so_far.answers in
+    let wants : WantsMemory so_far.site so_far.done c.in-Some.entry.call = record { may = wanted.0; comes = wanted.1 } in
     some_more _ _ _ _ _ _ (inl (wants_at_call text _ _ _ _ c.in-Some.entry so_far next wants)) c.loop-calls.invariant.gate call.gate
 
 pub returns-in_err-read_on-clause-wants : goal.returns-in_err-read_on-clause-wants

@@ -1,5 +1,5 @@
 use Rattle.std.proofs.Common.{refl}
-use Rattle.esx_program.specs.declared.words.Asked.TheVariants.{Console, Run, Replay, Check}
+use Rattle.esx_program.specs.declared.words.Asked.TheVariants.{Console, Run, Replay, Check, Migrate}
 use Rattle.esx_program.proofs.commands.run_asked.Goals as goal
 
 pub returns-in-Console : goal.returns-in-Console
@@ -21,3 +21,8 @@ pub returns-in-Check : goal.returns-in-Check
 returns-in-Check g c =
     let done = c.check_file-ended.ensures in
     rw c.in-Check.is (Check done.0, record { word = (refl, refl); file = done.1 }, (done.2, refl, refl))
+
+pub returns-in-Migrate : goal.returns-in-Migrate
+returns-in-Migrate g c =
+    let done = c.migrate_file.ensures in
+    rw (c.in-Migrate.is, done.reader, done.errors) (Migrate done.migrated.0, record { word = (refl, refl); file = done.migrated.1 }, (done.migrated.2, refl, refl))

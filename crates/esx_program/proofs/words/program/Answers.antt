@@ -9,5 +9,7 @@ returns c =
     c.in_ok-subcommand-2.ensures c.in_ok-word_with_file-2.ensures.local first c.in_ok-word_with_file-2.ensures.app in
     let third = one_more c.in_ok-subcommand-2.field-0 c.in_ok-word_with_file-3.field-0 c.in_ok-subcommand-3.field-0 _ _
     c.in_ok-subcommand-3.ensures c.in_ok-word_with_file-3.ensures.local second c.in_ok-word_with_file-3.ensures.app in
-    last_one c.subcommand-4.result c.in_ok-subcommand-3.field-0 c.in_ok-word_with_file-4.field-0 _ _
-    c.subcommand-4.ensures c.in_ok-word_with_file-4.ensures.local third c.in_ok-word_with_file-4.ensures.app
+    let fourth = one_more c.in_ok-subcommand-3.field-0 c.in_ok-word_with_file-4.field-0 c.in_ok-subcommand-4.field-0 _ _
+    c.in_ok-subcommand-4.ensures c.in_ok-word_with_file-4.ensures.local third c.in_ok-word_with_file-4.ensures.app in
+    last_one c.subcommand-5.result c.in_ok-subcommand-4.field-0 c.in_ok-word_with_file-5.field-0 _ _
+    c.subcommand-5.ensures c.in_ok-word_with_file-5.ensures.local fourth c.in_ok-word_with_file-5.ensures.app
