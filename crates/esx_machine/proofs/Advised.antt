@@ -26,6 +26,7 @@ use Rattle.esx_model.specs.Advice.{can_write, help_by, target_of, help_for, help
 use Rattle.esx_model.specs.event.Outcome.{unless, standing, page_gate}
 use Rattle.esx_model.specs.event.Access.{is_blocked, write_frame}
 use Rattle.esx_model.specs.event.Paging.{is_above_min}
+use Rattle.esx_model.specs.event.Rebalancing.{rows_of}
 use Rattle.esx_model.specs.sound.Sound.{IsSound}
 use Rattle.esx_tables.specs.Readings.{row_at}
 use Rattle.esx_changes.specs.Spare.{has_spare}
@@ -80,3 +81,19 @@ advice_shown k t n page shows =
     ∙ ap (λ (l : Level). advice_from (tables_of k.config t.site) l page (row_at (tables_of k.config t.site) n)) shows.level
     ∙ ap (advice_from (tables_of k.config t.site) t.level page) (row_there k.config t.site n)
     ∙ advice_same k.config t n page (vm_at t.site n) shows.sound refl
+
+-- Rows by the targets, and what machines asked for.
+
+pub targets_shown : (k : Kept) (t : Scene) → Shows k t → target_rows k.tables.tau 0 k.tables.vms ≡ rows_of target_of t.site
+targets_shown k t shows =
+    ap (λ (x : Tables). target_rows x.tau 0 x.vms) shows.tables ∙ rows_shown (λ (w : VmRow). w.target) target_of (λ v. refl) k.config t.site
+
+same_spec : (o : Option Vm) → option_map (λ (w : VmRow). w.spec) (option_map vm_table o) ≡ option_map (λ (v : Vm). v.spec) o
+same_spec None = refl
+same_spec (Some v) = refl
+
+pub spec_shown : (k : Kept) (t : Scene) (n : ℕ) → Shows k t → option_map (λ (w : VmRow). w.spec) (row_at k.tables n) ≡ option_map (λ (v : Vm). v.spec) (vm_at t.site n)
+spec_shown k t n shows =
+    ap (λ (x : Tables). option_map (λ (w : VmRow). w.spec) (row_at x n)) shows.tables
+    ∙ ap (option_map (λ (w : VmRow). w.spec)) (row_there k.config t.site n)
+    ∙ same_spec (vm_at t.site n)

@@ -2,6 +2,7 @@ pub use Rattle.esx_types.specs.Ranges
 pub use Rattle.esx_model.specs.Readings
 pub use Rattle.esx_model.specs.Replay
 pub use Rattle.esx_model.specs.Advice
+pub use Rattle.esx_model.specs.event.Rebalancing
 pub use Rattle.esx_model.specs.Site
 pub use Rattle.esx_model.specs.Tables
 pub use Rattle.esx_tables.specs.Changes

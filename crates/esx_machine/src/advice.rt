@@ -45,7 +45,7 @@ fn can_go(tables: &SiteTables, level: Level, vm: &VmTable, page: u32) -> bool
 }
 
 /// What a machine has where the site has this tax, of which it keeps its target.
-fn target_row(tau: u32, vm: VmId, row: &VmTable) -> Row
+pub fn target_row(tau: u32, vm: VmId, row: &VmTable) -> Row
     requires tau { tau ≤ MAX_TAU }
     requires row { IsReadable row.now }
     ensures value { result ≡ target_row tau vm row.now }

@@ -7,6 +7,7 @@ pub mod machine;
 mod planning;
 mod reading;
 mod record;
+mod rows;
 mod table;
 
 pub use machine::Machine;

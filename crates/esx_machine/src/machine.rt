@@ -2,15 +2,17 @@
 
 use crate::advice::advise;
 use crate::planning::plan;
-use crate::reading::{activity, page_state};
+use crate::reading::{activity, page_state, spec_of};
 use crate::record::Record;
+use crate::rows::target_rows;
 use crate::table::table_of;
 use esx_events::{Activity, Answer, Event, Help, PageState, Refusal, Sum, TableRow};
+use esx_formulas::Row;
 use esx_level::Thresholds;
 use esx_model::Book;
 use esx_plans::Plan;
 use esx_tables::SiteTables;
-use esx_types::{Config, Level, Rows, VmId};
+use esx_types::{Config, Level, Rows, VmId, VmSpec};
 use std::alloc::{AllocError, Global};
 use std::marker::Model;
 
@@ -35,13 +37,14 @@ impl Model for Machine {
 }
 
 impl Machine {
-    ghost use Rattle.std.specs.Prelude.{◌≡◌, ◌≢◌, ◌+◌, count_by, IfOk, IfErr};
+    ghost use Rattle.std.specs.Prelude.{◌≡◌, ◌≢◌, ◌+◌, count_by, option_map, IfOk, IfErr};
     ghost use Rattle.esx_types.specs.Ranges.{IsConfig};
     ghost use Rattle.esx_types.specs.Frames.{is_free};
     ghost use Rattle.esx_model.specs.declared.scene.Scene.{Scene};
-    ghost use Rattle.esx_model.specs.Site.{free_count};
+    ghost use Rattle.esx_model.specs.Site.{free_count, vm_at};
     ghost use Rattle.esx_model.specs.Readings.{sum_of, page_state, activity, table_of};
-    ghost use Rattle.esx_model.specs.Advice.{advice};
+    ghost use Rattle.esx_model.specs.Advice.{advice, target_of};
+    ghost use Rattle.esx_model.specs.event.Rebalancing.{rows_of};
     ghost use Rattle.esx_model.specs.Replay.{next, opening};
     ghost use Rattle.esx_model.specs.sound.Sound.{NamesVm};
     ghost use Rattle.esx_changes.specs.Planned.{Plans};
@@ -181,6 +184,28 @@ impl Machine {
         ensures { result ≡ activity (book_in self.now) vm }
     {
         activity(&self.tables, vm)
+    }
+
+    /// The idle memory tax of the site, in percent.
+    pub fn tau(&self) -> u32
+        ensures { (scene : Scene) → Shows self.now scene → result ≡ scene.site.tau }
+    {
+        self.tables.tau()
+    }
+
+    /// What a virtual machine asked for, with its present shares and its present tax, if there is such a machine.
+    pub fn spec(&self, vm: VmId) -> Option<VmSpec>
+        ensures { (scene : Scene) → Shows self.now scene → result ≡ option_map (λ v. v.spec) (vm_at scene.site vm) }
+    {
+        spec_of(&self.tables, vm)
+    }
+
+    /// What each virtual machine has for the taxed ratio, in order of number, with its target for a floor. It looks at
+    /// each machine once.
+    pub fn rows(&self) -> Result<Vec<Row>, AllocError>
+        ensures { (scene : Scene) → Shows self.now scene → IfOk result (λ rows. rows.items ≡ rows_of target_of scene.site) }
+    {
+        target_rows(self.alloc, &self.tables)
     }
 
     /// Reads what an access of a page is to read, so that it is near when the access comes. What it gives means nothing.

@@ -1,6 +1,6 @@
 //! What questions read of one machine's row and one frame's.
 
-ghost use Rattle.std.specs.Prelude.{◌≡◌};
+ghost use Rattle.std.specs.Prelude.{◌≡◌, option_map};
 ghost use Rattle.esx_types.specs.Frames.{frame_at};
 ghost use Rattle.esx_types.specs.Listings.{listing_at};
 ghost use Rattle.esx_model.specs.Readings.{activity_in, activity_of, state_in};
@@ -11,7 +11,7 @@ ghost use Rattle.esx_machine.specs.Questions.{AreReadable, is_hinted, state_of, 
 use esx_changes::activity::{active, sampled, touched};
 use esx_events::{Activity, PageState, Refusal};
 use esx_tables::{SiteTables, VmTable};
-use esx_types::{FrameRow, Listing, MapRow, VmId};
+use esx_types::{FrameRow, Listing, MapRow, VmId, VmSpec};
 
 fn activity_in(vm: &VmTable) -> Activity
     requires { IsTold vm.now.period }
@@ -48,6 +48,16 @@ pub fn activity(tables: &SiteTables, vm: VmId) -> Result<Activity, Refusal>
     match tables.vm(vm) {
         None => Err(Refusal::NoVm),
         Some(row) => Ok(activity_in(row)),
+    }
+}
+
+/// What a machine asked for, with its present shares and its present tax.
+pub fn spec_of(tables: &SiteTables, vm: VmId) -> Option<VmSpec>
+    ensures { result ≡ option_map (λ v. v.spec) (row_at tables.now vm) }
+{
+    match tables.vm(vm) {
+        None => None,
+        Some(row) => Some(row.spec()),
     }
 }
 
