@@ -53,6 +53,7 @@ pub struct Asked {
 }
 
 /// How often pages of a virtual machine came and left since it was admitted, each way by itself.
+#[derive(Clone, Copy, Debug, PartialEq, Eq)]
 pub struct Counts {
     pub first: u32,
     pub popped: u32,

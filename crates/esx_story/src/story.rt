@@ -5,6 +5,7 @@ use esx_formulas::Row;
 use esx_types::Level;
 
 /// Where a machine stands in the order in which machines are to give pages up.
+#[derive(Clone, Copy, Debug, PartialEq, Eq)]
 pub struct Order {
     /// What it has, its target for a floor.
     pub own: Option<Row>,
@@ -17,6 +18,7 @@ pub struct Order {
 }
 
 /// What is told of a scene and one machine. `tau` is the site's tax in percent.
+#[derive(Clone, Copy, Debug, PartialEq, Eq)]
 pub struct Seen {
     pub level: Level,
     pub free: u32,
@@ -25,6 +27,7 @@ pub struct Seen {
 }
 
 /// A loss. Events are numbered along the path, from 1.
+#[derive(Clone, Copy, Debug, PartialEq, Eq)]
 pub struct Loss {
     /// The event that it came with.
     pub at: u32,

@@ -1,0 +1,14 @@
+mod Lists
+mod Along
+mod Renewed
+mod Places
+mod Losing
+mod Standing
+mod Living
+mod Going
+mod Waiting
+mod Few
+mod Rows
+mod Walking
+mod Paths
+mod Complete

@@ -1,0 +1,6 @@
+use Rattle.std.proofs.Common.{◌≡◌, ◌++◌, length, take, drop}
+use Rattle.esx_walk.specs.Account.{all_set}
+use Rattle.esx_walk.proofs.lives.set_all.Given as goal
+
+abbrev pub invariant-loop-number : goal.invariant-loop-number
+invariant-loop-number l = (l.lives ≡ all_set l.at (take l.number l.initial.lives) ++ drop l.number l.initial.lives) × (l.number-end ≡ length l.initial.lives)

@@ -1,0 +1,9 @@
+pub mod Account
+pub mod Accounts
+pub mod Complete
+pub mod Few
+pub mod Kept
+pub mod Looking
+pub mod Making
+pub mod Ordered
+pub mod Walks
