@@ -1,0 +1,5 @@
+pub mod CommaLemmas
+pub mod EndLemmas
+pub mod FieldLemmas
+pub mod RatioLemmas
+pub mod WhyLemmas

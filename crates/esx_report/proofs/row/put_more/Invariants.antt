@@ -1,0 +1,11 @@
+use Rattle.std.proofs.Common.{◌≡◌, ◌++◌, take, flat_map}
+use Rattle.esx_writing.specs.Writing.{Passes}
+use Rattle.esx_report.proofs.row.put_more.Given as goal
+
+abbrev pub invariant-loop-entry : goal.invariant-loop-entry
+invariant-loop-entry g l = record {
+  passed : Passes (g.W.Sink.contents l.initial.sink) l.initial.held (g.W.Sink.contents l.sink) l.held
+      (flat_map (λ y. g.E.Entry.separator ++ g.E.Entry.text y) (take l.entry-index l.entries));
+  failures : g.W.Sink.failures l.sink ≡ g.W.Sink.failures l.initial.sink;
+  flushes : g.W.Sink.flushes l.sink ≡ g.W.Sink.flushes l.initial.sink;
+}

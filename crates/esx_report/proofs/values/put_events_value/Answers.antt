@@ -1,0 +1,4 @@
+use Rattle.esx_report.proofs.values.put_events_value.Goals as goal
+
+pub returns-clause-bytes : goal.returns-clause-bytes
+returns-clause-bytes g c = c.put_parts.ensures.bytes

@@ -1,0 +1,11 @@
+pub use Rattle.hex.specs.Hex
+pub use Rattle.esx_writing.specs.Writing
+pub mod Ends
+pub mod Fields
+pub mod Guests
+pub mod Losses
+pub mod LossTable
+pub mod Rows
+pub mod Site
+pub mod Values
+pub mod Why
