@@ -57,7 +57,7 @@ def event(draw, pair):
 
 
 def command(draw, pair=PAIRS[0]):
-    word = draw.choice(["event"] * 12 + list(reader.OTHERS) + ["whatif", "session", "#", ""])
+    word = draw.choice(["event"] * 12 + list(reader.OTHERS) + ["whatif", *reader.CONSOLE_WORDS, "#", ""])
     if word == "event":
         return event(draw, pair)
     if word == "whatif":
@@ -149,12 +149,14 @@ def check_sessions(program, draw, count, sessions):
             session = reader.session_of(text)
             out, status = console.told_of_check(session)
             wanted, replayed = Told(status, out, b""), Told(0, console.told_of_replay(session), b"")
+            migrated = Told(status, console.told_of_migration(session)[0], b"")
             good, same = good + 1, same + (status == 0)
         else:
-            wanted = replayed = Told(1, b"", refused.encode() + b"\n")
+            wanted = replayed = migrated = Told(1, b"", refused.encode() + b"\n")
         with file_of(text) as name:
             expect(f"check of {text!r}", wanted, ask(program, ["check", name]))
             expect(f"replay of {text!r}", replayed, ask(program, ["replay", name]))
+            expect(f"migration of {text!r}", migrated, ask(program, ["migrate", name]))
     return good, same
 
 
@@ -180,7 +182,7 @@ def check_words(program, draw, count):
     """The program's words, with a file that is no scenario and no session, and one that is not there."""
     with file_of(b"\n") as name, tempfile.TemporaryDirectory() as nowhere:
         for _ in range(count):
-            drawn = [draw.choice(["console", "run", "check", "replay", name, f"{name}.none", "", "Run", "sum", "0"])
+            drawn = [draw.choice(["console", "run", "check", "replay", "migrate", name, f"{name}.none", "", "Run", "sum", "0"])
                      for _ in range(draw.choice([0, 1, 1, 2, 2, 2, 3]))]
             found = reader.file_of_words(drawn)
             if found is None:

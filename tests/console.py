@@ -171,6 +171,9 @@ class Console:
     def advise(self, number, page):
         return self.site.advise(int(number), int(page))
 
+    def order(self):
+        return self.site.order()
+
     def session(self):
         frames, page, slots, tau, *levels, nodes = self.numbers
         lines = ["esx session 2", f"frames {frames} page {page} slots {slots} tau {tau} levels "
@@ -200,8 +203,8 @@ def answers(console, data):
         what = reader.what_line_is(line)
         if what == "call":
             told.append(bytes_of(console.call(line.decode())))
-        elif what == "session":
-            told.append(bytes_of(console.session()))
+        elif what in reader.CONSOLE_WORDS:
+            told.append(bytes_of(getattr(console, what)()))
         else:
             told.append(b"? line %d\n" % at if what == "none" else b"")
     return told
@@ -219,6 +222,11 @@ def replies_of(session):
 def told_of_check(session):
     differs = replies_of(session)[1]
     return (b"differs %d\n" % differs, 1) if differs else (b"same %d\n" % len(session.calls), 0)
+
+
+def told_of_migration(session):
+    console, differs = replies_of(session)
+    return (b"differs %d\n" % differs, 1) if differs else (bytes_of(console.session()), 0)
 
 
 def told_of_replay(session):

@@ -497,6 +497,17 @@ class Site:
             return f"here frame {place.frame} shared {len(self.at[place.frame])}"
         return f"here frame {place.frame} private{' hint' * ((number, page) in self.hint_of)}"
 
+    def order(self):
+        """The machines above their targets, in the order in which they are to lose pages."""
+        above = sorted(Claim(self, one, vm.count(Here)) for one, vm in self.vms.items() if vm.is_above_target())
+        return [f"order {len(above)}"] + [self.told_in_order(claim) for claim in above]
+
+    def told_in_order(self, claim):
+        vm, ratio = self.vms[claim.number], 1000 * 65536 * claim.left // claim.cost
+        tax = self.tau if vm.tau is None else f"{vm.tau} own"
+        return (f"{claim.number} here {vm.count(Here)} target {vm.target} active {vm.active()} tax {tax} "
+                f"ratio {ratio // 1000}.{ratio % 1000:03}")
+
     def advise(self, number, page):
         vm = self.running_with(number, page)
         if not self.is_held(vm) and (self.free or not self.needs_frame(vm, page, True)):

@@ -98,6 +98,9 @@ def is_call(text, version=NEW):
     return is_event(text, version) or word in OTHERS and is_made_of(OTHERS[word], fields, version)
 
 
+CONSOLE_WORDS = ("session", "order")  # they are no calls, and no session has them
+
+
 def lines_of(data):
     """The lines of some bytes. A carriage return before a line feed is dropped; at the end of the input it is kept."""
     *whole, last = data.split(b"\n")
@@ -110,14 +113,14 @@ def text_of(line):
 
 
 def what_line_is(line):
-    """Whether a line at the console is `nothing`, a `call`, `session` or `none`."""
+    """Whether a line at the console is `nothing`, a `call`, a word of the console alone, or `none`."""
     if line == b"" or line.startswith(b"#"):
         return "nothing"
     text = text_of(line)
     if text is None or len(line) > LONGEST_LINE:
         return "none"
-    if text == "session":
-        return "session"
+    if text in CONSOLE_WORDS:
+        return text
     return "call" if is_call(text) else "none"
 
 
@@ -322,6 +325,6 @@ def file_of_words(words):
     """The command and the file, if any, that the program's words name; none if they are wrong. No word begins with `-`."""
     if not words:
         return "console", None
-    if words[0] == "console" and len(words) <= 2 or words[0] in ("run", "check", "replay") and len(words) == 2:
+    if words[0] == "console" and len(words) <= 2 or words[0] in ("run", "check", "replay", "migrate") and len(words) == 2:
         return words[0], words[1] if len(words) == 2 else None
     return None

@@ -378,7 +378,7 @@ def verbs(draw, events, others):
     fields = {"machine": "0", "number": "3", "word": "5", "bytes": "2a", "words": "1 2", "name": "a", "own tax": "50"}
     yield site(20, 16, 8)
     yield from opened([(4, 4, 1, 1000, 0)])
-    for verb, kinds in {**events, **others, "whatif": ["event"], "session": []}.items():
+    for verb, kinds in {**events, **others, "whatif": ["event"], "session": [], "order": []}.items():
         rest = " ".join(fields.get(kind, "read 0 0 0 1") for kind in kinds)
         for at in range(len(verb)):
             for other in (verb[:at] + verb[at + 1:], verb[:at] + draw.choice("aeiorstz") + verb[at:],

@@ -1,7 +1,8 @@
 """Drawn streams (streams.py) are answered byte for byte as the plain console answers them (console.py).
 
-Then, of each: the session that it tells is the plain console's, `check` says that it is the same, and `replay` prints the
-same replies and the table; the sums add up to all frames; and cut in other places the stream is answered alike.
+Then, of each: the session that it tells is the plain console's, `check` says that it is the same, `migrate` prints it as it
+is, and `replay` prints the same replies and the table; the sums add up to all frames; and cut in other places the stream is
+answered alike.
 """
 
 import itertools
@@ -49,7 +50,7 @@ def asked_of(site, lines):
     """The stream with its table, all undone, all redone, the table again and the session; and what is answered."""
     plain = Console(site)
     asked, wanted = console.bytes_of([*lines, "table"]), console.answers(plain, console.bytes_of([*lines, "table"]))
-    more = console.bytes_of([f"undo {plain.depth}", "sum", f"redo {plain.depth}", "table", "session"])
+    more = console.bytes_of([f"undo {plain.depth}", "sum", f"redo {plain.depth}", "order", "table", "session"])
     ends = console.answers(plain, more)
     if ends[-2] != wanted[-1]:
         raise Wrong("the plain console does not come back to its table")
@@ -73,10 +74,11 @@ def try_stream(draw, program, name, site, lines):
 
 
 def try_session(program, name, session, text):
-    """Checks and replays a session that was printed."""
+    """Checks, replays and migrates a session that was printed."""
     with file_of(text) as file:
         expect(f"{name}, check", Told(0, b"same %d\n" % len(session.calls), b""), ask(program, ["check", file]))
         expect(f"{name}, replay", Told(0, console.told_of_replay(session), b""), ask(program, ["replay", file]))
+        expect(f"{name}, migration", Told(0, text, b""), ask(program, ["migrate", file]))
 
 
 def drawn(seed, times):

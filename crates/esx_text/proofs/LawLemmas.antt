@@ -9,8 +9,8 @@ use Rattle.esx_words.proofs.CommandLemmas.{one_call}
 use Rattle.esx_words.proofs.LetterLemmas.{lower_command}
 use Rattle.esx_text.specs.Lines.{IsSilent, lines}
 use Rattle.esx_text.specs.Answers.{IsAnswered, AreAnswered, Serves}
-use Rattle.esx_text.specs.Answers.IsAnswered.{silent, asked, told, unknown}
-use Rattle.esx_text.proofs.SessionLemmas.{session_is_loud, session_spells_none}
+use Rattle.esx_text.specs.Answers.IsAnswered.{silent, asked, own, unknown}
+use Rattle.esx_text.proofs.OwnLemmas.{own_is_loud, own_spells_none, one_own_text}
 use Rattle.esx_text.proofs.OneSplit.{one_split}
 
 -- what begins with a small letter is answered
@@ -29,19 +29,19 @@ one_line : (n caller : ℕ) (before : Session) (line text others : List ℕ) (af
     → IsAnswered n caller before line text after → IsAnswered n caller before line others last → (text ≡ others) × (after ≡ last)
 one_line n caller before line text others after last (silent s) (silent t) = (refl, refl)
 one_line n caller before line text others after last (silent s) (asked call is) = absurd (no_silent_call line s call is.command)
-one_line n caller before line text others after last (silent s) (told t) = absurd (session_is_loud line t s)
+one_line n caller before line text others after last (silent s) (own word other e t) = absurd (own_is_loud line word e s)
 one_line n caller before line text others after last (silent s) (unknown l m none) = absurd (l s)
 one_line n caller before line text others after last (asked call is) (silent s) = absurd (no_silent_call line s call is.command)
 one_line n caller before line text others after last (asked call is) (asked other are) = same_reply before caller call other (one_call line call other is.command are.command)
-one_line n caller before line text others after last (asked call is) (told t) = absurd (session_spells_none line t call is.command)
+one_line n caller before line text others after last (asked call is) (own word other e t) = absurd (own_spells_none line word e call is.command)
 one_line n caller before line text others after last (asked call is) (unknown l m none) = absurd (none call is)
-one_line n caller before line text others after last (told t) (silent s) = absurd (session_is_loud line t s)
-one_line n caller before line text others after last (told t) (asked call is) = absurd (session_spells_none line t call is.command)
-one_line n caller before line text others after last (told t) (told u) = (refl, refl)
-one_line n caller before line text others after last (told t) (unknown l m none) = absurd (m t)
+one_line n caller before line text others after last (own word own_text e t) (silent s) = absurd (own_is_loud line word e s)
+one_line n caller before line text others after last (own word own_text e t) (asked call is) = absurd (own_spells_none line word e call is.command)
+one_line n caller before line text others after last (own word x e t) (own other y f u) = (one_own_text before line word other x y e f t u, refl)
+one_line n caller before line text others after last (own word own_text e t) (unknown l m none) = absurd (m word e)
 one_line n caller before line text others after last (unknown l m none) (silent s) = absurd (l s)
 one_line n caller before line text others after last (unknown l m none) (asked call is) = absurd (none call is)
-one_line n caller before line text others after last (unknown l m none) (told t) = absurd (m t)
+one_line n caller before line text others after last (unknown l m none) (own word other e t) = absurd (m word e)
 one_line n caller before line text others after last (unknown l m none) (unknown k j nothing) = (refl, refl)
 
 one_way : (n caller : ℕ) (before : Session) (ls : List (List ℕ)) (text others : List ℕ) (after last : Session)

@@ -6,4 +6,4 @@ pub mod FaultLemmas
 pub mod SendingLemmas
 pub mod OneSplit
 pub mod LawLemmas
-pub mod SessionLemmas
+pub mod OwnLemmas

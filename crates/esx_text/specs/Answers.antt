@@ -6,10 +6,12 @@ use Rattle.esx_model.specs.Console.{Session, next_reply, lined}
 use Rattle.esx_text.specs.declared.fault.ServeFault.{ServeFault}
 use Rattle.esx_text.specs.declared.fault.ServeFault.TheVariants.{Read, Write, OutOfMemory}
 use Rattle.esx_text.specs.declared.answer.TheConstants.{LONGEST}
+use Rattle.esx_text.specs.declared.own.OwnWord.{OwnWord}
+use Rattle.esx_text.specs.declared.own.OwnWord.TheVariants.{Order}
 use Rattle.esx_words.specs.Commands.{Spells, MayTakeMemory}
 use Rattle.esx_replies.specs.Replies.{reply_text}
-use Rattle.esx_session.specs.Sessions.{session_text, logged}
 use Rattle.esx_text.specs.Lines.{EndsIn, lines, line_of, IsSilent, Held, Holds}
+use Rattle.esx_text.specs.Own.{own_line, IsOwnText}
 use Rattle.esx_writing.specs.Writing.{WritesFront}
 
 -- the line is a command's, and not too long
@@ -17,18 +19,11 @@ pub record IsAsked (line : List ℕ) (call : Call) : Type 0 where
   pub short : length line ≤ LONGEST
   pub command : Spells line call
 
--- Memory may be taken for the line, which is not too long: it is a command's, or begins as one for whose words it is taken.
+-- Memory may be taken for the line, which is not too long: it is a command's, or begins as one for whose words it is taken,
+-- or asks for the order.
 pub record MayWantMemory (line : List ℕ) : Type 0 where
   pub short : length line ≤ LONGEST
-  pub wants : ((call : Call) × IsAsked line call) ⊎ MayTakeMemory line
-
--- the line that asks for the session so far
-abbrev pub session_line : List ℕ
-session_line = codes "session"
-
--- what a session is told as
-abbrev pub told_text : Session → List ℕ
-told_text session = session_text session.site (map logged session.log)
+  pub wants : ((call : Call) × IsAsked line call) ⊎ (MayTakeMemory line ⊎ (line ≡ own_line Order))
 
 -- the answer to line n, where it is no command
 abbrev pub unknown_text : ℕ → List ℕ
@@ -38,8 +33,8 @@ unknown_text n = codes "? line " ++ (decimal n ++ 10 ∷ [])
 pub data IsAnswered (n caller : ℕ) (session : Session) (line : List ℕ) : List ℕ → Session → Type 0 where
   silent : IsSilent line → IsAnswered n caller session line [] session
   asked : (call : Call) → IsAsked line call → IsAnswered n caller session line (reply_text (next_reply session call)) (lined session caller call)
-  told : line ≡ session_line → IsAnswered n caller session line (told_text session) session
-  unknown : (IsSilent line → ⊥) → (line ≡ session_line → ⊥) → ((call : Call) → IsAsked line call → ⊥) → IsAnswered n caller session line (unknown_text n) session
+  own : (word : OwnWord) (text : List ℕ) → line ≡ own_line word → IsOwnText session word text → IsAnswered n caller session line text session
+  unknown : (IsSilent line → ⊥) → ((word : OwnWord) → line ≡ own_line word → ⊥) → ((call : Call) → IsAsked line call → ⊥) → IsAnswered n caller session line (unknown_text n) session
 
 -- The lines from number n on are answered by a text, and leave a session.
 abbrev pub AreAnswered : ℕ → ℕ → Session → List (List ℕ) → List ℕ → Session → Type 0

@@ -4,6 +4,8 @@ use Rattle.esx_events.specs.declared.call.Call.{Call}
 use Rattle.esx_model.specs.Console.{Session}
 use Rattle.esx_words.specs.Commands.{Spells}
 use Rattle.esx_text.specs.Lines.{EndsIn, IsSilent}
+use Rattle.esx_text.specs.declared.own.OwnWord.{OwnWord}
+use Rattle.esx_text.specs.Own.{own_line}
 use Rattle.esx_text.specs.Answers.{Serves}
 
 -- a text has its ended pieces and its rest in one way
@@ -14,9 +16,9 @@ HasOneSplit text = (ended others : List (List ℕ)) (rest last : List ℕ) → E
 abbrev pub SpellsNoCall : List ℕ → Type 0
 SpellsNoCall text = IsSilent text → (call : Call) → Spells text call → ⊥
 
--- the line that asks for the session is that of no call
-abbrev pub IsNoCall : List ℕ → Type 0
-IsNoCall line = (call : Call) → Spells line call → ⊥
+-- a word of the console alone is no call
+abbrev pub IsNoCall : OwnWord → Type 0
+IsNoCall word = (call : Call) → Spells (own_line word) call → ⊥
 
 -- an input is served in one way from each session
 abbrev pub HasOneAnswer : List ℕ → Type 0

@@ -1,3 +1,4 @@
+pub use Rattle.esx_model.specs.History
 pub use Rattle.esx_model.specs.Console
 pub use Rattle.esx_reading.specs.Faults
 pub use Rattle.esx_reading.specs.Fields
@@ -6,7 +7,10 @@ pub use Rattle.esx_words.specs.Commands
 pub use Rattle.esx_replies.specs.Replies
 pub use Rattle.esx_writing.specs.Writing
 pub use Rattle.esx_session.specs.Sessions
+pub use Rattle.esx_order.specs.Order
+pub use Rattle.esx_order.specs.Telling
 pub mod Lines
+pub mod Own
 pub mod Answers
 pub mod States
 pub mod Laws

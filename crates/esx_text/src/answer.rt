@@ -4,10 +4,13 @@ ghost use Rattle.std.specs.Prelude.{◌≡◌, ◌+◌, [], ℕ, List, IfOk, OnO
 ghost use Rattle.esx_events.specs.declared.call.Call.{Call};
 ghost use Rattle.esx_model.specs.Console.{Session};
 ghost use Rattle.esx_text.specs.Lines.{Keeps, IsSilent, input_bytes};
-ghost use Rattle.esx_text.specs.Answers.{IsAsked, IsServed, MayWantMemory, session_line, write_faults};
+ghost use Rattle.esx_text.specs.declared.own.OwnWord.{OwnWord};
+ghost use Rattle.esx_text.specs.Own.{own_line};
+ghost use Rattle.esx_text.specs.Answers.{IsAsked, IsServed, MayWantMemory, write_faults};
 
 use crate::fault::ServeFault;
 use crate::line::Input;
+use crate::own::{answer_own, own_word};
 use esx_console::Console;
 use esx_events::Call;
 use esx_told::Tells;
@@ -59,26 +62,6 @@ fn answer_call<L: Tells, W: Sink>(
     }
 }
 
-/// Writes the session so far. No memory is taken.
-fn answer_session<L: Tells, W: Sink>(
-    console: &Console<L>,
-    writer: &mut W,
-    held: &mut AnswerBuffer,
-) -> Result<(), ServeFault>
-    requires { held.old ≡ [] }
-    ensures served { (n caller : ℕ) (line : List ℕ) → line ≡ session_line
-        → IsServed n caller console.now line console.now (W.contents writer.old) (W.contents writer.new) result }
-    ensures empty { OnOk result (held.new ≡ []) }
-    ensures failures { W.failures writer.new ≡ W.failures writer.old + write_faults result }
-    ensures flushes { W.flushes writer.new ≡ W.flushes writer.old }
-    ensures reads { IsErrOf result ServeFault.Read → ⊥ }
-{
-    match console.kept().tell_session(writer, held, &console.site()) {
-        Ok(()) => Ok(()),
-        Err(_) => Err(ServeFault::Write),
-    }
-}
-
 /// Answers a line that is no command.
 fn answer_unknown<W: Sink>(
     writer: &mut W,
@@ -86,7 +69,7 @@ fn answer_unknown<W: Sink>(
     number: u64,
 ) -> Result<(), ServeFault>
     requires { held.old ≡ [] }
-    ensures served { (caller : ℕ) (session : Session) (line : List ℕ) → (IsSilent line → ⊥) → (line ≡ session_line → ⊥) → ((call : Call) → IsAsked line call → ⊥)
+    ensures served { (caller : ℕ) (session : Session) (line : List ℕ) → (IsSilent line → ⊥) → ((word : OwnWord) → line ≡ own_line word → ⊥) → ((call : Call) → IsAsked line call → ⊥)
         → IsServed number caller session line session (W.contents writer.old) (W.contents writer.new) result }
     ensures empty { OnOk result (held.new ≡ []) }
     ensures failures { W.failures writer.new ≡ W.failures writer.old + write_faults result }
@@ -115,13 +98,6 @@ fn is_silent(line: &[u8]) -> bool
         [] => true,
         [first, ..] => *first == b'#',
     }
-}
-
-/// Whether a line asks for the session so far.
-fn asks_for_session(line: &[u8]) -> bool
-    ensures { IsTrue result ↔ line.now ≡ session_line }
-{
-    line == b"session".as_slice()
 }
 
 /// A line by its number from 1 on: all its bytes, or where it is too long a front of them.
@@ -156,8 +132,8 @@ pub fn answer_line<L: Tells, W: Sink>(
     if asked.long {
         return answer_unknown(writer, held, asked.number);
     }
-    if asks_for_session(kept) {
-        return answer_session(console, writer, held);
+    if let Some(word) = own_word(kept) {
+        return answer_own(alloc, console, writer, held, word);
     }
     let Ok(found) = call_of_line(alloc, asked.kept) else {
         return Err(ServeFault::OutOfMemory);

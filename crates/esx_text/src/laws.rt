@@ -2,7 +2,7 @@
 //! session before.
 
 ghost use Rattle.std.specs.Prelude.{ℕ, List};
-ghost use Rattle.esx_text.specs.Answers.{session_line};
+ghost use Rattle.esx_text.specs.declared.own.OwnWord.{OwnWord};
 ghost use Rattle.esx_text.specs.Laws.{HasOneSplit, SpellsNoCall, IsNoCall, HasOneAnswer};
 
 /// A text has its lines in one way.
@@ -15,9 +15,9 @@ pub fn no_silent_call()
     ensures { (text : List ℕ) → SpellsNoCall text }
 {}
 
-/// The line that asks for the session spells no call.
-pub fn session_is_no_call()
-    ensures { IsNoCall session_line }
+/// The line of a word of the console alone spells no call.
+pub fn no_own_call()
+    ensures { (word : OwnWord) → IsNoCall word }
 {}
 
 /// What is written for an input, and the session after it, are determined.

@@ -7,6 +7,7 @@ mod ends;
 mod fault;
 pub mod laws;
 mod line;
+mod own;
 mod service;
 mod telling;
 

@@ -291,8 +291,9 @@ fn finish<W: Sink>(
 /// the number of lines.
 ///
 /// A carriage return directly before a line feed is no part of the line. An empty line, and one that
-/// begins with `#`, is answered by nothing; `session` by the session so far; any other that is no command, or
-/// has more than `LONGEST` bytes, by `? line N`. All memory but that of the calls is taken before the first read.
+/// begins with `#`, is answered by nothing; `session` by the session so far, and `order` by the machines above
+/// their targets; any other that is no command, or has more than `LONGEST` bytes, by `? line N`. All memory but
+/// that of the calls and of the order is taken before the first read.
 pub fn serve<L: Tells, R: Source, W: Sink>(
     alloc: Global,
     console: &mut Console<L>,

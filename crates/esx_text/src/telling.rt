@@ -1,7 +1,7 @@
 //! The session of a console.
 
 ghost use Rattle.std.specs.Prelude.{◌≡◌, IfOk, string_bytes};
-ghost use Rattle.esx_text.specs.Answers.{told_text};
+ghost use Rattle.esx_text.specs.Own.{told_text};
 
 use esx_console::Console;
 use std::alloc::{AllocError, Global};

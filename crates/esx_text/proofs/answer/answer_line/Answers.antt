@@ -3,7 +3,7 @@ use Rattle.esx_text.specs.Lines.{IsSilent, input_bytes}
 use Rattle.esx_text.specs.Answers.IsAnswered.{silent}
 use Rattle.esx_writing.proofs.WritingLemmas.{appends_nothing}
 use Rattle.esx_text.proofs.AnswerLemmas.{silent_as_kept, long_line, long_unasked, kept_whole}
-use Rattle.esx_text.proofs.SessionLemmas.{long_is_no_session}
+use Rattle.esx_text.proofs.OwnLemmas.{long_is_no_own}
 use Rattle.esx_text.proofs.answer.answer_line.Goals as goal
 
 pub returns-then-is_silent-clause-served : goal.returns-then-is_silent-clause-served
@@ -19,21 +19,21 @@ returns-then-asked-clause-served g c = λ line keeps.
     let kept = input_bytes c.args.asked.now.kept in
     c.answer_unknown.ensures.served c.args.caller c.args.console.now line
     (λ s. let t = c.is_silent.ensures.1 (subst IsSilent (sym c.bytes-kept.ensures) ((silent_as_kept kept c.args.asked.now.long line keeps).0 s)) in cc)
-    (λ e. long_is_no_session line (long_line kept c.args.asked.now.long line c.if-asked.true keeps) e)
+    (λ word e. long_is_no_own line (long_line kept c.args.asked.now.long line c.if-asked.true keeps) word e)
     (λ call is. long_unasked kept c.args.asked.now.long line call c.if-asked.true keeps is)
-
-pub returns-then-asks_for_session-clause-served : goal.returns-then-asks_for_session-clause-served
-returns-then-asks_for_session-clause-served g c = λ line keeps.
-    let e = kept_whole (input_bytes c.args.asked.now.kept) c.args.asked.now.long line c.if-asked.false keeps ∙ sym c.bytes-kept.ensures in
-    c.answer_session.ensures.served c.args.asked.now.number c.args.caller line (e ∙ c.asks_for_session.ensures.0 c.if-asks_for_session.true)
-
-pub returns-in_default-clause-served : goal.returns-in_default-clause-served
-returns-in_default-clause-served g c = λ line keeps.
-    let e = kept_whole (input_bytes c.args.asked.now.kept) c.args.asked.now.long line c.if-asked.false keeps in
-    (refl, rw e c.in_default.ensures.memory, appends_nothing _)
 
 pub returns-in-Some-clause-served : goal.returns-in-Some-clause-served
 returns-in-Some-clause-served g c = λ line keeps.
+    let e = kept_whole (input_bytes c.args.asked.now.kept) c.args.asked.now.long line c.if-asked.false keeps ∙ sym c.bytes-kept.ensures in
+    c.answer_own.ensures.served c.args.asked.now.number c.args.caller line (e ∙ (rw c.in-Some.is at c.own_word.ensures))
+
+pub returns-in_default-call_of_line-clause-served : goal.returns-in_default-call_of_line-clause-served
+returns-in_default-call_of_line-clause-served g c = λ line keeps.
+    let e = kept_whole (input_bytes c.args.asked.now.kept) c.args.asked.now.long line c.if-asked.false keeps in
+    (refl, rw e c.in_default-call_of_line.ensures.memory, appends_nothing _)
+
+pub returns-in-Some-found-clause-served : goal.returns-in-Some-found-clause-served
+returns-in-Some-found-clause-served g c = λ line keeps.
     let e = kept_whole (input_bytes c.args.asked.now.kept) c.args.asked.now.long line c.if-asked.false keeps ∙ sym c.bytes-kept.ensures in
     rw e (c.answer_call.ensures.served c.args.asked.now.number)
 
@@ -43,5 +43,5 @@ returns-in-None-clause-served g c = λ line keeps.
     let e = kept_whole kept c.args.asked.now.long line c.if-asked.false keeps in
     c.answer_unknown-in-None.ensures.served c.args.caller c.args.console.now line
     (λ s. let t = c.is_silent.ensures.1 (subst IsSilent (sym c.bytes-kept.ensures) ((silent_as_kept kept c.args.asked.now.long line keeps).0 s)) in cc)
-    (λ s. let t = c.asks_for_session.ensures.1 (c.bytes-kept.ensures ∙ sym e ∙ s) in cc)
+    (λ word s. (rw c.in_default.is at c.own_word.ensures) word (c.bytes-kept.ensures ∙ sym e ∙ s))
     (λ call is. (rw c.in-None.is at c.in-Ok.ensures.found) call (rw e at is))
