@@ -3,12 +3,14 @@
 ghost use Rattle.std.specs.Prelude.{◌≡◌, ◌≢◌, ◌+◌, ◌<◌, ◌≤◌, ◌^◌, ℕ, IfOk, IfErr, OnOk, OnErr};
 ghost use Rattle.esx_types.specs.Ranges.{IsConfig};
 ghost use Rattle.esx_model.specs.Console.{Session, history, next_reply, lined};
+ghost use Rattle.esx_journal.specs.Journal.{stand_at};
+ghost use Rattle.esx_journal.specs.Marks.{node_named};
 ghost use Rattle.esx_console.specs.Calls.{opened_session};
 ghost use Rattle.esx_console.specs.Hearing.{MayLackMemory, ComesToMemory};
 ghost use Rattle.esx_console.specs.Unlogged.{AnswersAs};
 
 use crate::hearing::{counted, hear};
-use esx_events::{Call, Refusal, Reply};
+use esx_events::{Call, Refusal, Reply, Stand};
 use esx_journal::Journal;
 use esx_types::Config;
 use std::alloc::{AllocError, Global};
@@ -70,5 +72,19 @@ impl Unlogged {
             jumps,
             said: heard.said,
         })
+    }
+
+    /// Where the cursor is.
+    pub fn stand(&self) -> Stand
+        ensures { (s : Session) → AnswersAs self.now s → result ≡ stand_at (history s) }
+    {
+        self.journal.stand()
+    }
+
+    /// The node that has a name, also one that was pruned since.
+    pub fn node_of(&self, name: &str) -> Option<u32>
+        ensures { (s : Session) → AnswersAs self.now s → result ≡ node_named name.now (history s).marks }
+    {
+        self.journal.marks().node_of(name)
     }
 }

@@ -97,3 +97,13 @@ spec_shown k t n shows =
     ap (λ (x : Tables). option_map (λ (w : VmRow). w.spec) (row_at x n)) shows.tables
     ∙ ap (option_map (λ (w : VmRow). w.spec)) (row_there k.config t.site n)
     ∙ same_spec (vm_at t.site n)
+
+same_target : (o : Option Vm) → option_map (λ (w : VmRow). w.target) (option_map vm_table o) ≡ option_map (λ (v : Vm). v.target) o
+same_target None = refl
+same_target (Some v) = refl
+
+pub target_shown : (k : Kept) (t : Scene) (n : ℕ) → Shows k t → option_map (λ (w : VmRow). w.target) (row_at k.tables n) ≡ option_map (λ (v : Vm). v.target) (vm_at t.site n)
+target_shown k t n shows =
+    ap (λ (x : Tables). option_map (λ (w : VmRow). w.target) (row_at x n)) shows.tables
+    ∙ ap (option_map (λ (w : VmRow). w.target)) (row_there k.config t.site n)
+    ∙ same_target (vm_at t.site n)

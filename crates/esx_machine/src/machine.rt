@@ -2,7 +2,7 @@
 
 use crate::advice::advise;
 use crate::planning::plan;
-use crate::reading::{activity, page_state, spec_of};
+use crate::reading::{activity, page_state, spec_of, target_of};
 use crate::record::Record;
 use crate::rows::target_rows;
 use crate::table::table_of;
@@ -198,6 +198,13 @@ impl Machine {
         ensures { (scene : Scene) → Shows self.now scene → result ≡ option_map (λ v. v.spec) (vm_at scene.site vm) }
     {
         spec_of(&self.tables, vm)
+    }
+
+    /// How many pages a virtual machine is to have, if there is such a machine.
+    pub fn target(&self, vm: VmId) -> Option<u32>
+        ensures { (scene : Scene) → Shows self.now scene → result ≡ option_map (λ v. v.target) (vm_at scene.site vm) }
+    {
+        target_of(&self.tables, vm)
     }
 
     /// What each virtual machine has for the taxed ratio, in order of number, with its target for a floor. It looks at

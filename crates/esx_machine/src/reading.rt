@@ -61,6 +61,16 @@ pub fn spec_of(tables: &SiteTables, vm: VmId) -> Option<VmSpec>
     }
 }
 
+/// A machine's target.
+pub fn target_of(tables: &SiteTables, vm: VmId) -> Option<u32>
+    ensures { result ≡ option_map (λ v. v.target) (row_at tables.now vm) }
+{
+    match tables.vm(vm) {
+        None => None,
+        Some(row) => Some(row.facts().target),
+    }
+}
+
 fn is_hinted(listing: Listing) -> bool
     ensures { result ≡ is_hinted listing }
 {
