@@ -1,5 +1,5 @@
 -- Who pays for the next page: shares per page, where an idle page costs more (Waldspurger, "Reclaiming Idle Memory").
-use Rattle.std.specs.Prelude.{◌≡◌, ℕ, ◌-◌, ◌*◌, ◌≤◌, ◌<◌, List, length, slice_index_or, Option, Some, None}
+use Rattle.std.specs.Prelude.{◌≡◌, ℕ, ◌-◌, ◌*◌, ◌/◌, ◌≤◌, ◌<◌, List, length, slice_index_or, Option, Some, None}
 use Rattle.esx_types.specs.declared.config.TheConstants.{MAX_PAGES, MAX_SHARES, MAX_TAU, VM_NUMBERS}
 use Rattle.esx_formulas.specs.declared.targets.Row.{Row}
 use Rattle.esx_formulas.specs.declared.activity.TheConstants.{WHOLE}
@@ -20,6 +20,10 @@ pub record Claim : Type 0 where
 -- An idle page costs 1 / (1 - tau) of an active one, so what is left of the tax stands over the fraction.
 abbrev pub claim : Row → ℕ → Claim
 claim row pages = record { vm = row.vm; over = row.shares * (100 - row.tau); under = pages * (WHOLE_PRICE - row.tau * row.active) }
+
+-- in thousandths of a share for a page: a claim counts shares in hundredths, and pages in units of 1/`WHOLE_PRICE`
+abbrev pub thousandths : Claim → ℕ
+thousandths c = 1000 * (WHOLE * c.over) / c.under
 
 -- The less fraction comes first, and of equal ones the lower machine.
 pub record ComesNoLater (a b : Claim) : Type 0 where

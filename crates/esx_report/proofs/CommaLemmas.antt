@@ -10,7 +10,8 @@ use Rattle.esx_story.specs.declared.change.How.{How}
 use Rattle.esx_story.specs.declared.change.How.TheVariants as hows
 use Rattle.esx_report.specs.declared.field.Field.{Field}
 use Rattle.esx_report.specs.declared.field.Field.TheVariants as fields
-use Rattle.esx_report.specs.Fields.{field_text, how_text, level_text, thousandths_text, percent_text}
+use Rattle.esx_writing.specs.Writing.{thousandths_text}
+use Rattle.esx_report.specs.Fields.{field_text, how_text, level_text, percent_text}
 use Rattle.esx_report.specs.Rows.{csv_row}
 use Rattle.esx_report.specs.Losses.{commas, field_count}
 
@@ -86,7 +87,7 @@ field_plain : (f : Field) → commas (field_text [] f) ≡ 0
 field_plain fields.Empty = refl
 field_plain (fields.Number n) = number_plain n
 field_plain (fields.Fraction over under) = plain_if (under == 0) (thousandths_text (1000 * over / under)) (thousandths_plain (1000 * over / under))
-field_plain (fields.Part part whole) = plain_if (whole == 0) (percent_text (1000 * part / whole)) (percent_plain (1000 * part / whole))
+field_plain (fields.Percent part whole) = plain_if (whole == 0) (percent_text (1000 * part / whole)) (percent_plain (1000 * part / whole))
 field_plain (fields.Place place all) = place_plain place all
 field_plain (fields.How how) = how_plain how
 field_plain (fields.Level level) = level_plain level

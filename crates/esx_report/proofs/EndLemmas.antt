@@ -7,8 +7,8 @@ use Rattle.esx_report.specs.declared.field.Field.{Field}
 use Rattle.esx_report.specs.declared.field.Field.TheVariants as fields
 use Rattle.esx_report.specs.declared.losses.LossLine.{LossLine}
 use Rattle.esx_report.specs.declared.guests.Guest.{Guest}
-use Rattle.esx_report.specs.declared.entry.Cell.{Cell}
-use Rattle.esx_report.specs.declared.entry.Cell.TheVariants.{Right}
+use Rattle.esx_report.specs.declared.column.Cell.{Cell}
+use Rattle.esx_report.specs.declared.column.Cell.TheVariants.{Right}
 use Rattle.esx_report.specs.Fields.{cell_text, field_text}
 use Rattle.esx_report.specs.Rows.{table_row}
 use Rattle.esx_report.specs.Ends.{last_of, IsTrimmed}

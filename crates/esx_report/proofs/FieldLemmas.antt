@@ -2,7 +2,8 @@
 use Rattle.std.proofs.Common.{◌≡◌, ◌+◌, ◌*◌, ◌/◌, ◌%◌, ◌<◌, ◌≤◌, ◌^◌, ◌++◌, ℕ, List, length, arith, decimal, codes, ap, length-append}
 use Rattle.std.proofs.lemmas.Nat.{le-div, div_below, div-add-mod', mod_below}
 use Rattle.std.proofs.lemmas.Fmt.{decimal_digit, length-decimal-le}
-use Rattle.esx_report.specs.Fields.{thousandths_text, percent_text}
+use Rattle.esx_writing.specs.Writing.{thousandths_text}
+use Rattle.esx_report.specs.Fields.{percent_text}
 
 -- the whole part of a fraction is that of its thousandths
 pub whole_of_thousandths : (over under : ℕ) → 0 < under → over / under ≡ 1000 * over / under / 1000

@@ -4,8 +4,9 @@ use Rattle.std.proofs.Math.Nat.{mul-le-mul_left, zero-mul}
 use Rattle.esx_formulas.specs.declared.targets.Row.{Row}
 use Rattle.esx_formulas.specs.declared.activity.TheConstants.{WHOLE}
 use Rattle.esx_formulas.specs.declared.ratio.TheConstants.{WHOLE_PRICE}
-use Rattle.esx_formulas.specs.Ratio.{claim, IsRow}
-use Rattle.esx_report.specs.Fields.{field_text, thousandths_text}
+use Rattle.esx_formulas.specs.Ratio.{claim, thousandths, IsRow}
+use Rattle.esx_writing.specs.Writing.{thousandths_text}
+use Rattle.esx_report.specs.Fields.{field_text}
 use Rattle.esx_report.specs.Losses.{ratio}
 use Rattle.esx_report.proofs.CommaLemmas.{not_match}
 
@@ -20,9 +21,9 @@ some_under row good some is =
     omega (arith, one, some)
 
 pub ratio_of_pages : (row : Row) (none : List ℕ) → IsRow row → 0 < row.pages
-    → field_text none (ratio row) ≡ thousandths_text (1000 * (WHOLE * (claim row row.pages).over) / (claim row row.pages).under)
+    → field_text none (ratio row) ≡ thousandths_text (thousandths (claim row row.pages))
 ratio_of_pages row none good some =
-    ap (λ v. if v then none else thousandths_text (1000 * (WHOLE * (claim row row.pages).over) / (claim row row.pages).under))
+    ap (λ v. if v then none else thousandths_text (thousandths (claim row row.pages)))
     (not_match (claim row row.pages).under 0 (some_under row good some))
 
 pub ratio_of_nothing : (row : Row) (none : List ℕ) → row.pages ≡ 0 → field_text none (ratio row) ≡ none

@@ -1,8 +1,7 @@
 -- Sentences that are told one way or another.
-use Rattle.std.proofs.Common.{◌≡◌, ◌++◌, ℕ, List, [], true, false, Option, Result, codes, decimal, ap, sym, ◌∙◌, ◌==◌, if◌then◌else◌}
+use Rattle.std.proofs.Common.{◌≡◌, ◌++◌, ℕ, List, [], Option, Result, codes, decimal, ap, sym, ◌∙◌, ◌==◌, if◌then◌else◌}
 use Rattle.esx_writing.specs.Writing.{Puts}
-use Rattle.esx_report.specs.declared.why.Why.{Why}
-use Rattle.esx_report.specs.Why.{waits_text, place_text, unranked_text, is_replace}
+use Rattle.esx_report.specs.Why.{waits_text, place_text}
 use Rattle.esx_report.proofs.CommaLemmas.{not_match}
 
 pub puts_same : {T E : Type 0} (a b : Option (List ℕ)) (h k x y : List ℕ) (r : Result T E) → y ≡ x → Puts a h b k x r → Puts a h b k y r
@@ -16,8 +15,3 @@ many_waits n some more =
 pub later_place : (rank above : ℕ) → (rank ≡ 1 → ⊥) → place_text rank above ≡ codes ": number " ++ (decimal rank ++ (codes " of " ++ (decimal above ++ codes " above target")))
 later_place rank above other =
     ap (λ v. if v then codes ": the least of " ++ (decimal above ++ codes " above target") else codes ": number " ++ (decimal rank ++ (codes " of " ++ (decimal above ++ codes " above target")))) (not_match rank 1 other)
-
-pub replacing : (w : Why) → is_replace w.line.now.loss.change.how ≡ true → unranked_text w ≡ codes ": no frame is free and no guest has more than its minimum, so it gives one of its own.\n"
-replacing w is =
-    ap (λ v. if v then codes ": no frame is free and no guest has more than its minimum, so it gives one of its own.\n"
-    else codes "; the balloon is to hold " ++ (decimal w.goal ++ (codes " pages and held " ++ (decimal w.lent ++ codes ".\n")))) is

@@ -4,11 +4,11 @@ use Rattle.esx_types.specs.declared.level.Level.{Level}
 use Rattle.esx_types.specs.declared.level.Level.TheVariants.{High, Soft, Hard, Low}
 use Rattle.esx_story.specs.declared.change.How.{How}
 use Rattle.esx_story.specs.declared.change.How.TheVariants as hows
-use Rattle.esx_writing.specs.Writing.{right_in, left_in}
+use Rattle.esx_writing.specs.Writing.{right_in, left_in, thousandths_text}
 use Rattle.esx_report.specs.declared.field.Field.{Field}
 use Rattle.esx_report.specs.declared.field.Field.TheVariants as fields
-use Rattle.esx_report.specs.declared.entry.Cell.{Cell}
-use Rattle.esx_report.specs.declared.entry.Cell.TheVariants.{Right, Left}
+use Rattle.esx_report.specs.declared.column.Cell.{Cell}
+use Rattle.esx_report.specs.declared.column.Cell.TheVariants.{Right, Left}
 use Rattle.esx_report.specs.declared.part.Part.{Part}
 use Rattle.esx_report.specs.declared.part.Part.TheVariants as parts
 
@@ -35,10 +35,6 @@ how_text hows.LentAway = codes "lend"
 how_text hows.TakenBack = codes "takeback"
 how_text hows.DroppedOut = codes "dropout"
 
--- so many thousandths
-abbrev pub thousandths_text : ℕ → List ℕ
-thousandths_text t = decimal (t / 1000) ++ (codes "." ++ (decimal (t / 100 % 10) ++ (decimal (t / 10 % 10) ++ decimal (t % 10))))
-
 -- so many tenths of a percent
 abbrev pub percent_text : ℕ → List ℕ
 percent_text t = decimal (t / 10) ++ (codes "." ++ (decimal (t % 10) ++ codes "%"))
@@ -48,7 +44,7 @@ abbrev pub field_text : List ℕ → Field → List ℕ
 field_text none fields.Empty = none
 field_text none (fields.Number n) = decimal n
 field_text none (fields.Fraction over under) = if under == 0 then none else thousandths_text (1000 * over / under)
-field_text none (fields.Part part whole) = if whole == 0 then none else percent_text (1000 * part / whole)
+field_text none (fields.Percent part whole) = if whole == 0 then none else percent_text (1000 * part / whole)
 field_text none (fields.Place place all) = decimal place ++ (codes "/" ++ decimal all)
 field_text none (fields.How how) = how_text how
 field_text none (fields.Level level) = level_text level
@@ -63,4 +59,4 @@ abbrev pub part_text : Part → List ℕ
 part_text (parts.Text text) = text.now
 part_text (parts.Bytes bytes) = bytes.now
 part_text (parts.Shown field) = field_text (codes "-") field
-part_text (parts.Column cell) = cell_text cell
+part_text (parts.Cell cell) = cell_text cell

@@ -2,8 +2,8 @@
 use Rattle.std.specs.Prelude.{ℕ, List, [], ◌∷◌, ◌+◌, codes}
 use Rattle.esx_report.specs.declared.field.Field.{Field}
 use Rattle.esx_report.specs.declared.field.Field.TheVariants as fields
-use Rattle.esx_report.specs.declared.entry.Cell.{Cell}
-use Rattle.esx_report.specs.declared.entry.Cell.TheVariants.{Right}
+use Rattle.esx_report.specs.declared.column.Cell.{Cell}
+use Rattle.esx_report.specs.declared.column.Cell.TheVariants.{Right}
 use Rattle.esx_report.specs.declared.guests.Guest.{Guest}
 use Rattle.esx_report.specs.Rows.{csv_row, table_row}
 use Rattle.esx_report.specs.Losses.{number_field}
@@ -34,7 +34,7 @@ guest_cells g =
     ∷ Right 7 (fields.Number (g.counts.balloon + g.counts.swapped_out + g.counts.replaced + g.counts.dropped))
     ∷ Right 7 (fields.Number g.counts.balloon) ∷ Right 7 (fields.Number g.counts.swapped_out) ∷ Right 7 (fields.Number g.counts.replaced) ∷ Right 7 (fields.Number g.counts.dropped)
     ∷ Right 7 (fields.Number g.back) ∷ Right 6 (fields.Number g.soon) ∷ Right 6 (fields.Number g.waits) ∷ Right 7 (fields.Number g.share) ∷ Right 6 (fields.Number g.cow)
-    ∷ Right 6 (fields.Number g.held) ∷ Right 6 (fields.Number g.short) ∷ Right 6 (fields.Part g.above g.events)
+    ∷ Right 6 (fields.Number g.held) ∷ Right 6 (fields.Number g.short) ∷ Right 6 (fields.Percent g.above g.events)
     ∷ Right 6 (fields.Number g.most) ∷ Right 6 (fields.Number g.here) ∷ Right 6 (number_field g.target) ∷ []
 
 abbrev pub guest_line : Guest → List ℕ

@@ -4,8 +4,8 @@ use Rattle.esx_formulas.specs.declared.targets.Row.{Row}
 use Rattle.esx_formulas.specs.declared.activity.TheConstants.{WHOLE}
 use Rattle.esx_report.specs.declared.field.Field.{Field}
 use Rattle.esx_report.specs.declared.field.Field.TheVariants as fields
-use Rattle.esx_report.specs.declared.entry.Cell.{Cell}
-use Rattle.esx_report.specs.declared.entry.Cell.TheVariants.{Right, Left}
+use Rattle.esx_report.specs.declared.column.Cell.{Cell}
+use Rattle.esx_report.specs.declared.column.Cell.TheVariants.{Right, Left}
 use Rattle.esx_report.specs.declared.losses.LossLine.{LossLine}
 use Rattle.esx_report.specs.Rows.{table_row}
 use Rattle.esx_report.specs.Losses.{number_field, how_field, row_fields, set_number, later}

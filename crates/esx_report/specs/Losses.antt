@@ -60,11 +60,11 @@ loss_fields line =
     ∷ fields.Number line.loss.change.vm ∷ fields.Number line.loss.life ∷ fields.Number line.loss.change.page ∷ fields.How line.loss.change.how
     ∷ fields.Level line.loss.seen.level ∷ fields.Number line.loss.seen.free
     ∷ (row_fields line.loss.seen.order.own).pages ∷ (row_fields line.loss.seen.order.own).target ∷ fields.Number (set_number line.loss.set)
-    ∷ (asked_fields line.asked).need ∷ (asked_fields line.asked).revoked ∷ (asked_fields line.asked).given
+    ∷ (asked_fields line.loss.asked).need ∷ (asked_fields line.loss.asked).revoked ∷ (asked_fields line.loss.asked).given
     ∷ (row_fields line.loss.seen.order.own).shares ∷ (row_fields line.loss.seen.order.own).active ∷ (row_fields line.loss.seen.order.own).tax ∷ (row_fields line.loss.seen.order.own).ratio
     ∷ fields.Number line.loss.seen.order.above ∷ number_field line.loss.seen.order.rank
     ∷ (row_fields line.loss.seen.order.next).vm ∷ (row_fields line.loss.seen.order.next).ratio
-    ∷ number_field line.slot ∷ number_field line.loss.back ∷ how_field line.loss.came ∷ number_field (later line) ∷ fields.Number line.loss.waits ∷ []
+    ∷ number_field line.loss.slot ∷ number_field line.loss.back ∷ how_field line.loss.came ∷ number_field (later line) ∷ fields.Number line.loss.waits ∷ []
 
 abbrev pub loss_row : LossLine → List ℕ
 loss_row line = csv_row (loss_fields line)

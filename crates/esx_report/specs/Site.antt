@@ -26,10 +26,10 @@ abbrev pub path_line : PathSums → List ℕ
 path_line p = codes "path events " ++ (decimal p.events ++ (codes " of " ++ (decimal p.made ++ (codes " made, to node " ++ (decimal p.node ++ (codes "; calls " ++ (decimal p.calls ++ (codes ", refused on the path " ++ (decimal p.refused ++ (codes ", elsewhere " ++ (decimal p.elsewhere ++ (codes "\n"))))))))))))
 
 abbrev pub first_level_line : LevelSums → ℕ → List ℕ
-first_level_line s events = codes "  " ++ (left_in 5 (level_text s.level) ++ (codes " " ++ (right_in 12 (decimal s.events) ++ (codes " " ++ (right_in 6 (field_text (codes "-") (fields.Part s.events events)) ++ (codes "\n"))))))
+first_level_line s events = codes "  " ++ (left_in 5 (level_text s.level) ++ (codes " " ++ (right_in 12 (decimal s.events) ++ (codes " " ++ (right_in 6 (field_text (codes "-") (fields.Percent s.events events)) ++ (codes "\n"))))))
 
 abbrev pub level_line : LevelSums → ℕ → List ℕ
-level_line s events = codes "  " ++ (left_in 5 (level_text s.level) ++ (codes " " ++ (right_in 12 (decimal s.events) ++ (codes " " ++ (right_in 6 (field_text (codes "-") (fields.Part s.events events)) ++ (codes " " ++ (right_in 8 (decimal s.entered) ++ (codes "\n"))))))))
+level_line s events = codes "  " ++ (left_in 5 (level_text s.level) ++ (codes " " ++ (right_in 12 (decimal s.events) ++ (codes " " ++ (right_in 6 (field_text (codes "-") (fields.Percent s.events events)) ++ (codes " " ++ (right_in 8 (decimal s.entered) ++ (codes "\n"))))))))
 
 abbrev pub free_line : SiteSums → List ℕ
 free_line s = codes "  free least " ++ (decimal s.least_free.number ++ (codes " at " ++ (decimal s.least_free.event ++ (codes ", now " ++ (decimal s.free ++ (codes "\n"))))))

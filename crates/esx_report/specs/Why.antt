@@ -4,6 +4,7 @@ use Rattle.esx_formulas.specs.declared.targets.Row.{Row}
 use Rattle.esx_story.specs.declared.change.Asked.{Asked}
 use Rattle.esx_story.specs.declared.change.How.{How}
 use Rattle.esx_story.specs.declared.change.How.TheVariants as hows
+use Rattle.esx_story.specs.declared.change.Loan.{Loan}
 use Rattle.esx_story.specs.declared.story.Loss.{Loss}
 use Rattle.esx_story.specs.declared.story.Order.{Order}
 use Rattle.esx_report.specs.declared.field.Field.TheVariants as fields
@@ -37,10 +38,6 @@ abbrev pub is_drop : How → Bool
 is_drop hows.Dropped = true
 is_drop _ = false
 
-abbrev pub is_replace : How → Bool
-is_replace hows.Replaced = true
-is_replace _ = false
-
 -- the event, its call and the loss
 abbrev pub happened_head : List ℕ → LossLine → List ℕ
 happened_head command l = codes "Event " ++ (decimal l.loss.at ++ (codes " (caller " ++ (decimal l.by ++ (codes ": " ++ (take 40 command ++ (codes "): guest " ++ (decimal l.loss.change.vm ++ (codes " lost page " ++ (decimal l.loss.change.page ++ (codes ": "))))))))))
@@ -51,7 +48,7 @@ outcome_text how None = mechanism_text how ++ codes ".\n"
 outcome_text how (Some slot) = mechanism_text how ++ (codes ", to slot " ++ (decimal slot ++ codes ".\n"))
 
 abbrev pub happened : Why → List ℕ
-happened w = happened_head w.command.now w.line.now ++ outcome_text w.line.now.loss.change.how w.line.now.slot
+happened w = happened_head w.command.now w.line.now ++ outcome_text w.line.now.loss.change.how w.line.now.loss.slot
 
 abbrev pub memory_text : Why → List ℕ
 memory_text w = codes "  Memory: level " ++ (field_text (codes "-") (fields.Level w.line.now.loss.seen.level) ++ (codes ", " ++ (decimal w.line.now.loss.seen.free ++ (codes " of " ++ (decimal w.frames ++ (codes " frames free (level high returns at " ++ (decimal w.returns_at ++ (codes ").\n"))))))))
@@ -66,7 +63,7 @@ since_text (Some event) None = codes "since event " ++ (decimal event ++ (codes 
 since_text (Some event) (Some asked) = codes "since event " ++ (decimal event ++ (codes ", where " ++ (decimal asked.need ++ (wanted_text asked.need ++ (decimal asked.given ++ (codes " of the " ++ (decimal asked.revoked ++ (codes " revoked came from it.\n"))))))))
 
 abbrev pub target_line : LossLine → List ℕ
-target_line l = target_head l.loss.seen.order.own ++ since_text l.loss.set l.asked
+target_line l = target_head l.loss.seen.order.own ++ since_text l.loss.set l.loss.asked
 
 abbrev pub rate_head : Option Row → Bool → List ℕ
 rate_head own own_tax = codes "  Its ratio was " ++ (field_text (codes "-") (row_fields own).ratio ++ (codes " shares a page (" ++ (field_text (codes "-") (row_fields own).shares ++ (codes " shares, " ++ (field_text (codes "-") (active_percent own) ++ (tax_text own_tax ++ (field_text (codes "-") (row_fields own).tax ++ (codes "%)"))))))))
@@ -90,19 +87,21 @@ other_text rank next = if rank == 1 then next_text next else first_text next
 abbrev pub rank_text : ℕ → Order → List ℕ
 rank_text rank order = place_text rank order.above ++ other_text rank order.next
 
-abbrev pub unranked_text : Why → List ℕ
-unranked_text w = if is_replace w.line.now.loss.change.how then codes ": no frame is free and no guest has more than its minimum, so it gives one of its own.\n" else codes "; the balloon is to hold " ++ (decimal w.goal ++ (codes " pages and held " ++ (decimal w.lent ++ (codes ".\n"))))
+-- why a machine gives a page that is not above its target: to another of its pages, or to its balloon
+abbrev pub unranked_text : Option Loan → List ℕ
+unranked_text None = codes ": no frame is free and no guest has more than its minimum, so it gives one of its own.\n"
+unranked_text (Some loan) = codes "; the balloon is to hold " ++ (decimal loan.goal ++ (codes " pages and held " ++ (decimal loan.held ++ (codes ".\n"))))
 
-abbrev pub order_from : Option ℕ → Why → List ℕ
-order_from None w = unranked_text w
-order_from (Some rank) w = rank_text rank w.line.now.loss.seen.order
+abbrev pub order_from : Option ℕ → Loss → List ℕ
+order_from None l = unranked_text l.loan
+order_from (Some rank) l = rank_text rank l.seen.order
 
 -- what the order has to do with it
-abbrev pub order_text : Why → List ℕ
-order_text w = order_from w.line.now.loss.seen.order.rank w
+abbrev pub order_text : Loss → List ℕ
+order_text l = order_from l.seen.order.rank l
 
-abbrev pub rate_line : Why → List ℕ
-rate_line w = rate_head w.line.now.loss.seen.order.own w.own_tax ++ order_text w
+abbrev pub rate_line : LossLine → List ℕ
+rate_line l = rate_head l.loss.seen.order.own l.loss.seen.own ++ order_text l.loss
 
 abbrev pub back_from : Option ℕ → ℕ → List ℕ
 back_from None at = codes "  It did not come back on this path"
@@ -125,7 +124,7 @@ abbrev pub back_line : Loss → List ℕ
 back_line l = back_head l ++ back_tail l
 
 abbrev pub guest_lines : Why → List ℕ
-guest_lines w = target_line w.line.now ++ rate_line w
+guest_lines w = target_line w.line.now ++ rate_line w.line.now
 
 abbrev pub grounds : Why → List ℕ
 grounds w = memory_text w ++ guest_lines w

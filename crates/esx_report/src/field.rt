@@ -1,15 +1,15 @@
 //! What stands in a field of a table.
 
 ghost use Rattle.std.specs.Prelude.{◌≡◌, ◌+◌, ◌<◌, ◌≤◌, ◌*◌, ◌/◌, length, decimal};
-ghost use Rattle.esx_writing.specs.Writing.{Puts, sink_faults};
-ghost use Rattle.esx_report.specs.Fields.{level_text, how_text, thousandths_text, percent_text, field_text};
+ghost use Rattle.esx_writing.specs.Writing.{Puts, sink_faults, thousandths_text};
+ghost use Rattle.esx_report.specs.Fields.{level_text, how_text, percent_text, field_text};
 
 use esx_story::How;
 use esx_types::{Level, Sink, SinkFailed};
 use esx_writing::{AnswerBuffer, line, put_line};
 use itoa::Buffer;
 
-/// A number, a part or a word.
+/// A number, a part of a whole or a word.
 #[derive(Clone, Copy)]
 pub enum Field {
     Empty,
@@ -17,7 +17,7 @@ pub enum Field {
     /// `W.DDD`, cut off. Nothing where `under` is 0.
     Fraction { over: u64, under: u64 },
     /// `W.D%`, cut off. Nothing where `whole` is 0.
-    Part { part: u32, whole: u32 },
+    Percent { part: u32, whole: u32 },
     /// `K/N`.
     Place { place: u32, all: u32 },
     How(How),
@@ -94,7 +94,7 @@ fn put_fraction<W: Sink>(
 }
 
 /// Puts a part in tenths of a percent.
-fn put_part<W: Sink>(
+fn put_percent<W: Sink>(
     sink: &mut W,
     held: &mut AnswerBuffer,
     part: u32,
@@ -130,11 +130,11 @@ pub fn put_field<W: Sink>(
                 put_fraction(sink, held, over, under)
             }
         }
-        Field::Part { part, whole } => {
+        Field::Percent { part, whole } => {
             if whole == 0 {
                 put_line(sink, held, &none)
             } else {
-                put_part(sink, held, part, whole)
+                put_percent(sink, held, part, whole)
             }
         }
         Field::Place { place, all } => put_line(
@@ -172,7 +172,7 @@ pub fn field_length(none: usize, field: Field) -> usize
                 digits(whole_part(over, under)) + 4
             }
         }
-        Field::Part { part, whole } => {
+        Field::Percent { part, whole } => {
             if whole == 0 {
                 none
             } else {

@@ -1,6 +1,9 @@
 //! The sentences on memory, on the guest and on its ratio.
 
 ghost use Rattle.std.specs.Prelude.{◌≡◌, ◌+◌};
+ghost use Rattle.std.specs.Option.{ForSome};
+ghost use Rattle.esx_formulas.specs.Ratio.{IsRow};
+ghost use Rattle.esx_story.specs.Order.{HasGoodRows};
 ghost use Rattle.esx_writing.specs.Writing.{Puts, sink_faults};
 ghost use Rattle.esx_report.specs.Why.{memory_text, target_head, since_text, target_line, rate_head, rate_line, guest_lines, grounds, reason};
 
@@ -46,6 +49,7 @@ fn put_target_head<W: Sink>(
     held: &mut AnswerBuffer,
     own: &Option<Row>,
 ) -> Result<(), SinkFailed>
+    requires { ForSome own.now IsRow }
     ensures bytes { Puts (W.contents sink.old) held.old (W.contents sink.new) held.new (target_head own.now) result }
     ensures failures { W.failures sink.new ≡ W.failures sink.old + sink_faults result }
     ensures flushes { W.flushes sink.new ≡ W.flushes sink.old }
@@ -140,12 +144,13 @@ fn put_target<W: Sink>(
     held: &mut AnswerBuffer,
     line: &LossLine,
 ) -> Result<(), SinkFailed>
+    requires { HasGoodRows line.now.loss.seen.order }
     ensures bytes { Puts (W.contents sink.old) held.old (W.contents sink.new) held.new (target_line line.now) result }
     ensures failures { W.failures sink.new ≡ W.failures sink.old + sink_faults result }
     ensures flushes { W.flushes sink.new ≡ W.flushes sink.old }
 {
     put_target_head(sink, held, &line.loss.seen.order.own)?;
-    put_since(sink, held, line.loss.set, &line.asked)
+    put_since(sink, held, line.loss.set, &line.loss.asked)
 }
 
 /// The guest's ratio.
@@ -155,6 +160,7 @@ fn put_rate_head<W: Sink>(
     own: &Option<Row>,
     own_tax: bool,
 ) -> Result<(), SinkFailed>
+    requires { ForSome own.now IsRow }
     ensures bytes { Puts (W.contents sink.old) held.old (W.contents sink.new) held.new (rate_head own.now own_tax) result }
     ensures failures { W.failures sink.new ≡ W.failures sink.old + sink_faults result }
     ensures flushes { W.flushes sink.new ≡ W.flushes sink.old }
@@ -178,27 +184,35 @@ fn put_rate_head<W: Sink>(
 }
 
 /// The sentence on the ratio.
-fn put_rate<W: Sink>(sink: &mut W, held: &mut AnswerBuffer, why: &Why) -> Result<(), SinkFailed>
-    ensures bytes { Puts (W.contents sink.old) held.old (W.contents sink.new) held.new (rate_line why.now) result }
+fn put_rate<W: Sink>(
+    sink: &mut W,
+    held: &mut AnswerBuffer,
+    line: &LossLine,
+) -> Result<(), SinkFailed>
+    requires { HasGoodRows line.now.loss.seen.order }
+    ensures bytes { Puts (W.contents sink.old) held.old (W.contents sink.new) held.new (rate_line line.now) result }
     ensures failures { W.failures sink.new ≡ W.failures sink.old + sink_faults result }
     ensures flushes { W.flushes sink.new ≡ W.flushes sink.old }
 {
-    put_rate_head(sink, held, &why.line.loss.seen.order.own, why.own_tax)?;
-    put_order(sink, held, why)
+    let loss = &line.loss;
+    put_rate_head(sink, held, &loss.seen.order.own, loss.seen.own)?;
+    put_order(sink, held, loss)
 }
 
 /// The sentences on the guest and its ratio.
 fn put_guest<W: Sink>(sink: &mut W, held: &mut AnswerBuffer, why: &Why) -> Result<(), SinkFailed>
+    requires { HasGoodRows why.now.line.now.loss.seen.order }
     ensures bytes { Puts (W.contents sink.old) held.old (W.contents sink.new) held.new (guest_lines why.now) result }
     ensures failures { W.failures sink.new ≡ W.failures sink.old + sink_faults result }
     ensures flushes { W.flushes sink.new ≡ W.flushes sink.old }
 {
     put_target(sink, held, why.line)?;
-    put_rate(sink, held, why)
+    put_rate(sink, held, why.line)
 }
 
 /// The sentences on memory and the guest.
 fn put_grounds<W: Sink>(sink: &mut W, held: &mut AnswerBuffer, why: &Why) -> Result<(), SinkFailed>
+    requires { HasGoodRows why.now.line.now.loss.seen.order }
     ensures bytes { Puts (W.contents sink.old) held.old (W.contents sink.new) held.new (grounds why.now) result }
     ensures failures { W.failures sink.new ≡ W.failures sink.old + sink_faults result }
     ensures flushes { W.flushes sink.new ≡ W.flushes sink.old }
@@ -213,6 +227,7 @@ pub fn put_reason<W: Sink>(
     held: &mut AnswerBuffer,
     why: &Why,
 ) -> Result<(), SinkFailed>
+    requires { HasGoodRows why.now.line.now.loss.seen.order }
     ensures bytes { Puts (W.contents sink.old) held.old (W.contents sink.new) held.new (reason why.now) result }
     ensures failures { W.failures sink.new ≡ W.failures sink.old + sink_faults result }
     ensures flushes { W.flushes sink.new ≡ W.flushes sink.old }

@@ -4,7 +4,7 @@ ghost use Rattle.std.specs.Prelude.{◌≡◌, ◌+◌};
 ghost use Rattle.esx_writing.specs.Writing.{Puts, sink_faults};
 ghost use Rattle.esx_report.specs.Guests.{guest_head, guest_fields, guest_row, guest_heading, guest_cells, guest_line};
 
-use crate::entry::Cell;
+use crate::column::Cell;
 use crate::field::Field;
 use crate::losses::number_field;
 use crate::row::put_row;
@@ -20,6 +20,7 @@ use esx_writing::{AnswerBuffer, put_line};
 /// of its accesses were refused so in all. Of the `events` of its life it was `above` and `below` its target with so many;
 /// `sum_here` adds the pages that it had at each, and `most` is the greatest of them. `here` and `target` are
 /// those at the end, 0 and none where the life is over.
+#[derive(Clone, Copy)]
 pub struct Guest {
     pub vm: VmId,
     pub life: u32,
@@ -112,7 +113,7 @@ fn guest_cells(guest: &Guest) -> [Cell; 22]
         Cell::Right(6, Field::Number(guest.short as u64)),
         Cell::Right(
             6,
-            Field::Part {
+            Field::Percent {
                 part: guest.above,
                 whole: guest.events,
             },

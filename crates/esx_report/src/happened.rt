@@ -81,5 +81,5 @@ pub fn put_happened<W: Sink>(
     ensures flushes { W.flushes sink.new ≡ W.flushes sink.old }
 {
     put_happened_head(sink, held, why.command, why.line)?;
-    put_outcome(sink, held, why.line.loss.change.how, why.line.slot)
+    put_outcome(sink, held, why.line.loss.change.how, why.line.loss.slot)
 }

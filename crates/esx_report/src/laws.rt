@@ -1,15 +1,15 @@
 //! Laws of the texts of reports. The functions here do nothing: their contracts are the laws.
 
-ghost use Rattle.std.specs.Prelude.{◌≡◌, ◌*◌, ◌/◌, ◌<◌, ℕ, List};
+ghost use Rattle.std.specs.Prelude.{◌≡◌, ◌<◌, ℕ, List};
 ghost use Rattle.esx_formulas.specs.declared.targets.Row.{Row};
-ghost use Rattle.esx_formulas.specs.declared.activity.TheConstants.{WHOLE};
-ghost use Rattle.esx_formulas.specs.Ratio.{claim, IsRow};
+ghost use Rattle.esx_formulas.specs.Ratio.{claim, thousandths, IsRow};
 ghost use Rattle.esx_report.specs.declared.losses.LossLine.{LossLine};
 ghost use Rattle.esx_report.specs.declared.guests.Guest.{Guest};
 ghost use Rattle.esx_report.specs.Losses.{field_count, loss_head, loss_row, ratio};
 ghost use Rattle.esx_report.specs.LossTable.{loss_line};
 ghost use Rattle.esx_report.specs.Guests.{guest_head, guest_row, guest_line};
-ghost use Rattle.esx_report.specs.Fields.{field_text, thousandths_text};
+ghost use Rattle.esx_writing.specs.Writing.{thousandths_text};
+ghost use Rattle.esx_report.specs.Fields.{field_text};
 ghost use Rattle.esx_report.specs.Ends.{IsTrimmed};
 
 /// Each row of comma-separated values has as many fields as the head of its table.
@@ -26,6 +26,6 @@ pub fn rows_end_in_no_blank()
 
 /// The ratio of a row whose numbers are in their ranges is told just where it has a page.
 pub fn good_rows_have_ratios()
-    ensures some { (row : Row) (none : List ℕ) → IsRow row → 0 < row.pages → field_text none (ratio row) ≡ thousandths_text (1000 * (WHOLE * (claim row row.pages).over) / (claim row row.pages).under) }
+    ensures some { (row : Row) (none : List ℕ) → IsRow row → 0 < row.pages → field_text none (ratio row) ≡ thousandths_text (thousandths (claim row row.pages)) }
     ensures nothing { (row : Row) (none : List ℕ) → row.pages ≡ 0 → field_text none (ratio row) ≡ none }
 {}

@@ -3,7 +3,7 @@
 #![tactic(auto)]
 
 mod back;
-mod entry;
+mod column;
 mod field;
 mod grounds;
 mod guests;
@@ -19,7 +19,7 @@ mod values;
 mod why;
 mod words;
 
-pub use entry::{Cell, Entry};
+pub use column::{Cell, Column};
 pub use field::Field;
 pub use guests::{Guest, put_guest, put_guest_head, put_guest_heading, put_guest_line};
 pub use loss_table::{put_loss_heading, put_loss_line};

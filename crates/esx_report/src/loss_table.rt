@@ -1,10 +1,11 @@
 //! The table of losses in columns.
 
 ghost use Rattle.std.specs.Prelude.{◌≡◌, ◌+◌, ◌*◌, ◌/◌};
+ghost use Rattle.esx_story.specs.Order.{HasGoodRows};
 ghost use Rattle.esx_writing.specs.Writing.{Puts, sink_faults};
 ghost use Rattle.esx_report.specs.LossTable.{active_percent, rank_field, loss_heading, loss_cells, loss_line};
 
-use crate::entry::Cell;
+use crate::column::Cell;
 use crate::field::Field;
 use crate::losses::{LossLine, how_field, later, number_field, row_fields, set_number};
 use crate::row::put_row;
@@ -38,6 +39,7 @@ fn rank_field(order: &Order) -> Field
 }
 
 fn loss_cells(line: &LossLine) -> [Cell; 21]
+    requires { HasGoodRows line.now.loss.seen.order }
     ensures { result ≡ loss_cells line.now }
 {
     let loss = &line.loss;
@@ -82,11 +84,14 @@ pub fn put_loss_heading<W: Sink>(sink: &mut W, held: &mut AnswerBuffer) -> Resul
 }
 
 /// The row of a loss in columns.
+///
+/// condition: the numbers of the rows in its order are in their ranges, as those of a walk's losses are
 pub fn put_loss_line<W: Sink>(
     sink: &mut W,
     held: &mut AnswerBuffer,
     line: &LossLine,
 ) -> Result<(), SinkFailed>
+    requires { HasGoodRows line.now.loss.seen.order }
     ensures bytes { Puts (W.contents sink.old) held.old (W.contents sink.new) held.new (loss_line line.now) result }
     ensures failures { W.failures sink.new ≡ W.failures sink.old + sink_faults result }
     ensures flushes { W.flushes sink.new ≡ W.flushes sink.old }

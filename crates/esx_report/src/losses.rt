@@ -1,6 +1,9 @@
 //! The table of losses, as comma-separated values.
 
-ghost use Rattle.std.specs.Prelude.{◌≡◌, ◌+◌, ◌-◌, ◌*◌, ◌≤◌};
+ghost use Rattle.std.specs.Prelude.{◌≡◌, ◌+◌};
+ghost use Rattle.std.specs.Option.{ForSome};
+ghost use Rattle.esx_formulas.specs.Ratio.{IsRow};
+ghost use Rattle.esx_story.specs.Order.{HasGoodRows};
 ghost use Rattle.esx_writing.specs.Writing.{Puts, sink_faults};
 ghost use Rattle.esx_report.specs.Losses.{ratio, number_field, how_field, row_fields, asked_fields, set_number, later, loss_head, loss_fields, loss_row};
 
@@ -8,23 +11,20 @@ use crate::field::Field;
 use crate::row::put_row;
 use esx_formulas::Row;
 use esx_formulas::activity::WHOLE;
-use esx_formulas::ratio::WHOLE_PRICE;
+use esx_formulas::ratio::{price, weight};
 use esx_story::{Asked, How, Loss};
 use esx_types::{Sink, SinkFailed};
 use esx_writing::{AnswerBuffer, put_line};
 
 /// A loss, and what is known of its call.
 ///
-/// `node` is what its event made, `call` the number of the call and `by` its caller. `asked` is what the
-/// rebalance that set the target asked for, none where that was at level high or none did. `slot` is where the page went,
-/// if it was paged out.
+/// `node` is what its event made, `call` the number of the call and `by` its caller.
+#[derive(Clone, Copy)]
 pub struct LossLine {
     pub node: u32,
     pub call: u32,
     pub by: u16,
     pub loss: Loss,
-    pub asked: Option<Asked>,
-    pub slot: Option<u32>,
 }
 
 /// What a machine had.
@@ -47,28 +47,14 @@ pub struct AskedFields {
     pub given: Field,
 }
 
-fn product(one: u32, other: u32) -> u64
-    ensures { result ≡ one * other }
-{
-    u64::from(one) * u64::from(other)
-}
-
-/// What each page of a machine costs.
-fn price(row: &Row) -> u32
-    ensures value { result ≡ WHOLE_PRICE - row.now.tau * row.now.active }
-    ensures most { result ≤ WHOLE_PRICE }
-{
-    WHOLE_PRICE.saturating_sub(product(row.tau, row.active)) as u32
-}
-
 /// The taxed ratio of a machine, in shares a page. Nothing where it has no page.
 pub fn ratio(row: &Row) -> Field
+    requires { IsRow row.now }
     ensures { result ≡ ratio row.now }
 {
-    let left = 100u32.saturating_sub(row.tau);
     Field::Fraction {
-        over: u64::from(WHOLE) * (u64::from(row.shares) * u64::from(left)),
-        under: product(row.pages, price(row)),
+        over: u64::from(WHOLE) * u64::from(weight(row)),
+        under: u64::from(row.pages) * price(row),
     }
 }
 
@@ -91,6 +77,7 @@ pub fn how_field(how: Option<How>) -> Field
 }
 
 pub fn row_fields(row: &Option<Row>) -> RowFields
+    requires { ForSome row.now IsRow }
     ensures { result ≡ row_fields row.now }
 {
     match row {
@@ -152,12 +139,13 @@ pub fn later(line: &LossLine) -> Option<u32>
 }
 
 fn loss_fields(line: &LossLine) -> [Field; 29]
+    requires { HasGoodRows line.now.loss.seen.order }
     ensures { result ≡ loss_fields line.now }
 {
     let loss = &line.loss;
     let own = row_fields(&loss.seen.order.own);
     let next = row_fields(&loss.seen.order.next);
-    let asked = asked_fields(&line.asked);
+    let asked = asked_fields(&loss.asked);
     [
         Field::Number(loss.at as u64),
         Field::Number(line.node as u64),
@@ -183,7 +171,7 @@ fn loss_fields(line: &LossLine) -> [Field; 29]
         number_field(loss.seen.order.rank),
         next.vm,
         next.ratio,
-        number_field(line.slot),
+        number_field(loss.slot),
         number_field(loss.back),
         how_field(loss.came),
         number_field(later(line)),
@@ -205,11 +193,14 @@ pub fn put_loss_head<W: Sink>(sink: &mut W, held: &mut AnswerBuffer) -> Result<(
 }
 
 /// The row of a loss.
+///
+/// condition: the numbers of the rows in its order are in their ranges, as those of a walk's losses are
 pub fn put_loss<W: Sink>(
     sink: &mut W,
     held: &mut AnswerBuffer,
     line: &LossLine,
 ) -> Result<(), SinkFailed>
+    requires { HasGoodRows line.now.loss.seen.order }
     ensures bytes { Puts (W.contents sink.old) held.old (W.contents sink.new) held.new (loss_row line.now) result }
     ensures failures { W.failures sink.new ≡ W.failures sink.old + sink_faults result }
     ensures flushes { W.flushes sink.new ≡ W.flushes sink.old }

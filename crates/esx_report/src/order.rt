@@ -1,21 +1,23 @@
 //! What the order of ratios had to do with a loss.
 
 ghost use Rattle.std.specs.Prelude.{◌≡◌, ◌+◌};
+ghost use Rattle.std.specs.Option.{ForSome};
+ghost use Rattle.esx_formulas.specs.Ratio.{IsRow};
+ghost use Rattle.esx_story.specs.Order.{HasGoodRows};
 ghost use Rattle.esx_writing.specs.Writing.{Puts, sink_faults};
 ghost use Rattle.esx_report.specs.Why.{next_text, first_text, place_text, other_text, rank_text, unranked_text, order_text};
 
 use crate::field::Field;
 use crate::losses::ratio;
 use crate::part::{Part, put_parts};
-use crate::why::Why;
-use crate::words::is_replace;
 use esx_formulas::Row;
-use esx_story::Order;
+use esx_story::{Loan, Loss, Order};
 use esx_types::{Sink, SinkFailed};
 use esx_writing::{AnswerBuffer, put_line};
 
 /// The machine that comes behind the first.
 fn put_next_row<W: Sink>(sink: &mut W, held: &mut AnswerBuffer, row: &Row) -> Result<(), SinkFailed>
+    requires { IsRow row.now }
     ensures bytes { Puts (W.contents sink.old) held.old (W.contents sink.new) held.new (next_text (Some row.now)) result }
     ensures failures { W.failures sink.new ≡ W.failures sink.old + sink_faults result }
     ensures flushes { W.flushes sink.new ≡ W.flushes sink.old }
@@ -39,6 +41,7 @@ fn put_next_guest<W: Sink>(
     held: &mut AnswerBuffer,
     next: &Option<Row>,
 ) -> Result<(), SinkFailed>
+    requires { ForSome next.now IsRow }
     ensures bytes { Puts (W.contents sink.old) held.old (W.contents sink.new) held.new (next_text next.now) result }
     ensures failures { W.failures sink.new ≡ W.failures sink.old + sink_faults result }
     ensures flushes { W.flushes sink.new ≡ W.flushes sink.old }
@@ -55,6 +58,7 @@ fn put_first_row<W: Sink>(
     held: &mut AnswerBuffer,
     row: &Row,
 ) -> Result<(), SinkFailed>
+    requires { IsRow row.now }
     ensures bytes { Puts (W.contents sink.old) held.old (W.contents sink.new) held.new (first_text (Some row.now)) result }
     ensures failures { W.failures sink.new ≡ W.failures sink.old + sink_faults result }
     ensures flushes { W.flushes sink.new ≡ W.flushes sink.old }
@@ -78,6 +82,7 @@ fn put_first_guest<W: Sink>(
     held: &mut AnswerBuffer,
     next: &Option<Row>,
 ) -> Result<(), SinkFailed>
+    requires { ForSome next.now IsRow }
     ensures bytes { Puts (W.contents sink.old) held.old (W.contents sink.new) held.new (first_text next.now) result }
     ensures failures { W.failures sink.new ≡ W.failures sink.old + sink_faults result }
     ensures flushes { W.flushes sink.new ≡ W.flushes sink.old }
@@ -131,6 +136,7 @@ fn put_other<W: Sink>(
     rank: u32,
     next: &Option<Row>,
 ) -> Result<(), SinkFailed>
+    requires { ForSome next.now IsRow }
     ensures bytes { Puts (W.contents sink.old) held.old (W.contents sink.new) held.new (other_text rank next.now) result }
     ensures failures { W.failures sink.new ≡ W.failures sink.old + sink_faults result }
     ensures flushes { W.flushes sink.new ≡ W.flushes sink.old }
@@ -149,6 +155,7 @@ fn put_rank<W: Sink>(
     rank: u32,
     order: &Order,
 ) -> Result<(), SinkFailed>
+    requires { HasGoodRows order.now }
     ensures bytes { Puts (W.contents sink.old) held.old (W.contents sink.new) held.new (rank_text rank order.now) result }
     ensures failures { W.failures sink.new ≡ W.failures sink.old + sink_faults result }
     ensures flushes { W.flushes sink.new ≡ W.flushes sink.old }
@@ -158,29 +165,32 @@ fn put_rank<W: Sink>(
 }
 
 /// Why a page is lost of a machine that is not above its target.
-fn put_unranked<W: Sink>(sink: &mut W, held: &mut AnswerBuffer, why: &Why) -> Result<(), SinkFailed>
-    ensures bytes { Puts (W.contents sink.old) held.old (W.contents sink.new) held.new (unranked_text why.now) result }
+fn put_unranked<W: Sink>(
+    sink: &mut W,
+    held: &mut AnswerBuffer,
+    loan: Option<Loan>,
+) -> Result<(), SinkFailed>
+    ensures bytes { Puts (W.contents sink.old) held.old (W.contents sink.new) held.new (unranked_text loan) result }
     ensures failures { W.failures sink.new ≡ W.failures sink.old + sink_faults result }
     ensures flushes { W.flushes sink.new ≡ W.flushes sink.old }
 {
-    if is_replace(why.line.loss.change.how) {
-        put_line(
+    match loan {
+        None => put_line(
             sink,
             held,
             &": no frame is free and no guest has more than its minimum, so it gives one of its own.\n",
-        )
-    } else {
-        put_parts(
+        ),
+        Some(loan) => put_parts(
             sink,
             held,
             &[
                 Part::Text("; the balloon is to hold "),
-                Part::Shown(Field::Number(why.goal as u64)),
+                Part::Shown(Field::Number(loan.goal as u64)),
                 Part::Text(" pages and held "),
-                Part::Shown(Field::Number(why.lent as u64)),
+                Part::Shown(Field::Number(loan.held as u64)),
                 Part::Text(".\n"),
             ],
-        )
+        ),
     }
 }
 
@@ -188,14 +198,15 @@ fn put_unranked<W: Sink>(sink: &mut W, held: &mut AnswerBuffer, why: &Why) -> Re
 pub fn put_order<W: Sink>(
     sink: &mut W,
     held: &mut AnswerBuffer,
-    why: &Why,
+    loss: &Loss,
 ) -> Result<(), SinkFailed>
-    ensures bytes { Puts (W.contents sink.old) held.old (W.contents sink.new) held.new (order_text why.now) result }
+    requires { HasGoodRows loss.now.seen.order }
+    ensures bytes { Puts (W.contents sink.old) held.old (W.contents sink.new) held.new (order_text loss.now) result }
     ensures failures { W.failures sink.new ≡ W.failures sink.old + sink_faults result }
     ensures flushes { W.flushes sink.new ≡ W.flushes sink.old }
 {
-    match why.line.loss.seen.order.rank {
-        None => put_unranked(sink, held, why),
-        Some(rank) => put_rank(sink, held, rank, &why.line.loss.seen.order),
+    match loss.seen.order.rank {
+        None => put_unranked(sink, held, loss.loan),
+        Some(rank) => put_rank(sink, held, rank, &loss.seen.order),
     }
 }

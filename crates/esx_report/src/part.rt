@@ -4,7 +4,7 @@ ghost use Rattle.std.specs.Prelude.{◌≡◌, ◌+◌, flat_map};
 ghost use Rattle.esx_writing.specs.Writing.{Puts, sink_faults};
 ghost use Rattle.esx_report.specs.Fields.{part_text};
 
-use crate::entry::{Cell, Entry};
+use crate::column::{Cell, Column};
 use crate::field::{Field, put_field};
 use esx_types::{Sink, SinkFailed};
 use esx_writing::{AnswerBuffer, put};
@@ -15,7 +15,7 @@ pub enum Part<'a> {
     Text(&'a str),
     Bytes(&'a [u8]),
     Shown(Field),
-    Column(Cell),
+    Cell(Cell),
 }
 
 /// Puts a part.
@@ -28,7 +28,7 @@ fn put_part<W: Sink>(sink: &mut W, held: &mut AnswerBuffer, part: Part) -> Resul
         Part::Text(text) => put(sink, held, text.as_bytes()),
         Part::Bytes(bytes) => put(sink, held, bytes),
         Part::Shown(field) => put_field(sink, held, "-", field),
-        Part::Column(cell) => cell.put(sink, held),
+        Part::Cell(cell) => cell.put(sink, held),
     }
 }
 

@@ -2,64 +2,64 @@
 
 ghost use Rattle.std.specs.Prelude.{◌≡◌, ◌+◌, ◌++◌, ◌∷◌, flat_map, codes};
 ghost use Rattle.esx_writing.specs.Writing.{Puts, sink_faults};
-ghost use Rattle.esx_report.specs.Rows.{entries_text};
+ghost use Rattle.esx_report.specs.Rows.{columns_text};
 
-use crate::entry::Entry;
+use crate::column::Column;
 use esx_types::{Sink, SinkFailed};
 use esx_writing::{AnswerBuffer, put};
 
-/// Puts an entry behind a separator.
-fn put_next<E: Entry, W: Sink>(
+/// Puts a column behind a separator.
+fn put_next<C: Column, W: Sink>(
     sink: &mut W,
     held: &mut AnswerBuffer,
-    entry: &E,
+    column: &C,
 ) -> Result<(), SinkFailed>
-    ensures bytes { Puts (W.contents sink.old) held.old (W.contents sink.new) held.new (E.separator ++ E.text entry.now) result }
+    ensures bytes { Puts (W.contents sink.old) held.old (W.contents sink.new) held.new (C.separator ++ C.text column.now) result }
     ensures failures { W.failures sink.new ≡ W.failures sink.old + sink_faults result }
     ensures flushes { W.flushes sink.new ≡ W.flushes sink.old }
 {
-    put(sink, held, E::separator().as_bytes())?;
-    entry.put(sink, held)
+    put(sink, held, C::separator().as_bytes())?;
+    column.put(sink, held)
 }
 
-/// Puts entries, each behind a separator.
-fn put_more<E: Entry, W: Sink>(
+/// Puts columns, each behind a separator.
+fn put_more<C: Column, W: Sink>(
     sink: &mut W,
     held: &mut AnswerBuffer,
-    entries: &[E],
+    columns: &[C],
 ) -> Result<(), SinkFailed>
-    ensures bytes { Puts (W.contents sink.old) held.old (W.contents sink.new) held.new (flat_map (λ y. E.separator ++ E.text y) entries.now) result }
+    ensures bytes { Puts (W.contents sink.old) held.old (W.contents sink.new) held.new (flat_map (λ y. C.separator ++ C.text y) columns.now) result }
     ensures failures { W.failures sink.new ≡ W.failures sink.old + sink_faults result }
     ensures flushes { W.flushes sink.new ≡ W.flushes sink.old }
 {
-    for entry in entries {
-        put_next(sink, held, entry)?;
+    for column in columns {
+        put_next(sink, held, column)?;
     }
     Ok(())
 }
 
-/// Puts the entries behind the first, and the line's end.
-fn put_rest<E: Entry, W: Sink>(
+/// Puts the columns behind the first, and the line's end.
+fn put_rest<C: Column, W: Sink>(
     sink: &mut W,
     held: &mut AnswerBuffer,
-    entries: &[E],
+    columns: &[C],
 ) -> Result<(), SinkFailed>
-    ensures bytes { Puts (W.contents sink.old) held.old (W.contents sink.new) held.new (flat_map (λ y. E.separator ++ E.text y) entries.now ++ codes "\n") result }
+    ensures bytes { Puts (W.contents sink.old) held.old (W.contents sink.new) held.new (flat_map (λ y. C.separator ++ C.text y) columns.now ++ codes "\n") result }
     ensures failures { W.failures sink.new ≡ W.failures sink.old + sink_faults result }
     ensures flushes { W.flushes sink.new ≡ W.flushes sink.old }
 {
-    put_more(sink, held, entries)?;
+    put_more(sink, held, columns)?;
     put(sink, held, b"\n")
 }
 
-/// Puts a line that begins with an entry.
-fn put_entries<E: Entry, W: Sink>(
+/// Puts a line that begins with a column.
+fn put_columns<C: Column, W: Sink>(
     sink: &mut W,
     held: &mut AnswerBuffer,
-    first: &E,
-    more: &[E],
+    first: &C,
+    more: &[C],
 ) -> Result<(), SinkFailed>
-    ensures bytes { Puts (W.contents sink.old) held.old (W.contents sink.new) held.new (entries_text E.separator E.text (first.now ∷ more.now)) result }
+    ensures bytes { Puts (W.contents sink.old) held.old (W.contents sink.new) held.new (columns_text C.separator C.text (first.now ∷ more.now)) result }
     ensures failures { W.failures sink.new ≡ W.failures sink.old + sink_faults result }
     ensures flushes { W.flushes sink.new ≡ W.flushes sink.old }
 {
@@ -67,18 +67,18 @@ fn put_entries<E: Entry, W: Sink>(
     put_rest(sink, held, more)
 }
 
-/// Puts a line of entries.
-pub fn put_row<E: Entry, W: Sink>(
+/// Puts a line of columns.
+pub fn put_row<C: Column, W: Sink>(
     sink: &mut W,
     held: &mut AnswerBuffer,
-    entries: &[E],
+    columns: &[C],
 ) -> Result<(), SinkFailed>
-    ensures bytes { Puts (W.contents sink.old) held.old (W.contents sink.new) held.new (entries_text E.separator E.text entries.now) result }
+    ensures bytes { Puts (W.contents sink.old) held.old (W.contents sink.new) held.new (columns_text C.separator C.text columns.now) result }
     ensures failures { W.failures sink.new ≡ W.failures sink.old + sink_faults result }
     ensures flushes { W.flushes sink.new ≡ W.flushes sink.old }
 {
-    match entries.split_first() {
+    match columns.split_first() {
         None => put(sink, held, b"\n"),
-        Some((first, more)) => put_entries(sink, held, first, more),
+        Some((first, more)) => put_columns(sink, held, first, more),
     }
 }

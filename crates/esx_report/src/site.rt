@@ -4,7 +4,7 @@ ghost use Rattle.std.specs.Prelude.{◌≡◌, ◌+◌, ◌-◌};
 ghost use Rattle.esx_writing.specs.Writing.{Puts, sink_faults};
 ghost use Rattle.esx_report.specs.Site.{saved, mean_saved, opened_line, path_line, first_level_line, level_line, free_line, pages_line, saved_line, slots_line, level_losses_line, losses_heading, report_head, site_heading, guests_title, guests_note, level_losses_heading, report_end};
 
-use crate::entry::Cell;
+use crate::column::Cell;
 use crate::field::Field;
 use crate::part::{Part, put_parts};
 use esx_types::{Level, Sink, SinkFailed};
@@ -182,13 +182,13 @@ pub fn put_first_level<W: Sink>(
         held,
         &[
             Part::Text("  "),
-            Part::Column(Cell::Left(5, Field::Level(high.level))),
+            Part::Cell(Cell::Left(5, Field::Level(high.level))),
             Part::Text(" "),
-            Part::Column(Cell::Right(12, Field::Number(high.events as u64))),
+            Part::Cell(Cell::Right(12, Field::Number(high.events as u64))),
             Part::Text(" "),
-            Part::Column(Cell::Right(
+            Part::Cell(Cell::Right(
                 6,
-                Field::Part {
+                Field::Percent {
                     part: high.events,
                     whole: events,
                 },
@@ -214,19 +214,19 @@ pub fn put_level<W: Sink>(
         held,
         &[
             Part::Text("  "),
-            Part::Column(Cell::Left(5, Field::Level(sums.level))),
+            Part::Cell(Cell::Left(5, Field::Level(sums.level))),
             Part::Text(" "),
-            Part::Column(Cell::Right(12, Field::Number(sums.events as u64))),
+            Part::Cell(Cell::Right(12, Field::Number(sums.events as u64))),
             Part::Text(" "),
-            Part::Column(Cell::Right(
+            Part::Cell(Cell::Right(
                 6,
-                Field::Part {
+                Field::Percent {
                     part: sums.events,
                     whole: events,
                 },
             )),
             Part::Text(" "),
-            Part::Column(Cell::Right(8, Field::Number(sums.entered as u64))),
+            Part::Cell(Cell::Right(8, Field::Number(sums.entered as u64))),
             Part::Text("\n"),
         ],
     )
@@ -355,15 +355,15 @@ pub fn put_level_losses<W: Sink>(
         held,
         &[
             Part::Text("  "),
-            Part::Column(Cell::Left(5, Field::Level(sums.level))),
+            Part::Cell(Cell::Left(5, Field::Level(sums.level))),
             Part::Text(" "),
-            Part::Column(Cell::Right(7, Field::Number(sums.balloon as u64))),
+            Part::Cell(Cell::Right(7, Field::Number(sums.balloon as u64))),
             Part::Text(" "),
-            Part::Column(Cell::Right(7, Field::Number(sums.swap as u64))),
+            Part::Cell(Cell::Right(7, Field::Number(sums.swap as u64))),
             Part::Text(" "),
-            Part::Column(Cell::Right(7, Field::Number(sums.replace as u64))),
+            Part::Cell(Cell::Right(7, Field::Number(sums.replace as u64))),
             Part::Text(" "),
-            Part::Column(Cell::Right(7, Field::Number(sums.drop as u64))),
+            Part::Cell(Cell::Right(7, Field::Number(sums.drop as u64))),
             Part::Text("\n"),
         ],
     )

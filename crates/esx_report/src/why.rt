@@ -1,6 +1,7 @@
 //! Why a page was lost, in sentences.
 
 ghost use Rattle.std.specs.Prelude.{◌≡◌, ◌+◌};
+ghost use Rattle.esx_story.specs.Order.{HasGoodRows};
 ghost use Rattle.esx_writing.specs.Writing.{Puts, sink_faults};
 ghost use Rattle.esx_report.specs.Why.{why_rest, why_text, why_head};
 
@@ -16,21 +17,18 @@ use esx_writing::AnswerBuffer;
 /// A loss and what tells its reason.
 ///
 /// `command` is its call as it was spelt, of which at most 40 bytes are told; `frames` how many frames the site has, and
-/// `returns_at` how many of them are free when level high returns; `own_tax` whether the machine pays a tax of
-/// its own. Its balloon was to hold `goal` pages before the event, and held `lent`.
+/// `returns_at` how many of them are free when level high returns.
 #[derive(Clone, Copy)]
 pub struct Why<'a> {
     pub line: &'a LossLine,
     pub command: &'a [u8],
     pub frames: u32,
     pub returns_at: u32,
-    pub own_tax: bool,
-    pub goal: u32,
-    pub lent: u32,
 }
 
 /// The sentences behind the first.
 fn put_rest<W: Sink>(sink: &mut W, held: &mut AnswerBuffer, why: &Why) -> Result<(), SinkFailed>
+    requires { HasGoodRows why.now.line.now.loss.seen.order }
     ensures bytes { Puts (W.contents sink.old) held.old (W.contents sink.new) held.new (why_rest why.now) result }
     ensures failures { W.failures sink.new ≡ W.failures sink.old + sink_faults result }
     ensures flushes { W.flushes sink.new ≡ W.flushes sink.old }
@@ -40,7 +38,10 @@ fn put_rest<W: Sink>(sink: &mut W, held: &mut AnswerBuffer, why: &Why) -> Result
 }
 
 /// Why a page was lost.
+///
+/// condition: the numbers of the rows in the order of its loss are in their ranges, as those of a walk's losses are
 pub fn put_why<W: Sink>(sink: &mut W, held: &mut AnswerBuffer, why: &Why) -> Result<(), SinkFailed>
+    requires { HasGoodRows why.now.line.now.loss.seen.order }
     ensures bytes { Puts (W.contents sink.old) held.old (W.contents sink.new) held.new (why_text why.now) result }
     ensures failures { W.failures sink.new ≡ W.failures sink.old + sink_faults result }
     ensures flushes { W.flushes sink.new ≡ W.flushes sink.old }

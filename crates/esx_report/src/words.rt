@@ -1,7 +1,7 @@
 //! Words of the sentences on losses.
 
 ghost use Rattle.std.specs.Prelude.{◌≡◌, take};
-ghost use Rattle.esx_report.specs.Why.{mechanism_text, came_text, wanted_text, tax_text, is_drop, is_replace};
+ghost use Rattle.esx_report.specs.Why.{mechanism_text, came_text, wanted_text, tax_text, is_drop};
 
 use esx_story::How;
 
@@ -52,12 +52,6 @@ pub fn is_drop(how: How) -> bool
     ensures { result ≡ is_drop how }
 {
     matches!(how, How::Dropped)
-}
-
-pub fn is_replace(how: How) -> bool
-    ensures { result ≡ is_replace how }
-{
-    matches!(how, How::Replaced)
 }
 
 /// The first bytes of a command.

@@ -118,8 +118,11 @@ accepted_in c [] k x all h = cc
 accepted_in c (m ∷ ms) zero x all h = subst (IsAcceptedMoment c) (one_moment m x h) all.0
 accepted_in c (m ∷ ms) (suc k) x all h = accepted_in c ms k x all.1 h
 
+pub accepted_all : (c : Config) (es : List Event) (t : Scene) → IsConfig c → run c es ≡ Ok t → AllByRecursion (IsAcceptedMoment c) (moments c es)
+accepted_all c es t fine h = accepted_from c 0 es (opening c) t (opening_sound c fine) h
+
 pub accepted_at : (c : Config) (es : List Event) (t : Scene) (i : ℕ) (x : Moment) → IsConfig c → run c es ≡ Ok t → IsAt (moments c es) i x → IsAcceptedMoment c x
-accepted_at c es t i x fine h at = accepted_in c (moments c es) at.0 x (accepted_from c 0 es (opening c) t (opening_sound c fine) h) at.2
+accepted_at c es t i x fine h at = accepted_in c (moments c es) at.0 x (accepted_all c es t fine h) at.2
 
 -- The laws of a path.
 

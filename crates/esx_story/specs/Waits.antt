@@ -2,8 +2,6 @@
 use Rattle.std.specs.Prelude.{ℕ, ◌-◌, ◌==◌, ◌&&◌, nat_le, nat_lt, max, Bool, true, false, List, slice_get, count_by, Option, Some, None}
 use Rattle.esx_types.specs.declared.level.Level.{Level}
 use Rattle.esx_types.specs.declared.level.Level.TheVariants.{High, Soft, Hard, Low}
-use Rattle.esx_events.specs.declared.event.Event.{Event}
-use Rattle.esx_events.specs.declared.event.Event.TheVariants.{Read, Write}
 use Rattle.esx_events.specs.declared.event.Answer.{Answer}
 use Rattle.esx_events.specs.declared.event.Answer.TheVariants as answers
 use Rattle.esx_events.specs.declared.event.Refusal.{Refusal}
@@ -14,21 +12,20 @@ use Rattle.esx_story.specs.declared.change.Asked.{Asked}
 use Rattle.esx_story.specs.Moments.{Moment}
 use Rattle.esx_story.specs.Spans.{back, over, set_at}
 
--- An event that was refused after so many of a path were accepted.
+-- A call that was refused after so many events of a path were accepted: the page that it was to read or write, if it was an access.
 pub record Met : Type 0 where
   pub at : ℕ
-  pub event : Event
+  pub access : Option (ℕ × ℕ)
   pub refusal : Refusal
 
--- an access of the page
-abbrev pub accesses : ℕ → ℕ → Event → Bool
-accesses n page (Read m other at len) = (m == n) && (other == page)
-accesses n page (Write m other at new) = (m == n) && (other == page)
-accesses n page _ = false
+-- it is that page
+abbrev pub is_page : ℕ → ℕ → Option (ℕ × ℕ) → Bool
+is_page n page None = false
+is_page n page (Some p) = (p.0 == n) && (p.1 == page)
 
 -- an access of the page that was to wait
 abbrev pub is_wait : ℕ → ℕ → Met → Bool
-is_wait n page m = accesses n page m.event && is_pressed m.refusal
+is_wait n page m = is_page n page m.access && is_pressed m.refusal
 
 -- before an event, if there is one
 abbrev pub is_before : Option ℕ → ℕ → Bool

@@ -36,6 +36,7 @@ pub enum How {
 }
 
 /// Where a page is, without its bytes.
+#[derive(Clone, Copy, Debug, PartialEq, Eq)]
 pub enum Spot {
     Untouched,
     /// In a frame, which others may come to share or do share.
@@ -46,10 +47,18 @@ pub enum Spot {
 }
 
 /// What a rebalance wanted, revoked in all, and revoked of one machine, in frames.
+#[derive(Clone, Copy, Debug, PartialEq, Eq)]
 pub struct Asked {
     pub need: u32,
     pub revoked: u32,
     pub given: u32,
+}
+
+/// How many pages a balloon held before a loan, and how many it is to hold.
+#[derive(Clone, Copy, Debug, PartialEq, Eq)]
+pub struct Loan {
+    pub held: u32,
+    pub goal: u32,
 }
 
 /// How often pages of a virtual machine came and left since it was admitted, each way by itself.

@@ -6,5 +6,5 @@ pub mod laws;
 pub mod story;
 pub mod telling;
 
-pub use change::{Asked, Change, Counts, How, Spot};
+pub use change::{Asked, Change, Counts, How, Loan, Spot};
 pub use story::{Loss, Order, Seen};

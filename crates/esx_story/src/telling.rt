@@ -3,8 +3,9 @@
 ghost use Rattle.std.specs.Prelude.{◌≡◌};
 ghost use Rattle.esx_story.specs.Changes.{change};
 ghost use Rattle.esx_story.specs.Readings.{named_page, lost_by, coming_from, gained_from};
+ghost use Rattle.esx_story.specs.Losses.{slot_by, loan_by};
 
-use crate::change::{Change, How};
+use crate::change::{Change, How, Loan};
 use esx_events::{Answer, Event, PageState, Refusal};
 use esx_types::VmId;
 
@@ -61,6 +62,30 @@ pub fn lost(event: &Event, answer: &Answer, before: Result<PageState, Refusal>) 
                 None
             }
         }
+        _ => None,
+    }
+}
+
+/// The slot that the page went to that an accepted event paged out.
+pub fn slot_of(answer: &Answer) -> Option<u32>
+    ensures { result ≡ slot_by answer.now }
+{
+    match answer {
+        Answer::PagedOut { slot, .. } => Some(*slot),
+        Answer::Replaced { slot, .. } => Some(*slot),
+        _ => None,
+    }
+}
+
+/// What the balloon held before an accepted event lent a page, and is to hold.
+pub fn loan_of(answer: &Answer) -> Option<Loan>
+    ensures { result ≡ loan_by answer.now }
+{
+    match answer {
+        Answer::Lent { lent, goal } => Some(Loan {
+            held: lent.saturating_sub(1),
+            goal: *goal,
+        }),
         _ => None,
     }
 }

@@ -1,6 +1,7 @@
 -- A path with one more event: what is told along it goes on.
-use Rattle.std.proofs.Common.{suc, ◌≡◌, ℕ, ◌+◌, ◌-◌, ◌≤◌, Bool, true, false, List, [], ◌∷◌, ◌++◌, length, map, take, drop, append_assoc, refl, sym, ap, ◌∙◌, subst, arith, cond, Option, Some, None, Ok}
-use Rattle.std.proofs.lemmas.List.{take-append-le, drop-append-le, drop_all, length-drop, map-append, append-nil}
+use Rattle.std.proofs.Common.{suc, ◌≡◌, ℕ, ◌+◌, ◌-◌, ◌≤◌, Bool, true, false, List, [], ◌∷◌, ◌++◌, length, map, take, drop, slice_get, append_assoc, refl, sym, ap, ◌∙◌, subst, arith, cond, Option, Some, None, Ok}
+use Rattle.std.proofs.lemmas.Option.{slice_get_within}
+use Rattle.std.proofs.lemmas.List.{take_all, take-append-le, drop-append-le, drop_all, length-drop, map-append, append-nil}
 use Rattle.esx_types.specs.declared.config.Config.{Config}
 use Rattle.esx_events.specs.declared.event.Event.{Event}
 use Rattle.esx_events.specs.declared.event.Answer.{Answer}
@@ -14,10 +15,12 @@ use Rattle.esx_story.specs.Changes.{has_here}
 use Rattle.esx_story.specs.Moments.{Moment, moments_from, moments}
 use Rattle.esx_story.specs.Losses.{lost_at}
 use Rattle.esx_story.specs.Counts.{admits, life_from, counts_after, counts_from}
-use Rattle.esx_story.specs.Spans.{is_last, back_from, back, over_from, over, came_as, is_rebalance, set_from}
-use Rattle.esx_story.specs.Waits.{Met, waits}
+use Rattle.esx_story.specs.Spans.{is_last, back_from, back, over_from, over, came_as, is_rebalance, set_from, set_at}
+use Rattle.esx_story.specs.Waits.{Met, waits, asked_by, asked_since, asked}
 use Rattle.esx_story.specs.Story.{told_loss, told_at, told_from, told}
 use Rattle.esx_story.proofs.Listed.{moments_one}
+use Rattle.esx_story.proofs.Sets.{set_last}
+use Rattle.esx_walk.proofs.Lists.{get_front}
 
 abbrev pub moment_of : Event → Answer → Scene → Scene → Moment
 moment_of e a t u = record { event = e; answer = a; before = t; after = u }
@@ -116,6 +119,19 @@ set_more n i last (m ∷ ms) x =
     set_more n (i + 1) now ms x
     ∙ ap (λ k. cond (admits n x.event) None (cond (is_rebalance x.event) (Some k) (set_from n (i + 1) now ms))) (let e : i + 1 + length ms ≡ i + suc (length ms) = omega arith in e)
 
+-- what the rebalance asked for by which they were set is as it was
+asked_same : (ms : List Moment) (x : Moment) (i n : ℕ) (o : Option ℕ) → set_at ms i n ≡ o → asked_since (ms ++ x ∷ []) n o ≡ asked_since ms n o
+asked_same ms x i n None is = refl
+asked_same ms x i n (Some k) is =
+    let s = (set_last ms i n k).0 is in
+    let place = s.at.0 in
+    let number = s.at.1 in
+    let e : k - 1 ≡ place = omega (arith, number) in
+    ap (λ j. asked_by n (slice_get (ms ++ x ∷ []) j)) e ∙ ap (asked_by n) (get_front ms x place (slice_get_within ms place s.moment s.at.2)) ∙ ap (λ j. asked_by n (slice_get ms j)) (sym e)
+
+pub asked_still : (ms : List Moment) (x : Moment) (n : ℕ) → asked_since (ms ++ x ∷ []) n (set_from n 1 None ms) ≡ asked_since ms n (set_from n 1 None ms)
+asked_still ms x n = asked_same ms x (1 + length ms) n (set_from n 1 None ms) (ap (set_from n 1 None) (take_all (1 + length ms - 1) ms (omega arith)))
+
 pub life_more : (n : ℕ) (ms : List Moment) (x : Moment) (k : ℕ) → life_from n (ms ++ x ∷ []) k ≡ cond (admits n x.event) (life_from n ms k + 1) (life_from n ms k)
 life_more n [] x k = refl
 life_more n (m ∷ ms) x k = life_more n ms x (cond (admits n m.event) (k + 1) k)
@@ -136,11 +152,17 @@ renewed ms mets l = record l {
 front_same : (ms : List Moment) (x : Moment) (i : ℕ) → i ≤ length ms → take (i - 1) (ms ++ x ∷ []) ≡ take (i - 1) ms
 front_same ms x i within = take-append-le (i - 1) ms (x ∷ []) (omega (arith, within))
 
+asked_front : (ms : List Moment) (x : Moment) (i n : ℕ) → i ≤ length ms → asked (ms ++ x ∷ []) i n ≡ asked ms i n
+asked_front ms x i n within = ap (λ (front : List Moment). asked_since (ms ++ x ∷ []) n (set_from n 1 None front)) (front_same ms x i within) ∙ asked_same ms x i n (set_at ms i n) refl
+
 one_told : (c : Config) (ms : List Moment) (x : Moment) (olds mets : List Met) (i : ℕ) (m : Moment) (o : Option Change) → i ≤ length ms
     → told_at c (ms ++ x ∷ []) mets i m o ≡ map (renewed (ms ++ x ∷ []) mets) (told_at c ms olds i m o)
 one_told c ms x olds mets i m None within = refl
 one_told c ms x olds mets i m (Some y) within =
-    ap (λ (front : List Moment). record (told_loss c (ms ++ x ∷ []) mets i m y) { life = life_from y.vm front 0; set = set_from y.vm 1 None front } ∷ []) (front_same ms x i within)
+    let all = ms ++ x ∷ [] in
+    let front = take (i - 1) ms in
+    ap (λ (some : List Moment). record (told_loss c all mets i m y) { life = life_from y.vm some 0; set = set_from y.vm 1 None some } ∷ []) (front_same ms x i within)
+    ∙ ap (λ a. record (told_loss c all mets i m y) { life = life_from y.vm front 0; set = set_from y.vm 1 None front; asked = a } ∷ []) (asked_front ms x i y.vm within)
 
 told_renewed : (c : Config) (ms : List Moment) (x : Moment) (olds mets : List Met) (i : ℕ) (some : List Moment) → i + length some ≤ length ms + 1
     → told_from c (ms ++ x ∷ []) mets i some ≡ map (renewed (ms ++ x ∷ []) mets) (told_from c ms olds i some)

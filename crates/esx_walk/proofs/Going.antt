@@ -14,18 +14,19 @@ use Rattle.esx_story.specs.declared.story.Seen.{Seen}
 use Rattle.esx_story.specs.Moments.{Moment}
 use Rattle.esx_story.specs.Losses.{lost_at}
 use Rattle.esx_story.specs.Gains.{gained_at}
+use Rattle.esx_story.specs.Spans.{is_rebalance}
 use Rattle.esx_story.specs.Waits.{Met}
 use Rattle.esx_story.specs.Story.{seen}
 use Rattle.esx_story.proofs.Told.{loss_told, gain_told}
 use Rattle.esx_walk.specs.declared.lives.Life.{Life}
-use Rattle.esx_walk.specs.Account.{Account, no_life, life_in, open_in, closed, with_loss, roomy, gone_on, nothing}
+use Rattle.esx_walk.specs.Account.{Account, no_life, life_in, asked_for, open_in, closed, with_loss, roomy, gone_on, nothing}
 use Rattle.esx_walk.specs.Accounts.{IsLife, IsAccount, IsNext}
 use Rattle.esx_walk.proofs.Losing.{IsStep, Comes}
-use Rattle.esx_walk.proofs.Living.{IsReady, account_goes_on}
+use Rattle.esx_walk.proofs.Living.{IsAsking, IsReady, account_goes_on}
 
 -- what the laws say of a moment that comes
-step_of : (c : Config) (x : Moment) (places : List (List ℕ)) (e : Event) (a : Answer) (s : Option Seen) (lost gained : Option Change) → IsNext c x places e a s lost gained → IsStep x
-step_of c x places e a s lost gained is = record {
+step_of : (c : Config) (x : Moment) (places : List (List ℕ)) (e : Event) (a : Answer) (s : Option Seen) (given : Option (List ℕ)) (lost gained : Option Change) → IsNext c x places e a s given lost gained → IsStep x
+step_of c x places e a s given lost gained is = record {
   gains = λ n page away here. (gain_told c x.before x.event (x.answer, x.after) n page is.sound is.goes).0 (away, here);
   gained = λ g names. (gain_told c x.before x.event (x.answer, x.after) g.vm g.page is.sound is.goes).1 (g.how, names);
   lost = λ y names. (loss_told c x.before x.event (x.answer, x.after) y.vm y.page is.sound is.goes).1 (y.how, names);
@@ -35,36 +36,38 @@ step_of c x places e a s lost gained is = record {
 no_change : (y : Change) → None ≡ Some y → ⊥
 no_change y h = cc
 
-unseen : (losses : List Loss) (lives : List Life) (i : ℕ) (s u : Option Seen) (o : Option Change) → o ≡ None → with_loss losses lives i s o ≡ with_loss losses lives i u o
-unseen losses lives i s u None h = refl
-unseen losses lives i s u (Some y) h = absurd (no_change y (sym h))
+unseen : (losses : List Loss) (lives : List Life) (i : ℕ) (answer : Answer) (s u : Option Seen) (o : Option Change) → o ≡ None → with_loss losses lives i answer s o ≡ with_loss losses lives i answer u o
+unseen losses lives i answer s u None h = refl
+unseen losses lives i answer s u (Some y) h = absurd (no_change y (sym h))
 
-gone_by : (c : Config) (ms : List Moment) (mets : List Met) (x : Moment) (a : Account) (s : Option Seen) (o : Option Change) → Comes c ms mets x a → lost_at x ≡ o
+gone_by : (c : Config) (ms : List Moment) (mets : List Met) (x : Moment) (a : Account) (s : Option Seen) (given : Option (List ℕ)) (o : Option Change) → Comes c ms mets x a → lost_at x ≡ o → ((n : ℕ) → n < VM_NUMBERS → IsAsking x given n)
     → ((y : Change) → lost_at x ≡ Some y → (s ≡ Some (seen c x.before y.vm)) × (y.vm < VM_NUMBERS) × (y.page < length (get_or a.places y.vm [])))
-    → IsAccount c (ms ++ x ∷ []) mets x.after.site (gone_on a x.event x.answer s (lost_at x) (gained_at x))
-gone_by c ms mets x a s None comes is about =
+    → IsAccount c (ms ++ x ∷ []) mets x.after.site (gone_on a x.event x.answer s given (lost_at x) (gained_at x))
+gone_by c ms mets x a s given None comes is asks about =
     let u = seen c x.before 0 in
-    let ready : IsReady c x a u = record { room = λ y h. ((about y h).1, (about y h).2); told = λ y h. absurd (no_change y (sym is ∙ h)) } in
-    let P : List Loss → Type 0 = λ ls. IsAccount c (ms ++ x ∷ []) mets x.after.site (record (gone_on a x.event x.answer s (lost_at x) (gained_at x)) { losses = ls }) in
-    subst P (unseen (closed a.losses a.places (a.events + 1) (gained_at x)) a.lives (a.events + 1) (Some u) s (lost_at x) is) (account_goes_on c ms mets x a u comes ready)
-gone_by c ms mets x a s (Some y) comes is about =
+    let ready : IsReady c x a u given = record { asks = asks; room = λ y h. ((about y h).1, (about y h).2); told = λ y h. absurd (no_change y (sym is ∙ h)) } in
+    let P : List Loss → Type 0 = λ ls. IsAccount c (ms ++ x ∷ []) mets x.after.site (record (gone_on a x.event x.answer s given (lost_at x) (gained_at x)) { losses = ls }) in
+    subst P (unseen (closed a.losses a.places (a.events + 1) (gained_at x)) a.lives (a.events + 1) x.answer (Some u) s (lost_at x) is) (account_goes_on c ms mets x a u given comes ready)
+gone_by c ms mets x a s given (Some y) comes is asks about =
     let u = seen c x.before y.vm in
-    let ready : IsReady c x a u = record { room = λ z h. ((about z h).1, (about z h).2); told = λ z h. ap (λ (w : Change). seen c x.before w.vm) (one_change y z (sym is ∙ h)) } in
-    let P : Option Seen → Type 0 = λ o. IsAccount c (ms ++ x ∷ []) mets x.after.site (gone_on a x.event x.answer o (lost_at x) (gained_at x)) in
-    subst P (sym (about y is).0) (account_goes_on c ms mets x a u comes ready)
+    let ready : IsReady c x a u given = record { asks = asks; room = λ z h. ((about z h).1, (about z h).2); told = λ z h. ap (λ (w : Change). seen c x.before w.vm) (one_change y z (sym is ∙ h)) } in
+    let P : Option Seen → Type 0 = λ o. IsAccount c (ms ++ x ∷ []) mets x.after.site (gone_on a x.event x.answer o given (lost_at x) (gained_at x)) in
+    subst P (sym (about y is).0) (account_goes_on c ms mets x a u given comes ready)
   where
     one_change : (y z : Change) → Some y ≡ Some z → y ≡ z
     one_change y z h = cc
 
-pub goes_on : (c : Config) (ms : List Moment) (mets : List Met) (x : Moment) (a b : Account) (e : Event) (answer : Answer) (s : Option Seen) (lost gained : Option Change) → b ≡ gone_on a e answer s lost gained
-    → IsAccount c ms mets x.before.site a → IsNext c x a.places e answer s lost gained → IsAccount c (ms ++ x ∷ []) mets x.after.site b
-goes_on c ms mets x a b e answer s lost gained is account nexts =
-    let comes : Comes c ms mets x a = record { account = account; step = step_of c x a.places e answer s lost gained nexts } in
+pub goes_on : (c : Config) (ms : List Moment) (mets : List Met) (x : Moment) (a b : Account) (e : Event) (answer : Answer) (s : Option Seen) (given : Option (List ℕ)) (lost gained : Option Change) → b ≡ gone_on a e answer s given lost gained
+    → IsAccount c ms mets x.before.site a → IsNext c x a.places e answer s given lost gained → IsAccount c (ms ++ x ∷ []) mets x.after.site b
+goes_on c ms mets x a b e answer s given lost gained is account nexts =
+    let comes : Comes c ms mets x a = record { account = account; step = step_of c x a.places e answer s given lost gained nexts } in
     let P : Account → Type 0 = IsAccount c (ms ++ x ∷ []) mets x.after.site in
-    let same : gone_on a x.event x.answer s (lost_at x) (gained_at x) ≡ b =
-    ap (λ z. gone_on a z x.answer s (lost_at x) (gained_at x)) nexts.made ∙ ap (λ z. gone_on a e z s (lost_at x) (gained_at x)) nexts.told
-    ∙ ap (λ z. gone_on a e answer s z (gained_at x)) nexts.loses ∙ ap (gone_on a e answer s lost) nexts.gains ∙ sym is in
-    subst P same (gone_by c ms mets x a s (lost_at x) comes refl (λ y h. nexts.about y (sym nexts.loses ∙ h)))
+    let same : gone_on a x.event x.answer s given (lost_at x) (gained_at x) ≡ b =
+    ap (λ z. gone_on a z x.answer s given (lost_at x) (gained_at x)) nexts.made ∙ ap (λ z. gone_on a e z s given (lost_at x) (gained_at x)) nexts.told
+    ∙ ap (λ z. gone_on a e answer s given z (gained_at x)) nexts.loses ∙ ap (gone_on a e answer s given lost) nexts.gains ∙ sym is in
+    let asks : (n : ℕ) → n < VM_NUMBERS → IsAsking x given n =
+    λ n below h. ap (λ (r : Answer). asked_for r given n) nexts.told ∙ nexts.asks n below (sym (ap is_rebalance nexts.made) ∙ h) in
+    subst P same (gone_by c ms mets x a s given (lost_at x) comes refl asks (λ y h. nexts.about y (sym nexts.loses ∙ h)))
 
 -- At the opening.
 
@@ -89,7 +92,7 @@ opens c s a events losses lives places = record {
   events = events;
   losses = losses;
   lives = λ n below. (let P : Life → Type 0 = IsLife [] n in
-      subst P (sym (ap (λ ls. life_in ls n) lives ∙ life_none VM_NUMBERS n)) (record { lives = refl; set = refl; counts = refl }));
+      subst P (sym (ap (λ ls. life_in ls n) lives ∙ life_none VM_NUMBERS n)) (record { lives = refl; set = refl; asked = refl; counts = refl }));
   numbers = ap length lives ∙ length-replicate VM_NUMBERS no_life;
   rows = ap length places ∙ length-replicate {A = List ℕ} VM_NUMBERS [];
   found = λ j l there stands. absurd (no_loss l (sym (ap (λ ls. slice_get ls j) losses) ∙ there));

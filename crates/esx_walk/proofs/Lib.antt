@@ -9,6 +9,8 @@ mod Going
 mod Waiting
 mod Few
 mod Rows
+mod Held
 mod Walking
 mod Paths
 mod Complete
+mod Good

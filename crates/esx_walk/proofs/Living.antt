@@ -1,7 +1,7 @@
 -- An account after one more event of its path: lives, and the whole.
-use Rattle.std.proofs.Common.{◌≡◌, ℕ, zero, suc, ◌+◌, ◌*◌, ◌-◌, ◌<◌, ◌≤◌, ◌==◌, ◌&&◌, nat_le, Bool, true, false, List, [], ◌∷◌, ◌++◌, length, map, take, set, count_by, refl, sym, ap, ◌∙◌, subst, arith, cond, Option, Some, None, inl, inr}
+use Rattle.std.proofs.Common.{◌≡◌, ℕ, ◌+◌, ◌*◌, ◌-◌, ◌<◌, ◌≤◌, ◌==◌, ◌&&◌, nat_le, Bool, true, false, List, [], ◌∷◌, ◌++◌, length, map, take, set, slice_get, count_by, refl, sym, ap, ◌∙◌, subst, arith, cond, Option, Some, None, inl, inr}
 use Rattle.std.specs.List.{AllByRecursion}
-use Rattle.std.proofs.lemmas.List.{length-append, length-set, length-map, get_or-set_same, get_or-set_other, take_all, take-append-le, append-nil}
+use Rattle.std.proofs.lemmas.List.{length-append, length-set, get_or-set_same, get_or-set_other, take_all, take-append-le, append-nil}
 use Rattle.std.proofs.lemmas.List.Sums.{sum_by-cons}
 use Rattle.std.proofs.lemmas.Bool.{cases_eq}
 use Rattle.std.proofs.lemmas.Bool.Decides.{nat_tests}
@@ -15,19 +15,21 @@ use Rattle.esx_model.proofs.Callers.{eqb_same, eqb_other, all_map}
 use Rattle.esx_story.specs.declared.change.How.{How}
 use Rattle.esx_story.specs.declared.change.How.TheVariants.{Balloon, Swap, Replaced, Dropped, First, Pop, SwapIn}
 use Rattle.esx_story.specs.declared.change.Change.{Change}
+use Rattle.esx_story.specs.declared.change.Asked.{Asked}
 use Rattle.esx_story.specs.declared.change.Counts.{Counts}
 use Rattle.esx_story.specs.declared.story.Loss.{Loss}
 use Rattle.esx_story.specs.declared.story.Seen.{Seen}
 use Rattle.esx_story.specs.Moments.{Moment}
-use Rattle.esx_story.specs.Losses.{lost_at}
+use Rattle.esx_story.specs.Losses.{slot_by, loan_by, lost_at}
 use Rattle.esx_story.specs.Gains.{gained_at}
 use Rattle.esx_story.specs.Counts.{no_counts, with_change, counted, admits, counts, life_from}
 use Rattle.esx_story.specs.Spans.{is_rebalance, back, over, came_by, set_from}
-use Rattle.esx_story.specs.Waits.{Met, is_wait, is_before, waits}
+use Rattle.esx_story.specs.Waits.{Met, is_wait, is_before, waits, asked_by, asked_since}
 use Rattle.esx_story.specs.Story.{seen, told_loss, told_at, told}
-use Rattle.esx_walk.proofs.Along.{renewed, back_none, set_more, life_more, counts_more, told_more}
+use Rattle.esx_walk.proofs.Along.{renewed, back_none, set_more, asked_still, life_more, counts_more, told_more}
+use Rattle.esx_walk.proofs.Lists.{get_last, map_from_long, map_from_read}
 use Rattle.esx_walk.specs.declared.lives.Life.{Life}
-use Rattle.esx_walk.specs.Account.{Account, no_life, life_in, counted_in, lived, new_loss, with_loss, closed, shut, cleared, opened, gone_on}
+use Rattle.esx_walk.specs.Account.{Account, no_life, life_in, counted_in, asked_for, set_life, lived, new_loss, with_loss, closed, shut, cleared, opened, gone_on}
 use Rattle.esx_walk.specs.Accounts.{IsLife, IsAccount}
 use Rattle.esx_walk.proofs.Losing.{Comes, closed_are}
 use Rattle.esx_walk.proofs.Standing.{HasRoom, front, places_then, holds_then, found_then}
@@ -51,62 +53,78 @@ counted_long : (lives : List Life) (o : Option Change) → length (counted_in li
 counted_long lives None = refl
 counted_long lives (Some y) = length-set lives y.vm _
 
-map_read : (f : Life → Life) (lives : List Life) (n : ℕ) → n < length lives → life_in (map f lives) n ≡ f (life_in lives n)
-map_read f [] n below = absurd (omega (arith, below))
-map_read f (l ∷ lives) zero below = refl
-map_read f (l ∷ lives) (suc n) below = map_read f lives n (omega (arith, below))
+-- one that begins anew
+abbrev anew : Life → Life
+anew l = record { lives = l.lives + 1; set = None; asked = None; counts = no_counts }
 
-abbrev life_after : ℕ → ℕ → Event → Life → Life
-life_after n i e l = cond (admits n e) (record { lives = l.lives + 1; set = None; counts = no_counts }) (cond (is_rebalance e) (record l { set = Some i }) l)
+abbrev life_after : ℕ → ℕ → Event → Answer → Option (List ℕ) → Life → Life
+life_after n i e answer given l = cond (admits n e) (anew l) (cond (is_rebalance e) (set_life i answer given n l) l)
 
-life_lived : (lives : List Life) (i : ℕ) (e : Event) (n : ℕ) → n < length lives → life_in (lived lives i e) n ≡ life_after n i e (life_in lives n)
-life_lived lives i (Admit m spec) n below = elim (cases_eq n m) [
-  | inl e ↦ ap (life_in (lived lives i (Admit m spec))) e ∙ get_or-set_same lives m (anew (life_in lives m)) no_life (subst (λ k. k < length lives) e below)
+life_lived : (lives : List Life) (i : ℕ) (e : Event) (answer : Answer) (given : Option (List ℕ)) (n : ℕ) → n < length lives → life_in (lived lives i e answer given) n ≡ life_after n i e answer given (life_in lives n)
+life_lived lives i (Admit m spec) answer given n below = elim (cases_eq n m) [
+  | inl e ↦ ap (life_in (lived lives i (Admit m spec) answer given)) e ∙ get_or-set_same lives m (anew (life_in lives m)) no_life (subst (λ k. k < length lives) e below)
       ∙ ap (λ k. anew (life_in lives k)) (sym e) ∙ ap (λ b. cond b (anew (life_in lives n)) (life_in lives n)) (sym (eqb_same n) ∙ ap (λ k. k == n) e)
   | inr other ↦ get_or-set_other lives m n _ no_life other ∙ ap (λ b. cond b (anew (life_in lives n)) (life_in lives n)) (sym (eqb_other m n other))
 ]
-  where
-    anew : Life → Life
-    anew l = record { lives = l.lives + 1; set = None; counts = no_counts }
-life_lived lives i Rebalance n below = map_read (λ (l : Life). record l { set = Some i }) lives n below
-life_lived lives i _ n below = refl
+life_lived lives i Rebalance answer given n below = map_from_read (set_life i answer given) no_life lives n below
+life_lived lives i _ answer given n below = refl
 
-lived_long : (lives : List Life) (i : ℕ) (e : Event) → length (lived lives i e) ≡ length lives
-lived_long lives i (Admit m spec) = length-set lives m _
-lived_long lives i Rebalance = length-map lives _
-lived_long lives i _ = refl
+lived_long : (lives : List Life) (i : ℕ) (e : Event) (answer : Answer) (given : Option (List ℕ)) → length (lived lives i e answer given) ≡ length lives
+lived_long lives i (Admit m spec) answer given = length-set lives m _
+lived_long lives i Rebalance answer given = map_from_long (set_life i answer given) 0 lives
+lived_long lives i _ answer given = refl
 
-life_is : (ms : List Moment) (x : Moment) (n : ℕ) (l : Life) → IsLife ms n l
-    → IsLife (ms ++ x ∷ []) n (life_after n (length ms + 1) x.event (with_counts l (counted n (lost_at x) (counted n (gained_at x) l.counts))))
-life_is ms x n l is = by (admits n x.event) refl (is_rebalance x.event) refl
+-- what the moment asks for, if it is a rebalance
+abbrev pub IsAsking : Moment → Option (List ℕ) → ℕ → Type 0
+IsAsking x given n = is_rebalance x.event ≡ true → asked_for x.answer given n ≡ asked_by n (Some x)
+
+asked_last : (ms : List Moment) (x : Moment) (n : ℕ) → asked_by n (Some x) ≡ asked_since (ms ++ x ∷ []) n (Some (length ms + 1))
+asked_last ms x n =
+    let e : length ms ≡ length ms + 1 - 1 = omega arith in
+    sym (ap (asked_by n) (get_last ms x)) ∙ ap (λ k. asked_by n (slice_get (ms ++ x ∷ []) k)) e
+
+life_is : (ms : List Moment) (x : Moment) (given : Option (List ℕ)) (n : ℕ) (l : Life) → IsLife ms n l → IsAsking x given n
+    → IsLife (ms ++ x ∷ []) n (life_after n (length ms + 1) x.event x.answer given (with_counts l (counted n (lost_at x) (counted n (gained_at x) l.counts))))
+life_is ms x given n l is asks = by (admits n x.event) refl (is_rebalance x.event) refl
   where
     k : Counts
     k = counted n (lost_at x) (counted n (gained_at x) l.counts)
 
     by : (b : Bool) → admits n x.event ≡ b → (d : Bool) → is_rebalance x.event ≡ d
-        → IsLife (ms ++ x ∷ []) n (cond b (record { lives = l.lives + 1; set = None; counts = no_counts }) (cond d (record (with_counts l k) { set = Some (length ms + 1) }) (with_counts l k)))
-    by true e d f = record {
-      lives = ap (λ j. j + 1) is.lives ∙ sym (life_more n ms x 0 ∙ ap (λ b. cond b (life_from n ms 0 + 1) (life_from n ms 0)) e);
-      set = sym (set_more n 1 None ms x ∙ ap (λ b. cond b None (cond (is_rebalance x.event) (Some (1 + length ms)) (set_from n 1 None ms))) e);
-      counts = sym (counts_more n ms x no_counts ∙ ap (λ b. cond b no_counts (counted n (lost_at x) (counted n (gained_at x) (counts n ms)))) e);
-    }
-    by false e true f = record {
-      lives = is.lives ∙ sym (life_more n ms x 0 ∙ ap (λ b. cond b (life_from n ms 0 + 1) (life_from n ms 0)) e);
-      set = ap (λ j. Some j) (let h : length ms + 1 ≡ 1 + length ms = omega arith in h)
-          ∙ sym (set_more n 1 None ms x ∙ ap (λ b. cond b None (cond (is_rebalance x.event) (Some (1 + length ms)) (set_from n 1 None ms))) e ∙ ap (λ d. cond d (Some (1 + length ms)) (set_from n 1 None ms)) f);
-      counts = ap (λ (z : Counts). counted n (lost_at x) (counted n (gained_at x) z)) is.counts
-          ∙ sym (counts_more n ms x no_counts ∙ ap (λ b. cond b no_counts (counted n (lost_at x) (counted n (gained_at x) (counts n ms)))) e);
-    }
-    by false e false f = record {
-      lives = is.lives ∙ sym (life_more n ms x 0 ∙ ap (λ b. cond b (life_from n ms 0 + 1) (life_from n ms 0)) e);
-      set = is.set ∙ sym (set_more n 1 None ms x ∙ ap (λ b. cond b None (cond (is_rebalance x.event) (Some (1 + length ms)) (set_from n 1 None ms))) e ∙ ap (λ d. cond d (Some (1 + length ms)) (set_from n 1 None ms)) f);
-      counts = ap (λ (z : Counts). counted n (lost_at x) (counted n (gained_at x) z)) is.counts
-          ∙ sym (counts_more n ms x no_counts ∙ ap (λ b. cond b no_counts (counted n (lost_at x) (counted n (gained_at x) (counts n ms)))) e);
-    }
+        → IsLife (ms ++ x ∷ []) n (cond b (anew l) (cond d (set_life (length ms + 1) x.answer given n (with_counts l k)) (with_counts l k)))
+    by true e d f =
+        let now : None ≡ set_from n 1 None (ms ++ x ∷ []) = sym (set_more n 1 None ms x ∙ ap (λ b. cond b None (cond (is_rebalance x.event) (Some (1 + length ms)) (set_from n 1 None ms))) e) in
+        record {
+          lives = ap (λ j. j + 1) is.lives ∙ sym (life_more n ms x 0 ∙ ap (λ b. cond b (life_from n ms 0 + 1) (life_from n ms 0)) e);
+          set = now;
+          asked = ap (asked_since (ms ++ x ∷ []) n) now;
+          counts = sym (counts_more n ms x no_counts ∙ ap (λ b. cond b no_counts (counted n (lost_at x) (counted n (gained_at x) (counts n ms)))) e);
+        }
+    by false e true f =
+        let now : Some (length ms + 1) ≡ set_from n 1 None (ms ++ x ∷ []) =
+        ap (λ j. Some j) (let h : length ms + 1 ≡ 1 + length ms = omega arith in h)
+        ∙ sym (set_more n 1 None ms x ∙ ap (λ b. cond b None (cond (is_rebalance x.event) (Some (1 + length ms)) (set_from n 1 None ms))) e ∙ ap (λ d. cond d (Some (1 + length ms)) (set_from n 1 None ms)) f) in
+        record {
+          lives = is.lives ∙ sym (life_more n ms x 0 ∙ ap (λ b. cond b (life_from n ms 0 + 1) (life_from n ms 0)) e);
+          set = now;
+          asked = asks f ∙ asked_last ms x n ∙ ap (asked_since (ms ++ x ∷ []) n) now;
+          counts = ap (λ (z : Counts). counted n (lost_at x) (counted n (gained_at x) z)) is.counts
+              ∙ sym (counts_more n ms x no_counts ∙ ap (λ b. cond b no_counts (counted n (lost_at x) (counted n (gained_at x) (counts n ms)))) e);
+        }
+    by false e false f =
+        let now : set_from n 1 None ms ≡ set_from n 1 None (ms ++ x ∷ []) =
+        sym (set_more n 1 None ms x ∙ ap (λ b. cond b None (cond (is_rebalance x.event) (Some (1 + length ms)) (set_from n 1 None ms))) e ∙ ap (λ d. cond d (Some (1 + length ms)) (set_from n 1 None ms)) f) in
+        record {
+          lives = is.lives ∙ sym (life_more n ms x 0 ∙ ap (λ b. cond b (life_from n ms 0 + 1) (life_from n ms 0)) e);
+          set = is.set ∙ now;
+          asked = is.asked ∙ sym (asked_still ms x n) ∙ ap (asked_since (ms ++ x ∷ []) n) now;
+          counts = ap (λ (z : Counts). counted n (lost_at x) (counted n (gained_at x) z)) is.counts
+              ∙ sym (counts_more n ms x no_counts ∙ ap (λ b. cond b no_counts (counted n (lost_at x) (counted n (gained_at x) (counts n ms)))) e);
+        }
 
-lives_then : (c : Config) (ms : List Moment) (mets : List Met) (x : Moment) (a : Account) (n : ℕ) → Comes c ms mets x a → n < VM_NUMBERS
-    → IsLife (ms ++ x ∷ []) n (life_in (lived (counted_in (counted_in a.lives (gained_at x)) (lost_at x)) (length ms + 1) x.event) n)
-lives_then c ms mets x a n comes below =
+lives_then : (c : Config) (ms : List Moment) (mets : List Met) (x : Moment) (a : Account) (given : Option (List ℕ)) (n : ℕ) → Comes c ms mets x a → n < VM_NUMBERS → IsAsking x given n
+    → IsLife (ms ++ x ∷ []) n (life_in (lived (counted_in (counted_in a.lives (gained_at x)) (lost_at x)) (length ms + 1) x.event x.answer given) n)
+lives_then c ms mets x a given n comes below asks =
     let is = comes.account.lives n below in
     let numbers = comes.account.numbers in
     let l = life_in a.lives n in
@@ -119,7 +137,7 @@ lives_then c ms mets x a n comes below =
     let both : life_in two n ≡ with_counts l (counted n (lost_at x) (counted n (gained_at x) l.counts)) =
     second ∙ ap (λ (y : Life). with_counts y (counted n (lost_at x) y.counts)) first in
     let P : Life → Type 0 = IsLife (ms ++ x ∷ []) n in
-    subst P (sym (life_lived two (length ms + 1) x.event n (omega (arith, numbers, below, one_long, two_long)) ∙ ap (life_after n (length ms + 1) x.event) both)) (life_is ms x n l is)
+    subst P (sym (life_lived two (length ms + 1) x.event x.answer given n (omega (arith, numbers, below, one_long, two_long)) ∙ ap (life_after n (length ms + 1) x.event x.answer given) both)) (life_is ms x given n l is asks)
 
 -- A loss that is told when it comes.
 
@@ -146,11 +164,23 @@ no_waits n page k b o (m ∷ mets) early =
     let rest = no_waits n page k b o mets early.1 in
     omega (arith, a, zero_is, rest)
 
-abbrev told_with : ℕ → Change → Seen → ℕ → Option ℕ → Option ℕ → Option How → ℕ → Loss
-told_with i y seen life set back came count = record { at = i; change = y; life = life; set = set; seen = seen; back = back; came = came; waits = count }
+abbrev told_with : ℕ → Change → Seen → Answer → ℕ → Option ℕ → Option Asked → Option ℕ → Option How → ℕ → Loss
+told_with i y seen answer life set asked back came count = record {
+  at = i;
+  change = y;
+  life = life;
+  set = set;
+  asked = asked;
+  seen = seen;
+  slot = slot_by answer;
+  loan = loan_by answer;
+  back = back;
+  came = came;
+  waits = count;
+}
 
 new_told : (c : Config) (ms : List Moment) (mets : List Met) (x : Moment) (lives : List Life) (y : Change) → IsLife ms y.vm (life_in lives y.vm) → AllByRecursion (λ (m : Met). m.at ≤ length ms) mets
-    → new_loss lives (length ms + 1) (seen c x.before y.vm) y ≡ told_loss c (ms ++ x ∷ []) mets (1 + length ms) x y
+    → new_loss lives (length ms + 1) x.answer (seen c x.before y.vm) y ≡ told_loss c (ms ++ x ∷ []) mets (1 + length ms) x y
 new_told c ms mets x lives y is early =
     let later = ms ++ x ∷ [] in
     let i = 1 + length ms in
@@ -161,32 +191,37 @@ new_told c ms mets x lives y is early =
     let long = length-append ms (x ∷ []) in
     let none = back_none later i n page (omega (arith, long)) in
     let number : length ms + 1 ≡ i = omega arith in
-    ap (λ k. told_with k y s l.lives l.set None None 0) number
-    ∙ ap (λ k. told_with i y s k l.set None None 0) (is.lives ∙ ap (λ (zs : List Moment). life_from n zs 0) (sym (whole_front ms x)))
-    ∙ ap (λ o. told_with i y s (life_from n (take (i - 1) later) 0) o None None 0) (is.set ∙ ap (λ (zs : List Moment). set_from n 1 None zs) (sym (whole_front ms x)))
-    ∙ ap (λ k. told_with i y s (life_from n (take (i - 1) later) 0) (set_from n 1 None (take (i - 1) later)) None None k) (sym (no_waits n page (length ms) (back later i n page) (over later i n page) mets early))
-    ∙ ap (λ o. told_with i y s (life_from n (take (i - 1) later) 0) (set_from n 1 None (take (i - 1) later)) o (came_by later o) (waits later mets i n page)) (sym none.0)
+    let front = take (i - 1) later in
+    let life = life_from n front 0 in
+    let set = set_from n 1 None front in
+    ap (λ k. told_with k y s x.answer l.lives l.set l.asked None None 0) number
+    ∙ ap (λ k. told_with i y s x.answer k l.set l.asked None None 0) (is.lives ∙ ap (λ (zs : List Moment). life_from n zs 0) (sym (whole_front ms x)))
+    ∙ ap (λ o. told_with i y s x.answer life o l.asked None None 0) (is.set ∙ ap (λ (zs : List Moment). set_from n 1 None zs) (sym (whole_front ms x)))
+    ∙ ap (λ o. told_with i y s x.answer life set o None None 0) (is.asked ∙ sym (asked_still ms x n) ∙ ap (λ (zs : List Moment). asked_since later n (set_from n 1 None zs)) (sym (whole_front ms x)))
+    ∙ ap (λ k. told_with i y s x.answer life set (asked_since later n set) None None k) (sym (no_waits n page (length ms) (back later i n page) (over later i n page) mets early))
+    ∙ ap (λ o. told_with i y s x.answer life set (asked_since later n set) o (came_by later o) (waits later mets i n page)) (sym none.0)
 
 losses_then : (c : Config) (ms : List Moment) (mets : List Met) (x : Moment) (a : Account) (s : Seen) (o : Option Change) → Comes c ms mets x a → lost_at x ≡ o → ((y : Change) → lost_at x ≡ Some y → (y.vm < VM_NUMBERS) × (s ≡ seen c x.before y.vm))
-    → with_loss (front ms x a) a.lives (length ms + 1) (Some s) o ≡ told c (ms ++ x ∷ []) mets
+    → with_loss (front ms x a) a.lives (length ms + 1) x.answer (Some s) o ≡ told c (ms ++ x ∷ []) mets
 losses_then c ms mets x a s o comes is about =
     by o is
     ∙ ap (λ ls. map (renewed (ms ++ x ∷ []) mets) ls ++ told_at c (ms ++ x ∷ []) mets (1 + length ms) x (lost_at x)) comes.account.losses ∙ sym (told_more c ms x mets)
   where
-    by : (o : Option Change) → lost_at x ≡ o → with_loss (front ms x a) a.lives (length ms + 1) (Some s) o ≡ map (renewed (ms ++ x ∷ []) mets) a.losses ++ told_at c (ms ++ x ∷ []) mets (1 + length ms) x (lost_at x)
+    by : (o : Option Change) → lost_at x ≡ o → with_loss (front ms x a) a.lives (length ms + 1) x.answer (Some s) o ≡ map (renewed (ms ++ x ∷ []) mets) a.losses ++ told_at c (ms ++ x ∷ []) mets (1 + length ms) x (lost_at x)
     by None e = closed_are c ms mets x a comes ∙ sym (append-nil (map (renewed (ms ++ x ∷ []) mets) a.losses))
         ∙ ap (λ z. map (renewed (ms ++ x ∷ []) mets) a.losses ++ told_at c (ms ++ x ∷ []) mets (1 + length ms) x z) (sym e)
     by (Some y) e =
         let known = about y e in
-        ap (λ ls. ls ++ new_loss a.lives (length ms + 1) s y ∷ []) (closed_are c ms mets x a comes)
-        ∙ ap (λ z. map (renewed (ms ++ x ∷ []) mets) a.losses ++ new_loss a.lives (length ms + 1) z y ∷ []) known.1
+        ap (λ ls. ls ++ new_loss a.lives (length ms + 1) x.answer s y ∷ []) (closed_are c ms mets x a comes)
+        ∙ ap (λ z. map (renewed (ms ++ x ∷ []) mets) a.losses ++ new_loss a.lives (length ms + 1) x.answer z y ∷ []) known.1
         ∙ ap (λ l. map (renewed (ms ++ x ∷ []) mets) a.losses ++ l ∷ []) (new_told c ms mets x a.lives y (comes.account.lives y.vm known.0) comes.account.early)
         ∙ ap (λ z. map (renewed (ms ++ x ∷ []) mets) a.losses ++ told_at c (ms ++ x ∷ []) mets (1 + length ms) x z) (sym e)
 
 -- The account goes on.
 
--- what was seen before a loss is told with it, and its page has a place
-pub record IsReady (c : Config) (x : Moment) (a : Account) (s : Seen) : Type 0 where
+-- what was seen before a loss is told with it, and its page has a place; and what a rebalance asks for is known
+pub record IsReady (c : Config) (x : Moment) (a : Account) (s : Seen) (given : Option (List ℕ)) : Type 0 where
+  pub asks : (n : ℕ) → n < VM_NUMBERS → IsAsking x given n
   pub room : HasRoom x a.places
   pub told : (y : Change) → lost_at x ≡ Some y → s ≡ seen c x.before y.vm
 
@@ -202,22 +237,22 @@ opened_long : (rows : List (List ℕ)) (k : ℕ) (o : Option Change) → length 
 opened_long rows k None = refl
 opened_long rows k (Some y) = length-set rows y.vm _
 
-pub account_goes_on : (c : Config) (ms : List Moment) (mets : List Met) (x : Moment) (a : Account) (s : Seen) → Comes c ms mets x a → IsReady c x a s
-    → IsAccount c (ms ++ x ∷ []) mets x.after.site (gone_on a x.event x.answer (Some s) (lost_at x) (gained_at x))
-account_goes_on c ms mets x a s comes ready =
+pub account_goes_on : (c : Config) (ms : List Moment) (mets : List Met) (x : Moment) (a : Account) (s : Seen) (given : Option (List ℕ)) → Comes c ms mets x a → IsReady c x a s given
+    → IsAccount c (ms ++ x ∷ []) mets x.after.site (gone_on a x.event x.answer (Some s) given (lost_at x) (gained_at x))
+account_goes_on c ms mets x a s given comes ready =
     let events = comes.account.events in
     let next : a.events + 1 ≡ length ms + 1 = ap (λ k. k + 1) events in
     let P : ℕ → Type 0 = λ i. IsAccount c (ms ++ x ∷ []) mets x.after.site (record {
       events = i;
-      losses = with_loss (closed a.losses a.places i (gained_at x)) a.lives i (Some s) (lost_at x);
-      lives = lived (counted_in (counted_in a.lives (gained_at x)) (lost_at x)) i x.event;
+      losses = with_loss (closed a.losses a.places i (gained_at x)) a.lives i x.answer (Some s) (lost_at x);
+      lives = lived (counted_in (counted_in a.lives (gained_at x)) (lost_at x)) i x.event x.answer given;
       places = opened (places_then x a) (length a.losses + 1) (lost_at x);
     }) in
     subst P (sym next) (record {
       events = sym (length-append ms (x ∷ []));
       losses = losses_then c ms mets x a s (lost_at x) comes refl (λ y e. ((ready.room y e).0, ready.told y e));
-      lives = λ n below. lives_then c ms mets x a n comes below;
-      numbers = lived_long (counted_in (counted_in a.lives (gained_at x)) (lost_at x)) (length ms + 1) x.event ∙ counted_long (counted_in a.lives (gained_at x)) (lost_at x) ∙ counted_long a.lives (gained_at x) ∙ comes.account.numbers;
+      lives = λ n below. lives_then c ms mets x a given n comes below (ready.asks n below);
+      numbers = lived_long (counted_in (counted_in a.lives (gained_at x)) (lost_at x)) (length ms + 1) x.event x.answer given ∙ counted_long (counted_in a.lives (gained_at x)) (lost_at x) ∙ counted_long a.lives (gained_at x) ∙ comes.account.numbers;
       rows = opened_long (places_then x a) (length a.losses + 1) (lost_at x) ∙ cleared_long (shut a.places (gained_at x)) x.event x.answer ∙ shut_long a.places (gained_at x) ∙ comes.account.rows;
       found = λ j l there stands. found_then c ms mets x a s (length ms + 1) (lost_at x) j l comes ready.room refl there stands;
       holds = λ n page j h. holds_then c ms mets x a s (length ms + 1) (lost_at x) n page j comes ready.room refl refl h;

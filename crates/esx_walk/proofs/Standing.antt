@@ -129,7 +129,7 @@ abbrev apart : Change → ℕ → ℕ → Type 0
 apart y n page = n ≡ y.vm → page ≡ y.page → ⊥
 
 pub holds_then : (c : Config) (ms : List Moment) (mets : List Met) (x : Moment) (a : Account) (seen : Seen) (i : ℕ) (o : Option Change) (n page j : ℕ) → Comes c ms mets x a → HasRoom x a.places → i ≡ length ms + 1 → lost_at x ≡ o
-    → open_in (opened (places_then x a) (length a.losses + 1) o) n page ≡ suc j → Holds (ms ++ x ∷ []) (with_loss (front ms x a) a.lives i (Some seen) o) n page j
+    → open_in (opened (places_then x a) (length a.losses + 1) o) n page ≡ suc j → Holds (ms ++ x ∷ []) (with_loss (front ms x a) a.lives i x.answer (Some seen) o) n page j
 holds_then c ms mets x a seen i None n page j comes room number is h = hold_front c ms mets x a n page j comes h
 holds_then c ms mets x a seen i (Some y) n page j comes room number is h = elim (cases_eq n y.vm) [
   | inl e ↦ elim (cases_eq page y.page) [
@@ -140,7 +140,7 @@ holds_then c ms mets x a seen i (Some y) n page j comes room number is h = elim 
 ]
   where
     l : Loss
-    l = new_loss a.lives i seen y
+    l = new_loss a.lives i x.answer seen y
 
     later : apart y n page → Holds (ms ++ x ∷ []) (front ms x a ++ l ∷ []) n page j
     later away = hold_more (ms ++ x ∷ []) (front ms x a) l n page j (hold_front c ms mets x a n page j comes (sym (open_other (places_then x a) y.vm y.page n page (length a.losses + 1) away) ∙ h))
@@ -196,17 +196,17 @@ kept_front c ms mets x a j l comes there is =
     subst Q k.2 (record { place = place; before = found.away; after = st.away })
 
 pub found_then : (c : Config) (ms : List Moment) (mets : List Met) (x : Moment) (a : Account) (seen : Seen) (i : ℕ) (o : Option Change) (j : ℕ) (l : Loss) → Comes c ms mets x a → HasRoom x a.places → lost_at x ≡ o
-    → slice_get (with_loss (front ms x a) a.lives i (Some seen) o) j ≡ Some l → IsOpen (ms ++ x ∷ []) l → IsFound x.after.site (opened (places_then x a) (length a.losses + 1) o) j l
+    → slice_get (with_loss (front ms x a) a.lives i x.answer (Some seen) o) j ≡ Some l → IsOpen (ms ++ x ∷ []) l → IsFound x.after.site (opened (places_then x a) (length a.losses + 1) o) j l
 found_then c ms mets x a seen i None j l comes room is there stands = (let kept = kept_front c ms mets x a j l comes there stands in record { place = kept.place; away = kept.after })
 found_then c ms mets x a seen i (Some y) j l comes room is there stands = elim (cases_lt j (length (front ms x a))) [
-  | inl below ↦ (let kept = kept_front c ms mets x a j l comes (sym (get_front (front ms x a) (new_loss a.lives i seen y) j below) ∙ there) stands in
+  | inl below ↦ (let kept = kept_front c ms mets x a j l comes (sym (get_front (front ms x a) (new_loss a.lives i x.answer seen y) j below) ∙ there) stands in
       let was = (comes.step.lost y is).0 in
       record {
         place = open_other (places_then x a) y.vm y.page l.change.vm l.change.page (length a.losses + 1)
             (λ p q. away_not_here x.before.site l.change.vm l.change.page kept.before (ap (λ n. has_here x.before.site n l.change.page) p ∙ ap (has_here x.before.site y.vm) q ∙ was)) ∙ kept.place;
         away = kept.after;
       })
-  | inr past ↦ (let last = get_past (front ms x a) (new_loss a.lives i seen y) l j there past in
+  | inr past ↦ (let last = get_past (front ms x a) (new_loss a.lives i x.answer seen y) l j there past in
       let rows = places_then x a in
       let long : length (get_or rows y.vm []) ≡ length (get_or a.places y.vm []) =
       ap (λ (rs : List (List ℕ)). length (get_or rs y.vm [])) (clear_none (shut a.places (gained_at x)) x.event x.answer x.before.site y is) ∙ row_long a.places (gained_at x) y.vm in

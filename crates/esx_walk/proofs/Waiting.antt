@@ -1,4 +1,4 @@
--- An account after an event that is refused: what waits for a page.
+-- An account after a call that is refused: what waits for a page.
 use Rattle.std.proofs.Common.{zero, suc, ◌≡◌, ℕ, ◌+◌, ◌<◌, ◌≤◌, ◌&&◌, nat_lt, nat_le, Bool, true, false, List, [], ◌∷◌, ◌++◌, length, map, set, slice_get, count_by, refl, sym, ap, ◌∙◌, subst, arith, cond, Option, Some, None, inl, inr, ◌==◌}
 use Rattle.std.specs.Option.{option_map}
 use Rattle.std.proofs.lemmas.List.Sums.{sum_by-cons, count_by-le-length}
@@ -6,8 +6,6 @@ use Rattle.std.proofs.lemmas.Bool.{cases_eq}
 use Rattle.std.proofs.lemmas.Bool.Decides.{nat_tests}
 use Rattle.std.proofs.lemmas.Option.{slice_get-map}
 use Rattle.esx_types.specs.declared.config.Config.{Config}
-use Rattle.esx_events.specs.declared.event.Event.{Event}
-use Rattle.esx_events.specs.declared.event.Event.TheVariants.{Read, Write}
 use Rattle.esx_model.specs.declared.scene.Site.{Site}
 use Rattle.esx_model.proofs.Callers.{all_append, eqb_same}
 use Rattle.esx_story.specs.declared.change.Change.{Change}
@@ -16,13 +14,13 @@ use Rattle.esx_story.specs.Moments.{Moment}
 use Rattle.esx_story.specs.Losses.{lost_at}
 use Rattle.esx_story.specs.Spans.{back, over}
 use Rattle.esx_model.specs.Guests.{is_pressed}
-use Rattle.esx_story.specs.Waits.{Met, accesses, is_wait, is_before, waits}
+use Rattle.esx_story.specs.Waits.{Met, is_page, is_wait, is_before, waits}
 use Rattle.esx_story.specs.Story.{told_at, told_from}
 use Rattle.esx_story.proofs.Backs.{back_first, over_first}
 use Rattle.esx_walk.proofs.Along.{renewed}
 use Rattle.std.proofs.lemmas.Option.{slice_get_within}
 use Rattle.std.proofs.lemmas.List.{map-append}
-use Rattle.esx_walk.specs.Account.{Account, open_in, access_of, wanted_by, waited_one, waited_loss, waited_at, waited, refused}
+use Rattle.esx_walk.specs.Account.{Account, open_in, wanted_by, waited_one, waited_loss, waited_at, waited, refused}
 use Rattle.esx_walk.specs.Accounts.{IsOpen, IsFound, IsAccount}
 use Rattle.esx_walk.proofs.Lists.{get_set_same, get_set_other, same_lists}
 use Rattle.esx_walk.proofs.Renewed.{IsTold, is_told}
@@ -129,10 +127,9 @@ same_pair m p n page h =
     let two = both_of (m == n) (p == page) h in
     ap (λ k. pair k p) (equal m n two.0) ∙ ap (pair n) (equal p page two.1)
 
-access_named : (n page : ℕ) (e : Event) → accesses n page e ≡ true → access_of e ≡ Some (n, page)
-access_named n page (Read m other at len) h = same_pair m other n page h
-access_named n page (Write m other at new) h = same_pair m other n page h
-access_named n page _ h = absurd (no_truth h)
+access_named : (n page : ℕ) (o : Option (ℕ × ℕ)) → is_page n page o ≡ true → o ≡ Some (n, page)
+access_named n page None h = absurd (no_truth h)
+access_named n page (Some p) h = same_pair p.0 p.1 n page h
 
 no_pair : (n page : ℕ) → None ≡ pair n page → ⊥
 no_pair n page h = cc
@@ -153,21 +150,20 @@ named_again m p n page h =
     let two = one_pair m p n page h in
     ap (λ k. (k == n) && (p == page)) two.0 ∙ ap (λ k. (n == n) && (k == page)) two.1 ∙ ap (λ b. b && (page == page)) (eqb_same n) ∙ eqb_same page
 
-named_access : (n page : ℕ) (e : Event) → access_of e ≡ Some (n, page) → accesses n page e ≡ true
-named_access n page (Read m other at len) h = named_again m other n page h
-named_access n page (Write m other at new) h = named_again m other n page h
-named_access n page _ h = absurd (no_pair n page h)
+named_access : (n page : ℕ) (o : Option (ℕ × ℕ)) → o ≡ Some (n, page) → is_page n page o ≡ true
+named_access n page None h = absurd (no_pair n page h)
+named_access n page (Some p) h = named_again p.0 p.1 n page h
 
-wait_named : (n page : ℕ) (m : Met) → is_wait n page m ≡ true → wanted_by m.event m.refusal ≡ Some (n, page)
+wait_named : (n page : ℕ) (m : Met) → is_wait n page m ≡ true → wanted_by m.access m.refusal ≡ Some (n, page)
 wait_named n page m h =
-    let two = both_of (accesses n page m.event) (is_pressed m.refusal) h in
-    ap (λ b. cond b (access_of m.event) None) two.1 ∙ access_named n page m.event two.0
+    let two = both_of (is_page n page m.access) (is_pressed m.refusal) h in
+    ap (λ b. cond b (m.access) None) two.1 ∙ access_named n page m.access two.0
 
-named_wait : (n page : ℕ) (m : Met) (b : Bool) → is_pressed m.refusal ≡ b → cond b (access_of m.event) None ≡ Some (n, page) → (accesses n page m.event && b) ≡ true
+named_wait : (n page : ℕ) (m : Met) (b : Bool) → is_pressed m.refusal ≡ b → cond b (m.access) None ≡ Some (n, page) → (is_page n page m.access && b) ≡ true
 named_wait n page m false is h = absurd (no_pair n page h)
-named_wait n page m true is h = ap (λ a. a && true) (named_access n page m.event h)
+named_wait n page m true is h = ap (λ a. a && true) (named_access n page m.access h)
 
-wait_is : (n page : ℕ) (m : Met) → wanted_by m.event m.refusal ≡ Some (n, page) → is_wait n page m ≡ true
+wait_is : (n page : ℕ) (m : Met) → wanted_by m.access m.refusal ≡ Some (n, page) → is_wait n page m ≡ true
 wait_is n page m h = named_wait n page m (is_pressed m.refusal) refl h
 
 -- A loss after it.
@@ -207,7 +203,7 @@ told_here c ms mets s a k l account there = is_told c ms mets k l (ap (λ ls. sl
 
 -- one that does not wait
 idle : (c : Config) (ms : List Moment) (mets : List Met) (m : Met) (s : Site) (a : Account) (k : ℕ) (o : Option Loss) → IsAccount c ms mets s a → IsLate ms mets m → slice_get a.losses k ≡ o
-    → ((n page : ℕ) → wanted_by m.event m.refusal ≡ Some (n, page) → open_in a.places n page ≡ suc k → ⊥) → o ≡ option_map (renewed ms (mets ++ m ∷ [])) o
+    → ((n page : ℕ) → wanted_by m.access m.refusal ≡ Some (n, page) → open_in a.places n page ≡ suc k → ⊥) → o ≡ option_map (renewed ms (mets ++ m ∷ [])) o
 idle c ms mets m s a k None account is there none = refl
 idle c ms mets m s a k (Some l) account is there none = by (test ms m l.at l.change.vm l.change.page) refl
   where
@@ -229,7 +225,7 @@ no_place : (k : ℕ) → 0 ≡ suc k → ⊥
 no_place k h = omega (arith, h)
 
 -- the one that waits
-busy : (c : Config) (ms : List Moment) (mets : List Met) (m : Met) (s : Site) (a : Account) (n page j k : ℕ) → IsAccount c ms mets s a → IsLate ms mets m → wanted_by m.event m.refusal ≡ Some (n, page) → open_in a.places n page ≡ suc j
+busy : (c : Config) (ms : List Moment) (mets : List Met) (m : Met) (s : Site) (a : Account) (n page j k : ℕ) → IsAccount c ms mets s a → IsLate ms mets m → wanted_by m.access m.refusal ≡ Some (n, page) → open_in a.places n page ≡ suc j
     → slice_get (waited_loss a.losses j (slice_get a.losses j)) k ≡ option_map (renewed ms (mets ++ m ∷ [])) (slice_get a.losses k)
 busy c ms mets m s a n page j k account is wants place =
     let held = account.holds n page j place in
@@ -247,7 +243,7 @@ busy c ms mets m s a n page j k account is wants place =
           other (one_place k j (sym at ∙ ap (λ v. open_in a.places v r) (sym two.0) ∙ ap (open_in a.places n) (sym two.1) ∙ place))))
     ]
 
-each_after : (c : Config) (ms : List Moment) (mets : List Met) (m : Met) (s : Site) (a : Account) (o : Option (ℕ × ℕ)) (k : ℕ) → IsAccount c ms mets s a → IsLate ms mets m → wanted_by m.event m.refusal ≡ o
+each_after : (c : Config) (ms : List Moment) (mets : List Met) (m : Met) (s : Site) (a : Account) (o : Option (ℕ × ℕ)) (k : ℕ) → IsAccount c ms mets s a → IsLate ms mets m → wanted_by m.access m.refusal ≡ o
     → slice_get (waited a.losses a.places o) k ≡ option_map (renewed ms (mets ++ m ∷ [])) (slice_get a.losses k)
 each_after c ms mets m s a None k account is wants = idle c ms mets m s a k (slice_get a.losses k) account is refl (λ n page h at. no_pair n page (sym wants ∙ h))
 each_after c ms mets m s a (Some p) k account is wants = by (open_in a.places p.0 p.1) refl
@@ -257,9 +253,9 @@ each_after c ms mets m s a (Some p) k account is wants = by (open_in a.places p.
         (λ n page h at. (let two = one_pair p.0 p.1 n page (sym wants ∙ h) in no_place k (sym place ∙ ap (λ v. open_in a.places v p.1) two.0 ∙ ap (open_in a.places n) two.1 ∙ at)))
     by (suc j) place = busy c ms mets m s a p.0 p.1 j k account is wants place
 
-losses_after : (c : Config) (ms : List Moment) (mets : List Met) (m : Met) (s : Site) (a : Account) → IsAccount c ms mets s a → IsLate ms mets m → waited a.losses a.places (wanted_by m.event m.refusal) ≡ map (renewed ms (mets ++ m ∷ [])) a.losses
-losses_after c ms mets m s a account is = same_lists (waited a.losses a.places (wanted_by m.event m.refusal)) (map (renewed ms (mets ++ m ∷ [])) a.losses)
-    (λ k. each_after c ms mets m s a (wanted_by m.event m.refusal) k account is refl ∙ sym (slice_get-map (renewed ms (mets ++ m ∷ [])) a.losses k))
+losses_after : (c : Config) (ms : List Moment) (mets : List Met) (m : Met) (s : Site) (a : Account) → IsAccount c ms mets s a → IsLate ms mets m → waited a.losses a.places (wanted_by m.access m.refusal) ≡ map (renewed ms (mets ++ m ∷ [])) a.losses
+losses_after c ms mets m s a account is = same_lists (waited a.losses a.places (wanted_by m.access m.refusal)) (map (renewed ms (mets ++ m ∷ [])) a.losses)
+    (λ k. each_after c ms mets m s a (wanted_by m.access m.refusal) k account is refl ∙ sym (slice_get-map (renewed ms (mets ++ m ∷ [])) a.losses k))
 
 some_loss : (x y : Loss) → Some x ≡ Some y → x ≡ y
 some_loss x y h = cc
@@ -271,7 +267,7 @@ renewed_from f None l h = absurd (no_loss l h)
     no_loss l h = cc
 renewed_from f (Some k) l h = (k, refl, some_loss (f k) l h)
 
-pub refusal_goes_on : (c : Config) (ms : List Moment) (mets : List Met) (m : Met) (s : Site) (a b : Account) → b ≡ refused a m.event m.refusal → IsAccount c ms mets s a → IsLate ms mets m → IsAccount c ms (mets ++ m ∷ []) s b
+pub refusal_goes_on : (c : Config) (ms : List Moment) (mets : List Met) (m : Met) (s : Site) (a b : Account) → b ≡ refused a m.access m.refusal → IsAccount c ms mets s a → IsLate ms mets m → IsAccount c ms (mets ++ m ∷ []) s b
 refusal_goes_on c ms mets m s a b gives account is =
     let f : Loss → Loss = renewed ms (mets ++ m ∷ []) in
     let same = losses_after c ms mets m s a account is in

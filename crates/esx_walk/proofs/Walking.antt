@@ -35,12 +35,14 @@ use Rattle.esx_story.specs.Waits.{Met}
 use Rattle.esx_story.proofs.Enough.{reading_enough}
 use Rattle.esx_story.proofs.Told.{loss_told}
 use Rattle.esx_story.proofs.Walked.{path_told}
-use Rattle.esx_walk.specs.Account.{Account}
+use Rattle.esx_walk.specs.Account.{Account, asked_for}
 use Rattle.esx_walk.specs.Accounts.{IsAccount, IsNext}
 use Rattle.esx_walk.specs.Few.{IsShort, IsPatient}
+use Rattle.esx_walk.specs.Holding.{held_before, given_after}
 use Rattle.esx_walk.specs.Looking.{losing, IsPrepared}
 use Rattle.esx_walk.specs.Walks.{Walked, IsWalk, MayGoOn, MayRefuse}
 use Rattle.esx_walk.proofs.Along.{moment_of, moments_more}
+use Rattle.esx_walk.proofs.Held.{asked_then}
 
 -- A page that is here is one of a machine that is there.
 
@@ -92,10 +94,10 @@ losing_named _ _ before y h = absurd (no_change y h)
 abbrev pub read_before : Config → Scene → Event → Result PageState Refusal
 read_before c t e = said_before (shown c t) (named_page e)
 
-pub comes_next : (c : Config) (t u : Scene) (e : Event) (answer : Answer) (places : List (List ℕ)) (s : Option Seen) (lost gained : Option Change) → IsSound c t.site → next c t e ≡ Ok (answer, u)
-    → lost ≡ lost_by e answer (read_before c t e) → gained ≡ gained_from e (read_before c t e) → IsPrepared c t (losing e (read_before c t e)) places s
-    → IsNext c (moment_of e answer t u) places e answer s lost gained
-comes_next c t u e answer places s lost gained sound goes loses gains ready =
+pub comes_next : (c : Config) (t u : Scene) (e : Event) (answer : Answer) (places : List (List ℕ)) (s : Option Seen) (given : Option (List ℕ)) (lost gained : Option Change) → IsSound c t.site → next c t e ≡ Ok (answer, u)
+    → lost ≡ lost_by e answer (read_before c t e) → gained ≡ gained_from e (read_before c t e) → IsPrepared c t (losing e (read_before c t e)) places s → given ≡ given_after u.site (held_before t e)
+    → IsNext c (moment_of e answer t u) places e answer s given lost gained
+comes_next c t u e answer places s given lost gained sound goes loses gains ready gives =
     let enough = reading_enough c t e (answer, u) sound goes in
     record {
       sound = sound;
@@ -104,6 +106,7 @@ comes_next c t u e answer places s lost gained sound goes loses gains ready =
       told = refl;
       loses = enough.0 ∙ sym loses;
       gains = enough.1 ∙ sym gains;
+      asks = λ n below is. ap (λ (o : Option (List ℕ)). asked_for answer o n) gives ∙ asked_then c t u e answer n sound below is;
       about = λ y h. (let looked = ready y.vm (losing_named e answer (read_before c t e) y (sym loses ∙ h)) in
           let here = (loss_told c t e (answer, u) y.vm y.page sound goes).1 (y.how, enough.0 ∙ sym loses ∙ h) in
           let there = here_there c t.site y.vm y.page sound here.0 in

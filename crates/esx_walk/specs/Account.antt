@@ -1,16 +1,19 @@
 -- What a walk keeps of the path behind it, and how it goes on with one more event.
-use Rattle.std.specs.Prelude.{ℕ, suc, zero, ◌+◌, ◌-◌, nat_lt, replicate, List, [], ◌∷◌, ◌++◌, length, map, slice_get, slice_index_or, slice_set, Option, Some, None, if◌then◌else◌}
+use Rattle.std.specs.Prelude.{ℕ, suc, zero, ◌+◌, ◌-◌, nat_lt, replicate, List, [], ◌∷◌, ◌++◌, length, slice_get, slice_index_or, slice_set, Option, Some, None, if◌then◌else◌}
 use Rattle.esx_types.specs.declared.config.TheConstants.{VM_NUMBERS}
 use Rattle.esx_events.specs.declared.event.Event.{Event}
-use Rattle.esx_events.specs.declared.event.Event.TheVariants.{Admit, Read, Write, Gone, Rebalance}
+use Rattle.esx_events.specs.declared.event.Event.TheVariants.{Admit, Gone, Rebalance}
 use Rattle.esx_events.specs.declared.event.Refusal.{Refusal}
 use Rattle.esx_events.specs.declared.event.Answer.{Answer}
 use Rattle.esx_events.specs.declared.event.Answer.TheVariants as answers
 use Rattle.esx_story.specs.declared.story.Loss.{Loss}
 use Rattle.esx_story.specs.declared.story.Seen.{Seen}
+use Rattle.esx_story.specs.declared.change.Asked.{Asked}
 use Rattle.esx_story.specs.declared.change.How.{How}
 use Rattle.esx_story.specs.declared.change.Change.{Change}
 use Rattle.esx_story.specs.Counts.{no_counts, with_change}
+use Rattle.esx_story.specs.Losses.{slot_by, loan_by}
+use Rattle.esx_story.specs.Waits.{asked_in}
 use Rattle.esx_model.specs.Guests.{is_pressed}
 use Rattle.esx_walk.specs.declared.lives.Life.{Life}
 
@@ -22,7 +25,7 @@ pub record Account : Type 0 where
   pub places : List (List ℕ)
 
 abbrev pub no_life : Life
-no_life = record { lives = 0; set = None; counts = no_counts }
+no_life = record { lives = 0; set = None; asked = None; counts = no_counts }
 
 abbrev pub life_in : List Life → ℕ → Life
 life_in lives n = slice_index_or lives n no_life
@@ -67,13 +70,8 @@ opened rows place (Some y) = with_open rows y.vm y.page place
 
 -- An access that is refused for want of a frame: the loss of its page that stands open waits once more.
 
-abbrev pub access_of : Event → Option (ℕ × ℕ)
-access_of (Read n page at len) = Some (n, page)
-access_of (Write n page at new) = Some (n, page)
-access_of _ = None
-
-abbrev pub wanted_by : Event → Refusal → Option (ℕ × ℕ)
-wanted_by e r = if is_pressed r then access_of e else None
+abbrev pub wanted_by : Option (ℕ × ℕ) → Refusal → Option (ℕ × ℕ)
+wanted_by access r = if is_pressed r then access else None
 
 abbrev pub waited_one : Loss → Loss
 waited_one l = record l { waits = l.waits + 1 }
@@ -96,29 +94,52 @@ abbrev pub counted_in : List Life → Option Change → List Life
 counted_in lives None = lives
 counted_in lives (Some y) = slice_set lives y.vm (record (life_in lives y.vm) { counts = with_change (life_in lives y.vm).counts y.how })
 
-abbrev pub all_set : ℕ → List Life → List Life
-all_set i lives = map (λ (l : Life). record l { set = Some i }) lives
+-- what a rebalance asked for, also of machine n, where it is known what each gave
+abbrev pub asked_for : Answer → Option (List ℕ) → ℕ → Option Asked
+asked_for answer None n = None
+asked_for answer (Some given) n = asked_in answer (slice_index_or given n 0)
 
-abbrev pub lived : List Life → ℕ → Event → List Life
-lived lives i (Admit n spec) = slice_set lives n (record { lives = (life_in lives n).lives + 1; set = None; counts = no_counts })
-lived lives i Rebalance = all_set i lives
-lived lives i _ = lives
+-- each changed as its place tells, which is n of the first
+abbrev pub map_from : {A : Type 0} → (ℕ → A → A) → ℕ → List A → List A
+map_from f n [] = []
+map_from f n (x ∷ xs) = f n x ∷ map_from f (n + 1) xs
+
+-- a rebalance, the i-th event, sets the targets of each
+abbrev pub set_life : ℕ → Answer → Option (List ℕ) → ℕ → Life → Life
+set_life i answer given n l = record l { set = Some i; asked = asked_for answer given n }
+
+abbrev pub lived : List Life → ℕ → Event → Answer → Option (List ℕ) → List Life
+lived lives i (Admit n spec) answer given = slice_set lives n (record { lives = (life_in lives n).lives + 1; set = None; asked = None; counts = no_counts })
+lived lives i Rebalance answer given = map_from (set_life i answer given) 0 lives
+lived lives i _ answer given = lives
 
 -- a loss that is told when it comes, if something was seen before it
-abbrev pub new_loss : List Life → ℕ → Seen → Change → Loss
-new_loss lives i seen y = record { at = i; change = y; life = (life_in lives y.vm).lives; set = (life_in lives y.vm).set; seen = seen; back = None; came = None; waits = 0 }
+abbrev pub new_loss : List Life → ℕ → Answer → Seen → Change → Loss
+new_loss lives i answer seen y = record {
+  at = i;
+  change = y;
+  life = (life_in lives y.vm).lives;
+  set = (life_in lives y.vm).set;
+  asked = (life_in lives y.vm).asked;
+  seen = seen;
+  slot = slot_by answer;
+  loan = loan_by answer;
+  back = None;
+  came = None;
+  waits = 0;
+}
 
-abbrev pub with_loss : List Loss → List Life → ℕ → Option Seen → Option Change → List Loss
-with_loss losses lives i seen None = losses
-with_loss losses lives i None (Some y) = losses
-with_loss losses lives i (Some seen) (Some y) = losses ++ new_loss lives i seen y ∷ []
+abbrev pub with_loss : List Loss → List Life → ℕ → Answer → Option Seen → Option Change → List Loss
+with_loss losses lives i answer seen None = losses
+with_loss losses lives i answer None (Some y) = losses
+with_loss losses lives i answer (Some seen) (Some y) = losses ++ new_loss lives i answer seen y ∷ []
 
--- after one more event, what was seen of its machine before it, and what it lost and gained
-abbrev pub gone_on : Account → Event → Answer → Option Seen → Option Change → Option Change → Account
-gone_on a e answer seen lost gained = record {
+-- after one more event, what was seen of its machine before it, what each machine gave where it set targets, and what it lost and gained
+abbrev pub gone_on : Account → Event → Answer → Option Seen → Option (List ℕ) → Option Change → Option Change → Account
+gone_on a e answer seen given lost gained = record {
   events = a.events + 1;
-  losses = with_loss (closed a.losses a.places (a.events + 1) gained) a.lives (a.events + 1) seen lost;
-  lives = lived (counted_in (counted_in a.lives gained) lost) (a.events + 1) e;
+  losses = with_loss (closed a.losses a.places (a.events + 1) gained) a.lives (a.events + 1) answer seen lost;
+  lives = lived (counted_in (counted_in a.lives gained) lost) (a.events + 1) e answer given;
   places = opened (cleared (shut a.places gained) e answer) (length a.losses + 1) lost;
 }
 
@@ -130,6 +151,6 @@ roomy rows n pages = if nat_lt (length (slice_index_or rows n [])) pages then sl
 abbrev pub nothing : Account
 nothing = record { events = 0; losses = []; lives = replicate VM_NUMBERS no_life; places = replicate VM_NUMBERS [] }
 
--- after an event that was refused
-abbrev pub refused : Account → Event → Refusal → Account
-refused a e r = record a { losses = waited a.losses a.places (wanted_by e r) }
+-- after a call that was refused
+abbrev pub refused : Account → Option (ℕ × ℕ) → Refusal → Account
+refused a access r = record a { losses = waited a.losses a.places (wanted_by access r) }

@@ -1,5 +1,5 @@
 -- What an account says of a path.
-use Rattle.std.specs.Prelude.{◌≡◌, ℕ, suc, ◌<◌, ◌≤◌, false, List, [], length, slice_get, slice_index_or, Option, Some, None, Ok}
+use Rattle.std.specs.Prelude.{◌≡◌, ℕ, suc, ◌<◌, ◌≤◌, true, false, List, [], length, slice_get, slice_index_or, Option, Some, None, Ok}
 use Rattle.std.specs.List.{AllByRecursion}
 use Rattle.esx_types.specs.declared.config.TheConstants.{VM_NUMBERS}
 use Rattle.esx_types.specs.declared.config.Config.{Config}
@@ -16,11 +16,11 @@ use Rattle.esx_story.specs.Gains.{gained_at}
 use Rattle.esx_story.specs.Changes.{has_here}
 use Rattle.esx_story.specs.Moments.{Moment}
 use Rattle.esx_story.specs.Counts.{counts, life_from}
-use Rattle.esx_story.specs.Spans.{back, over, set_from}
-use Rattle.esx_story.specs.Waits.{Met}
+use Rattle.esx_story.specs.Spans.{back, over, is_rebalance, set_from}
+use Rattle.esx_story.specs.Waits.{Met, asked_by, asked_since}
 use Rattle.esx_story.specs.Story.{seen, told}
 use Rattle.esx_walk.specs.declared.lives.Life.{Life}
-use Rattle.esx_walk.specs.Account.{Account, life_in, open_in}
+use Rattle.esx_walk.specs.Account.{Account, life_in, asked_for, open_in}
 
 -- the page of a loss is away, and its machine stands
 pub record IsOpen (ms : List Moment) (l : Loss) : Type 0 where
@@ -43,9 +43,10 @@ pub record Holds (ms : List Moment) (losses : List Loss) (n page j : ℕ) : Type
 pub record IsLife (ms : List Moment) (n : ℕ) (l : Life) : Type 0 where
   pub lives : l.lives ≡ life_from n ms 0
   pub set : l.set ≡ set_from n 1 None ms
+  pub asked : l.asked ≡ asked_since ms n (set_from n 1 None ms)
   pub counts : l.counts ≡ counts n ms
 
--- The account is of a path on which these events were refused, and which led to a site.
+-- The account is of a path on which these calls were refused, and which led to a site.
 pub record IsAccount (c : Config) (ms : List Moment) (mets : List Met) (s : Site) (a : Account) : Type 0 where
   pub events : a.events ≡ length ms
   pub losses : a.losses ≡ told c ms mets
@@ -56,12 +57,13 @@ pub record IsAccount (c : Config) (ms : List Moment) (mets : List Met) (s : Site
   pub holds : (n page j : ℕ) → open_in a.places n page ≡ suc j → Holds ms a.losses n page j
   pub early : AllByRecursion (λ (m : Met). m.at ≤ length ms) mets
 
--- A moment that comes: its event is accepted in a sound site, and this is its answer, what it lost and gained, and what was seen of its machine before it; and there is a place for its page.
-pub record IsNext (c : Config) (x : Moment) (places : List (List ℕ)) (event : Event) (answer : Answer) (s : Option Seen) (lost gained : Option Change) : Type 0 where
+-- A moment that comes: its event is accepted in a sound site, and this is its answer, what it lost and gained, what was seen of its machine before it, and what each machine gave if it is a rebalance; and there is a place for its page.
+pub record IsNext (c : Config) (x : Moment) (places : List (List ℕ)) (event : Event) (answer : Answer) (s : Option Seen) (given : Option (List ℕ)) (lost gained : Option Change) : Type 0 where
   pub sound : IsSound c x.before.site
   pub goes : next c x.before x.event ≡ Ok (x.answer, x.after)
   pub made : x.event ≡ event
   pub told : x.answer ≡ answer
   pub loses : lost_at x ≡ lost
   pub gains : gained_at x ≡ gained
+  pub asks : (n : ℕ) → n < VM_NUMBERS → is_rebalance event ≡ true → asked_for answer given n ≡ asked_by n (Some x)
   pub about : (y : Change) → lost ≡ Some y → (s ≡ Some (seen c x.before y.vm)) × (y.vm < VM_NUMBERS) × (y.page < length (slice_index_or places y.vm []))

@@ -32,7 +32,7 @@ pub record IsShort (a : Account) : Type 0 where
   pub account : IsAccount config moments mets site a
   pub short : length moments < MAX_NODES
 
--- The account is of a path on which one more event may be refused.
+-- The account is of a path on which one more call may be refused.
 pub record IsPatient (a : Account) : Type 0 where
   pub config : Config
   pub moments : List Moment

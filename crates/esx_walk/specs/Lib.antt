@@ -2,6 +2,7 @@ pub mod Account
 pub mod Accounts
 pub mod Complete
 pub mod Few
+pub mod Holding
 pub mod Kept
 pub mod Looking
 pub mod Making

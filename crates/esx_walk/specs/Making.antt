@@ -11,13 +11,15 @@ use Rattle.esx_story.specs.declared.story.Seen.{Seen}
 use Rattle.esx_story.specs.Readings.{named_page, said_before}
 use Rattle.esx_walk.specs.declared.account.Account.{Account}
 use Rattle.esx_walk.specs.Kept.{account_of}
+use Rattle.esx_walk.specs.Holding.{held_before}
 use Rattle.esx_walk.specs.Looking.{losing, IsPrepared}
 use Rattle.esx_walk.specs.Walks.{Walked}
 
 abbrev pub walked : Kept → Account → Walked
 walked machine account = record { machine = machine; account = account_of account }
 
--- what was read before the event is of the scene, and the machine that may lose a page was looked at
-pub record IsReady (c : Config) (t : Scene) (e : Event) (before : Result PageState Refusal) (rows : List (List ℕ)) (s : Option Seen) : Type 0 where
+-- what was read before the event is of the scene, the machine that may lose a page was looked at, and so was what each holds if it is a rebalance
+pub record IsReady (c : Config) (t : Scene) (e : Event) (before : Result PageState Refusal) (rows : List (List ℕ)) (s : Option Seen) (held : Option (List ℕ)) : Type 0 where
   pub read : before ≡ said_before (shown c t) (named_page e)
   pub prepared : IsPrepared c t (losing e before) rows s
+  pub holds : held ≡ held_before t e

@@ -20,7 +20,7 @@ pub record Walked : Type 0 where
   pub machine : Kept
   pub account : Account
 
--- The walk went this path of a site, on which these events were refused: its machine shows the scene that the path leads to, and the account is of the path.
+-- The walk went this path of a site, on which these calls were refused: its machine shows the scene that the path leads to, and the account is of the path.
 pub record IsWalk (c : Config) (es : List Event) (mets : List Met) (w : Walked) : Type 0 where
   pub good : IsConfig c
   pub config : w.machine.config ≡ c
@@ -37,7 +37,7 @@ pub record MayGoOn (w : Walked) : Type 0 where
   pub walk : IsWalk config events mets w
   pub short : length events < MAX_NODES
 
--- It went some path, on which one more event may be refused.
+-- It went some path, on which one more call may be refused.
 pub record MayRefuse (w : Walked) : Type 0 where
   pub config : Config
   pub events : List Event

@@ -71,6 +71,7 @@ impl Account {
         event: &Event,
         answer: &Answer,
         seen: Option<Seen>,
+        given: &Option<Rows<u32>>,
         lost: &Option<Change>,
         gained: &Option<Change>,
     )
@@ -78,45 +79,54 @@ impl Account {
         requires short { (account_of self.old).events < MAX_NODES }
         requires losses { length (account_of self.old).losses < MAX_NODES }
         requires lives { AreFew (2 * MAX_NODES) (account_of self.old).lives }
-        ensures { account_of self.new ≡ gone_on (account_of self.old) event.now answer.now seen lost.now gained.now }
+        ensures { account_of self.new ≡ gone_on (account_of self.old) event.now answer.now seen given.now lost.now gained.now }
     {
         let alloc = self.alloc;
         self.events += 1;
         let place = self.losses.len() as u32 + 1;
         come_back(&mut self.losses, &self.places, self.events, gained);
-        add_loss(&mut self.losses, &self.lives, self.events, seen, lost);
+        add_loss(
+            &mut self.losses,
+            &self.lives,
+            self.events,
+            answer,
+            seen,
+            lost,
+        );
         count(&mut self.lives, gained);
         count(&mut self.lives, lost);
-        live(&mut self.lives, self.events, event);
+        live(&mut self.lives, self.events, event, answer, given);
         shut(&mut self.places, gained);
         clear(alloc, &mut self.places, event, answer);
         mark_open(&mut self.places, place, lost);
     }
 
-    /// One more event, with what it lost and gained, and what was seen of the machine that it names before it.
+    /// One more event, with what it lost and gained, what was seen of the machine that it names before it, and what each
+    /// machine gave, by number, if it is a rebalance below level high.
     pub fn go_on(
         &mut self,
         event: &Event,
         answer: &Answer,
         seen: Option<Seen>,
+        given: &Option<Rows<u32>>,
         lost: &Option<Change>,
         gained: &Option<Change>,
     )
         requires room { HasSpace self.old }
         requires short { IsShort (account_of self.old) }
         ensures { (c : Config) (ms : List Moment) (mets : List Met) (x : Moment) → IsAccount c ms mets x.before.site (account_of self.old)
-            → IsNext c x (account_of self.old).places event.now answer.now seen lost.now gained.now → IsAccount c (ms ++ x ∷ []) mets x.after.site (account_of self.new) }
+            → IsNext c x (account_of self.old).places event.now answer.now seen given.now lost.now gained.now → IsAccount c (ms ++ x ∷ []) mets x.after.site (account_of self.new) }
     {
-        self.step(event, answer, seen, lost, gained);
+        self.step(event, answer, seen, given, lost, gained);
     }
 
-    /// An event that was refused after those so far.
-    pub fn refuse(&mut self, event: &Event, refusal: Refusal)
+    /// A call that was refused after the events so far, and the page that it was to read or write, if it was an access.
+    pub fn refuse(&mut self, access: Option<(VmId, u32)>, refusal: Refusal)
         requires few { IsPatient (account_of self.old) }
         ensures { (c : Config) (ms : List Moment) (mets : List Met) (m : Met) (s : Site) → IsAccount c ms mets s (account_of self.old)
-            → (m.at ≡ length ms) × (m.event ≡ event.now) × (m.refusal ≡ refusal) → IsAccount c ms (mets ++ m ∷ []) s (account_of self.new) }
+            → (m.at ≡ length ms) × (m.access ≡ access) × (m.refusal ≡ refusal) → IsAccount c ms (mets ++ m ∷ []) s (account_of self.new) }
     {
-        wait(&mut self.losses, &self.places, event, refusal);
+        wait(&mut self.losses, &self.places, access, refusal);
     }
 
     /// How many events there were.

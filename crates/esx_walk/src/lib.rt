@@ -2,6 +2,7 @@
 #![tactic(auto)]
 
 mod account;
+mod holding;
 pub mod lives;
 mod looking;
 mod opens;

@@ -7,7 +7,8 @@ ghost use Rattle.esx_walk.specs.Few.{AreFewWaits};
 
 use crate::lives::{Life, life_at};
 use crate::opens::place_of;
-use esx_events::{Event, Refusal};
+use esx_events::{Answer, Refusal};
+use esx_story::telling::{loan_of, slot_of};
 use esx_story::{Change, How, Loss, Seen};
 use esx_types::{Rows, VmId};
 
@@ -43,11 +44,12 @@ pub fn add_loss(
     losses: &mut Vec<Loss>,
     lives: &Rows<Life>,
     at: u32,
+    answer: &Answer,
     seen: Option<Seen>,
     lost: &Option<Change>,
 )
     requires room { vec_len losses.old < vec_capacity losses.old }
-    ensures { losses.new.items ≡ with_loss losses.old.items lives.now at seen lost.now }
+    ensures { losses.new.items ≡ with_loss losses.old.items lives.now at answer.now seen lost.now }
 {
     let Some(lost) = lost else {
         return;
@@ -61,7 +63,10 @@ pub fn add_loss(
         change: *lost,
         life: life.lives,
         set: life.set,
+        asked: life.asked,
         seen,
+        slot: slot_of(answer),
+        loan: loan_of(answer),
         back: None,
         came: None,
         waits: 0,
@@ -76,17 +81,10 @@ fn is_pressed(refusal: Refusal) -> bool
 }
 
 /// The page that was to be read or written, if the access has to wait.
-fn wanted_by(event: &Event, refusal: Refusal) -> Option<(VmId, u32)>
-    ensures { result ≡ wanted_by event.now refusal }
+fn wanted_by(access: Option<(VmId, u32)>, refusal: Refusal) -> Option<(VmId, u32)>
+    ensures { result ≡ wanted_by access refusal }
 {
-    if !is_pressed(refusal) {
-        return None;
-    }
-    match event {
-        Event::Read { vm, page, .. } => Some((*vm, *page)),
-        Event::Write { vm, page, .. } => Some((*vm, *page)),
-        _ => None,
-    }
+    if is_pressed(refusal) { access } else { None }
 }
 
 fn wait_once(losses: &mut Vec<Loss>, place: u32)
@@ -102,11 +100,16 @@ fn wait_once(losses: &mut Vec<Loss>, place: u32)
 }
 
 /// Counts an access that was refused for the loss of its page that stands open.
-pub fn wait(losses: &mut Vec<Loss>, places: &Rows<Rows<u32>>, event: &Event, refusal: Refusal)
+pub fn wait(
+    losses: &mut Vec<Loss>,
+    places: &Rows<Rows<u32>>,
+    access: Option<(VmId, u32)>,
+    refusal: Refusal,
+)
     requires { AreFewWaits 4294967294 losses.old.items }
-    ensures { losses.new.items ≡ waited losses.old.items places.now (wanted_by event.now refusal) }
+    ensures { losses.new.items ≡ waited losses.old.items places.now (wanted_by access refusal) }
 {
-    let Some((vm, page)) = wanted_by(event, refusal) else {
+    let Some((vm, page)) = wanted_by(access, refusal) else {
         return;
     };
     let place = place_of(places, usize::from(vm.number()), page as usize);

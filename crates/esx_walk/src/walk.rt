@@ -13,15 +13,16 @@ ghost use Rattle.esx_walk.specs.Few.{IsShort};
 ghost use Rattle.esx_walk.specs.Kept.{account_of, HasSpace};
 ghost use Rattle.esx_walk.specs.Making.{walked, IsReady};
 ghost use Rattle.esx_walk.specs.Walks.{IsWalk, MayGoOn, MayRefuse, WentOn};
-ghost use Rattle.esx_walk.specs.Complete.{AreAllLosses, AreRising};
+ghost use Rattle.esx_walk.specs.Complete.{AreAllLosses, AreRising, AreGood};
 
 use crate::account::Account;
+use crate::holding::given_after;
 use crate::lives::Life;
-use crate::looking::{losing, page_before, prepare};
+use crate::looking::{Before, page_before, prepare};
 use esx_events::{Answer, Event, PageState, Refusal};
 use esx_machine::Machine;
+use esx_story::Loss;
 use esx_story::telling::{gained, lost};
-use esx_story::{Loss, Seen};
 use esx_types::{Config, VmId};
 use std::alloc::Global;
 use std::marker::Model;
@@ -42,25 +43,26 @@ impl Model for Walk {
     ghost view = { λ a. record { machine = a.machine; account = account_of a.account } };
 }
 
-/// Makes an event for which all is prepared, where the page that it names was seen before it.
+/// Makes an event for which all is prepared, where the page that it names was so before it.
 fn make(
     machine: &mut Machine,
     account: &mut Account,
     event: &Event,
-    before: Result<PageState, Refusal>,
-    seen: Option<Seen>,
+    page: Result<PageState, Refusal>,
+    before: Before,
 ) -> Result<Answer, Refusal>
     requires rise { CanEpochsRise machine.old.tables }
     requires space { HasSpace account.old }
     requires short { IsShort (account_of account.old) }
-    ensures { (site : Config) (es : List Event) (mets : List Met) → (walk : IsWalk site es mets (walked machine.old account.old)) → IsReady site walk.scene event.now before (account_of account.old).places seen
+    ensures { (site : Config) (es : List Event) (mets : List Met) → (walk : IsWalk site es mets (walked machine.old account.old)) → IsReady site walk.scene event.now page (account_of account.old).places before.seen before.held
         → WentOn site es mets event.now result (walked machine.new account.new) }
 {
     match machine.apply(event) {
         Ok((answer, _record)) => {
-            let lost = lost(event, &answer, before);
-            let gained = gained(event, before);
-            account.go_on(event, &answer, seen, &lost, &gained);
+            let lost = lost(event, &answer, page);
+            let gained = gained(event, page);
+            let given = given_after(machine, before.held);
+            account.go_on(event, &answer, before.seen, &given, &lost, &gained);
             Ok(answer)
         }
         Err(refusal) => Err(refusal),
@@ -86,22 +88,23 @@ impl Walk {
         requires short { MayGoOn self.old }
         ensures { (site : Config) (es : List Event) (mets : List Met) → IsWalk site es mets self.old → WentOn site es mets event.now result self.new }
     {
-        let before = page_before(&self.machine, event);
-        match prepare(&self.machine, &mut self.account, losing(event, before)) {
-            Ok(seen) => make(&mut self.machine, &mut self.account, event, before, seen),
+        let page = page_before(&self.machine, event);
+        match prepare(&self.machine, &mut self.account, event, page) {
+            Ok(before) => make(&mut self.machine, &mut self.account, event, page, before),
             Err(_) => Err(Refusal::OutOfMemory),
         }
     }
 
-    /// An event that was refused after those so far. A loss is told how many accesses of its page waited.
+    /// A call that was refused after the events so far: `access` is the page that it was to read or write, none where it
+    /// was no access. A loss is told how many accesses of its page waited.
     ///
     /// condition: fewer than 2^32 - 1 were refused before
-    pub fn refuse(&mut self, event: &Event, refusal: Refusal)
+    pub fn refuse(&mut self, access: Option<(VmId, u32)>, refusal: Refusal)
         requires few { MayRefuse self.old }
         ensures { (site : Config) (es : List Event) (mets : List Met) → IsWalk site es mets self.old
-            → IsWalk site es (mets ++ record { at = length es; event = event.now; refusal = refusal } ∷ []) self.new }
+            → IsWalk site es (mets ++ record { at = length es; access = access; refusal = refusal } ∷ []) self.new }
     {
-        self.account.refuse(event, refusal);
+        self.account.refuse(access, refusal);
     }
 
     /// How many events the path has.
@@ -116,12 +119,13 @@ impl Walk {
         ensures told { (site : Config) (es : List Event) (mets : List Met) → IsWalk site es mets self.now → result.now ≡ told site (moments site es) mets }
         ensures all { (site : Config) (es : List Event) (mets : List Met) → IsWalk site es mets self.now → AreAllLosses (moments site es) result.now }
         ensures rising { (site : Config) (es : List Event) (mets : List Met) → IsWalk site es mets self.now → AreRising result.now }
+        ensures good { (site : Config) (es : List Event) (mets : List Met) → IsWalk site es mets self.now → AreGood result.now }
     {
         self.account.losses()
     }
 
-    /// How often a machine was admitted under a number, the last rebalance since, and what it gained and lost since
-    /// its last admission.
+    /// How often a machine was admitted under a number, the last rebalance since and what it asked for, and what the
+    /// machine gained and lost since its last admission.
     pub fn life(&self, vm: VmId) -> Life
         ensures { (site : Config) (es : List Event) (mets : List Met) → IsWalk site es mets self.now → IsLife (moments site es) vm result }
     {

@@ -1,5 +1,5 @@
 -- What a writer does to a sink, and to the bytes that it holds back.
-use Rattle.std.specs.Prelude.{ℕ, List, [], ◌++◌, ◌≡◌, ◌-◌, length, replicate, Option, Result, Ok, Err, decimal}
+use Rattle.std.specs.Prelude.{ℕ, List, [], ◌++◌, ◌≡◌, ◌-◌, ◌/◌, ◌%◌, length, replicate, Option, Result, Ok, Err, codes, decimal}
 use Rattle.std.specs.Io.KnownBytes.{Appends}
 use Rattle.hex.specs.Hex.{encode_lower}
 use Rattle.esx_writing.specs.declared.pieces.Piece.{Piece}
@@ -34,6 +34,10 @@ right_in width text = replicate (width - length text) 32 ++ text
 
 abbrev pub left_in : ℕ → List ℕ → List ℕ
 left_in width text = text ++ replicate (width - length text) 32
+
+-- so many thousandths, with three digits behind the point
+abbrev pub thousandths_text : ℕ → List ℕ
+thousandths_text n = decimal (n / 1000) ++ (codes "." ++ (decimal (n / 100 % 10) ++ (decimal (n / 10 % 10) ++ decimal (n % 10))))
 
 -- the text of a piece
 abbrev pub piece_text : Piece → List ℕ

@@ -1,13 +1,13 @@
 -- Worked examples, by computation: pages that are paged out and dropped, and a machine that comes anew.
-use Rattle.std.specs.Prelude.{◌≡◌, [], ◌∷◌, List, Some, None}
+use Rattle.std.specs.Prelude.{◌≡◌, [], ◌∷◌, List, true, false, Some, None}
 use Rattle.std.proofs.Common.{refl}
 use Rattle.esx_events.specs.declared.event.Event.{Event}
 use Rattle.esx_events.specs.declared.event.Refusal.TheVariants.{Held, Short, NotRunning}
-use Rattle.esx_events.specs.declared.event.Event.TheVariants.{Admit, Start, Read, Rebalance, SwapOut, Write, Stop, DropPage, Gone}
+use Rattle.esx_events.specs.declared.event.Event.TheVariants.{Admit, Start, Read, Rebalance, SwapOut, SetVmTax, Stop, DropPage, Gone}
 use Rattle.esx_model.proofs.rows.Replies.{site, spec}
 use Rattle.esx_story.specs.Waits.{Met}
 use Rattle.esx_story.specs.Changes.{Swap, Dropped, First, SwapIn, DroppedOut}
-use Rattle.esx_story.proofs.rows.Stories.{line, count, losses_of, gains_of, counts_of, back_of, later_of, over_of, as_of, changes_of, set_of, met, waits_of, asked_for, asked_of}
+use Rattle.esx_story.proofs.rows.Stories.{line, count, losses_of, gains_of, counts_of, back_of, later_of, over_of, as_of, changes_of, set_of, met, met_other, waits_of, asked_for, asked_of, slots_of, loans_of, all_asked_of, owns_of}
 
 -- Three pages go out and one is read again; then the machine goes, a page that is out dropped without a loss; and it is admitted anew, and reads a page of a number that was lost.
 abbrev two_lives : List Event
@@ -67,10 +67,10 @@ pub lives_not_over : over_of (site 8 16 8 75 6 4 2 1 16777216) two_lives 9 0 2 �
 unfolding over_of
 lives_not_over = refl
 
--- Accesses that were refused: before page 2 was lost, while it was away, of another page, for another reason, and when it was back; and after the machine went.
+-- Calls that were refused: accesses of page 2 before it was lost, while it was away and when it was back, of another page and of another machine's, a call that was no access, one for another reason; and accesses after the machine went.
 abbrev refused : List Met
-refused = met 8 (Read 0 2 0 1) Held ∷ met 9 (Read 0 2 0 1) Held ∷ met 9 (Read 0 1 0 1) Held ∷ met 10 (Read 0 2 0 1) NotRunning ∷ met 12 (Write 0 2 0 []) Short ∷ met 13 (Read 0 2 0 1) Short
-    ∷ met 19 (Read 0 0 0 1) Held ∷ met 20 (Read 0 0 0 1) Held ∷ met 22 (Read 0 0 0 1) Short ∷ []
+refused = met 8 0 2 Held ∷ met 9 0 2 Held ∷ met 9 0 1 Held ∷ met 9 1 2 Held ∷ met_other 9 Held ∷ met 10 0 2 NotRunning ∷ met 12 0 2 Short ∷ met 13 0 2 Short
+    ∷ met 19 0 0 Held ∷ met 20 0 0 Held ∷ met 22 0 0 Short ∷ []
 
 pub lives_waits : waits_of (site 8 16 8 75 6 4 2 1 16777216) two_lives refused 9 0 2 ≡ 2
 unfolding waits_of
@@ -100,3 +100,25 @@ lives_asked_nothing = refl
 pub lives_asked_before : asked_of (site 8 16 8 75 6 4 2 1 16777216) two_lives 8 0 ≡ None
 unfolding asked_of
 lives_asked_before = refl
+
+-- What is told of its losses: what goes out has a slot, what is dropped has none, and nothing is lent.
+pub lives_slots : slots_of (site 8 16 8 75 6 4 2 1 16777216) two_lives ≡ Some 0 ∷ Some 1 ∷ Some 2 ∷ None ∷ None ∷ None ∷ []
+unfolding slots_of
+lives_slots = refl
+
+pub lives_loans : loans_of (site 8 16 8 75 6 4 2 1 16777216) two_lives ≡ None ∷ None ∷ None ∷ None ∷ None ∷ None ∷ []
+unfolding loans_of
+lives_loans = refl
+
+pub lives_all_asked : all_asked_of (site 8 16 8 75 6 4 2 1 16777216) two_lives
+    ≡ Some (asked_for 3 3 3) ∷ Some (asked_for 3 3 3) ∷ Some (asked_for 3 3 3) ∷ None ∷ None ∷ None ∷ []
+unfolding all_asked_of
+lives_all_asked = refl
+
+-- A tax becomes a machine's own, though it is as the site's.
+abbrev taxed : List Event
+taxed = Admit 0 (spec 2 8 1 1000 0) ∷ Start 0 ∷ Read 0 0 0 1 ∷ Read 0 1 0 1 ∷ Read 0 2 0 1 ∷ Read 0 3 0 1 ∷ Read 0 4 0 1 ∷ Rebalance ∷ SwapOut 0 7 ∷ SetVmTax 0 75 ∷ SwapOut 0 7 ∷ []
+
+pub taxed_owns : owns_of (site 8 16 8 75 6 4 2 1 16777216) taxed ≡ false ∷ true ∷ []
+unfolding owns_of
+taxed_owns = refl

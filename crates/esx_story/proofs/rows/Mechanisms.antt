@@ -1,11 +1,11 @@
 -- Worked examples, by computation: the losses and the gains of a path, one for each mechanism.
-use Rattle.std.specs.Prelude.{◌≡◌, [], ◌∷◌, ◌++◌, List, Some}
+use Rattle.std.specs.Prelude.{◌≡◌, [], ◌∷◌, ◌++◌, List, Some, None}
 use Rattle.std.proofs.Common.{refl}
 use Rattle.esx_events.specs.declared.event.Event.{Event}
 use Rattle.esx_events.specs.declared.event.Event.TheVariants.{Admit, Start, Read, Write, Ask, Lend, TakeBack, Rebalance, Scan, SwapOut, Replace}
 use Rattle.esx_model.proofs.rows.Replies.{site, spec}
 use Rattle.esx_story.specs.Changes.{Balloon, Replaced, First, Pop, SwapIn, Share, Host, Cow, Own, LentAway, TakenBack}
-use Rattle.esx_story.proofs.rows.Stories.{line, count, losses_of, gains_of, counts_of, back_of, as_of, changes_of, set_of, resident_after}
+use Rattle.esx_story.proofs.rows.Stories.{line, count, losses_of, gains_of, counts_of, back_of, as_of, changes_of, set_of, resident_after, slots_of, loans_of, loan}
 
 -- Two pages are lent; one is written, which breaks its loan; the other is read after a reset, when its loan is of an epoch that is over, so it comes as one that was never here. A Lend that a reset takes the place of loses nothing, nor does one of a page that was never here.
 abbrev lending : List Event
@@ -53,6 +53,15 @@ pub lent_away_changes : changes_of (site 8 16 8 75 6 4 2 1 16777216) (lending ++
 unfolding changes_of
 lent_away_changes = refl
 
+-- each loan tells what the balloon held before it, and its goal
+pub lent_loans : loans_of (site 8 16 8 75 6 4 2 1 16777216) lending ≡ Some (loan 0 4) ∷ Some (loan 1 4) ∷ []
+unfolding loans_of
+lent_loans = refl
+
+pub lent_slots : slots_of (site 8 16 8 75 6 4 2 1 16777216) lending ≡ None ∷ None ∷ []
+unfolding slots_of
+lent_slots = refl
+
 pub lent_set : set_of (site 8 16 8 75 6 4 2 1 16777216) lending 10 0 ≡ Some 8
 unfolding set_of
 lent_set = refl
@@ -64,6 +73,10 @@ replacing = Admit 0 (spec 3 6 1 1000 0) ∷ Admit 1 (spec 3 6 1 1000 0) ∷ Star
 pub replace_losses : losses_of (site 8 16 8 75 6 4 2 1 16777216) replacing ≡ line 11 0 1 Replaced ∷ line 13 0 0 Replaced ∷ []
 unfolding losses_of
 replace_losses = refl
+
+pub replace_slots : slots_of (site 8 16 8 75 6 4 2 1 16777216) replacing ≡ Some 0 ∷ Some 0 ∷ []
+unfolding slots_of
+replace_slots = refl
 
 pub replace_gains : gains_of (site 8 16 8 75 6 4 2 1 16777216) replacing
     ≡ line 5 0 0 First ∷ line 6 0 1 First ∷ line 7 0 2 First ∷ line 8 1 0 First ∷ line 9 1 1 First ∷ line 10 1 2 First ∷ line 11 0 3 First ∷ line 13 0 1 SwapIn ∷ []

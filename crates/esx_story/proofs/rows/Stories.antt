@@ -1,5 +1,5 @@
 -- Short ways to write the values of worked examples, and what is computed of a path.
-use Rattle.std.specs.Prelude.{ℕ, List, Option, None, option_map, Result, Ok, Err}
+use Rattle.std.specs.Prelude.{ℕ, Bool, List, [], map, Option, Some, None, option_map, Result, Ok, Err}
 use Rattle.esx_types.specs.declared.config.Config.{Config}
 use Rattle.esx_events.specs.declared.event.Event.{Event}
 use Rattle.esx_events.specs.declared.event.Refusal.{Refusal}
@@ -14,10 +14,13 @@ use Rattle.esx_story.specs.Losses.{losses}
 use Rattle.esx_story.specs.Gains.{gains}
 use Rattle.esx_story.specs.Counts.{counts}
 use Rattle.esx_story.specs.declared.change.Asked.{Asked}
+use Rattle.esx_story.specs.declared.change.Loan.{Loan}
+use Rattle.esx_story.specs.declared.story.Loss.{Loss}
 use Rattle.esx_story.specs.Spans.{back, over, later_by, came_as, set_at}
 use Rattle.esx_story.specs.Spots.{changed}
 use Rattle.esx_story.specs.Waits.{Met, waits, asked}
 use Rattle.esx_story.specs.Order.{rank, next_row}
+use Rattle.esx_story.specs.Story.{told}
 
 abbrev pub line : ℕ → ℕ → ℕ → How → Line
 line i n page how = record { at = i; change = change n page how }
@@ -70,8 +73,32 @@ asked_of c es i n = asked (moments c es) i n
 abbrev pub asked_for : ℕ → ℕ → ℕ → Asked
 asked_for need revoked given = record { need = need; revoked = revoked; given = given }
 
-abbrev pub met : ℕ → Event → Refusal → Met
-met at event refusal = record { at = at; event = event; refusal = refusal }
+-- what is told of each loss in order: the slot, the loan, what was asked for, and whether the tax was the machine's own
+unfoldable pub slots_of : Config → List Event → List (Option ℕ)
+unfolding moments_from replies_of
+slots_of c es = map (λ (l : Loss). l.slot) (told c (moments c es) [])
+
+unfoldable pub loans_of : Config → List Event → List (Option Loan)
+unfolding moments_from replies_of
+loans_of c es = map (λ (l : Loss). l.loan) (told c (moments c es) [])
+
+unfoldable pub all_asked_of : Config → List Event → List (Option Asked)
+unfolding moments_from replies_of
+all_asked_of c es = map (λ (l : Loss). l.asked) (told c (moments c es) [])
+
+unfoldable pub owns_of : Config → List Event → List Bool
+unfolding moments_from replies_of
+owns_of c es = map (λ (l : Loss). l.seen.own) (told c (moments c es) [])
+
+abbrev pub loan : ℕ → ℕ → Loan
+loan held goal = record { held = held; goal = goal }
+
+-- an access that was refused, and another call
+abbrev pub met : ℕ → ℕ → ℕ → Refusal → Met
+met at n page refusal = record { at = at; access = Some (n, page); refusal = refusal }
+
+abbrev pub met_other : ℕ → Refusal → Met
+met_other at refusal = record { at = at; access = None; refusal = refusal }
 
 unfoldable pub set_of : Config → List Event → ℕ → ℕ → Option ℕ
 unfolding moments_from replies_of

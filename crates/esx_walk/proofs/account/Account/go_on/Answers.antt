@@ -14,4 +14,4 @@ step-requires-clause-lives c = short_few (account_of c.args.self.now) c.requires
 
 pub returns : goal.returns
 returns c = λ config ms mets x account nexts.
-    goes_on config ms mets x (account_of c.args.self.now) _ c.args.event.now c.args.answer.now c.args.seen c.args.lost.now c.args.gained.now c.step.ensures account nexts
+    goes_on config ms mets x (account_of c.args.self.now) _ c.args.event.now c.args.answer.now c.args.seen c.args.given.now c.args.lost.now c.args.gained.now c.step.ensures account nexts

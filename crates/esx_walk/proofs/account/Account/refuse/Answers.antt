@@ -1,5 +1,4 @@
-use Rattle.std.proofs.Common.{ap, sym, ◌∙◌}
-use Rattle.esx_events.specs.declared.event.Event.{Event}
+use Rattle.std.proofs.Common.{ℕ, Option, ap, sym, ◌∙◌}
 use Rattle.esx_story.specs.declared.story.Loss.{Loss}
 use Rattle.std.specs.Prelude.{List}
 use Rattle.esx_walk.specs.Account.{Account, refused}
@@ -15,5 +14,5 @@ pub returns : goal.returns
 returns c = λ config ms mets m s account is.
     let a : Account = account_of c.args.self.now in
     refusal_goes_on config ms mets m s a _
-    (ap (λ (ls : List Loss). record a { losses = ls }) c.wait.ensures ∙ sym (ap (λ (e : Event). refused a e m.refusal) is.1 ∙ ap (refused a c.args.event.now) is.2))
+    (ap (λ (ls : List Loss). record a { losses = ls }) c.wait.ensures ∙ sym (ap (λ (o : Option (ℕ × ℕ)). refused a o m.refusal) is.1 ∙ ap (refused a c.args.access) is.2))
     account (record { at = is.0 })

@@ -1,4 +1,4 @@
-use Rattle.std.proofs.Common.{◌≡◌, ℕ, List, [], Option, Result, refl, sym, ap, subst, ◌∙◌}
+use Rattle.std.proofs.Common.{List, refl, sym, ap, subst, ◌∙◌}
 use Rattle.esx_types.specs.declared.config.Config.{Config}
 use Rattle.esx_events.specs.declared.event.Event.{Event}
 use Rattle.esx_model.specs.declared.book.Book.{Book}
@@ -6,7 +6,7 @@ use Rattle.esx_model.specs.Show.{shown}
 use Rattle.esx_story.specs.Moments.{moments}
 use Rattle.esx_story.specs.Readings.{named_page, said_before}
 use Rattle.esx_story.specs.Waits.{Met}
-use Rattle.esx_walk.specs.Looking.{IsPrepared}
+use Rattle.esx_walk.specs.Looking.{losing, IsPrepared}
 use Rattle.esx_walk.specs.Making.{walked, IsReady}
 use Rattle.esx_walk.specs.Walks.{Walked, IsWalk, MayGoOn, WentOn}
 use Rattle.esx_walk.proofs.Walking.{short_account, can_rise, book_shown}
@@ -37,11 +37,12 @@ returns-in-Ok c =
       account = c.prepare.ensures.same site (moments site es) mets t.site walk.account;
     } in
     let book = book_shown k t walk.shows ∙ ap (λ (q : Config). shown q t) walk.config in
-    let Q : Config → Type 0 = λ q. IsPrepared q t c.losing.result v.account.places c.in-Ok.seen in
-    let R : Option ℕ → Type 0 = λ o. IsPrepared site t o v.account.places c.in-Ok.seen in
-    let ready : IsReady site t e c.page_before-before.result v.account.places c.in-Ok.seen = record {
-      read = c.page_before-before.ensures ∙ ap (λ (b : Book). said_before b (named_page e)) book;
-      prepared = subst R c.losing.ensures (subst Q walk.config (c.in-Ok.ensures.ready t walk.shows walk.account.rows));
+    let before = c.in-Ok.before in
+    let Q : Config → Type 0 = λ q. IsPrepared q t (losing e c.page_before-page.result) v.account.places before.seen in
+    let ready : IsReady site t e c.page_before-page.result v.account.places before.seen before.held = record {
+      read = c.page_before-page.ensures ∙ ap (λ (b : Book). said_before b (named_page e)) book;
+      prepared = subst Q walk.config (c.in-Ok.ensures.ready t walk.shows walk.account.rows);
+      holds = c.in-Ok.ensures.held t walk.shows;
     } in
     c.make.ensures site es mets walks ready))
 

@@ -1,4 +1,4 @@
-use Rattle.std.proofs.Common.{List, [], ◌∷◌, ◌++◌, length, refl, sym, subst, ◌∙◌}
+use Rattle.std.proofs.Common.{List, [], ◌∷◌, ◌++◌, length, refl, sym, subst}
 use Rattle.esx_types.specs.declared.config.Config.{Config}
 use Rattle.esx_events.specs.declared.event.Event.{Event}
 use Rattle.esx_story.specs.Moments.{moments}
@@ -13,6 +13,6 @@ returns c =
     let w : Walked = record { machine = c.self.inside.machine; account = account_of c.self.inside.account } in
     let v : Walked = record { machine = c.self.inside.machine; account = account_of c.refuse.new.self } in
     let P : Walked → Type 0 = λ x. (site : Config) (es : List Event) (mets : List Met) → IsWalk site es mets x
-    → IsWalk site es (mets ++ record { at = length es; event = c.args.event.now; refusal = c.args.refusal } ∷ []) v in
-    subst P c.self.view_is (λ site es mets walk. (let m : Met = record { at = length es; event = c.args.event.now; refusal = c.args.refusal } in
+    → IsWalk site es (mets ++ record { at = length es; access = c.args.access; refusal = c.args.refusal } ∷ []) v in
+    subst P c.self.view_is (λ site es mets walk. (let m : Met = record { at = length es; access = c.args.access; refusal = c.args.refusal } in
     walk_refused site es mets m w v walk refl (c.refuse.ensures site (moments site es) mets m walk.scene.site walk.account (sym (moments_long site es mets w walk), refl, refl))))

@@ -8,24 +8,24 @@ use crate::field::{Field, field_length, put_field};
 use esx_types::{Sink, SinkFailed};
 use esx_writing::{AnswerBuffer, put};
 
-/// A field of some kind of table.
-pub trait Entry {
+/// What stands in a column of some kind of table.
+pub trait Column {
     ghost separator: { List ℕ };
 
     ghost text: { Self → List ℕ };
 
-    /// What stands before each entry but the first.
+    /// What stands before each column but the first.
     fn separator() -> &'static str
         ensures { result.now ≡ separator };
 
-    /// Puts the entry.
+    /// Puts what stands in it.
     fn put<W: Sink>(&self, sink: &mut W, held: &mut AnswerBuffer) -> Result<(), SinkFailed>
         ensures bytes { Puts (W.contents sink.old) held.old (W.contents sink.new) held.new (text self.now) result }
         ensures failures { W.failures sink.new ≡ W.failures sink.old + sink_faults result }
         ensures flushes { W.flushes sink.new ≡ W.flushes sink.old };
 }
 
-/// A field in a column of that width. One that is wider pushes.
+/// A field at the right or at the left of a column of that width. One that is wider pushes.
 #[derive(Clone, Copy)]
 pub enum Cell {
     Right(u8, Field),
@@ -83,7 +83,7 @@ fn put_left<W: Sink>(
     put(sink, held, blanks(lacking(width, field)))
 }
 
-impl Entry for Field {
+impl Column for Field {
     ghost separator = { codes "," };
 
     ghost text = { field_text [] };
@@ -97,7 +97,7 @@ impl Entry for Field {
     }
 }
 
-impl Entry for Cell {
+impl Column for Cell {
     ghost separator = { codes " " };
 
     ghost text = { cell_text };

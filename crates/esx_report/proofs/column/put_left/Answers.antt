@@ -1,7 +1,7 @@
 use Rattle.std.proofs.Common.{◌∙◌, ap, ◌-◌, ◌∷◌, [], length, replicate, refl}
 use Rattle.esx_writing.proofs.WritingLemmas.{first_failed, puts_after}
 use Rattle.esx_report.specs.Fields.{field_text}
-use Rattle.esx_report.proofs.entry.put_left.Goals as goal
+use Rattle.esx_report.proofs.column.put_left.Goals as goal
 
 pub returns-in_err-put_field-clause-bytes : goal.returns-in_err-put_field-clause-bytes
 returns-in_err-put_field-clause-bytes g c =

@@ -1,7 +1,7 @@
 use Rattle.std.proofs.Common.{◌∙◌, ap, ◌-◌, ◌∷◌, [], length, replicate, refl}
 use Rattle.esx_writing.proofs.WritingLemmas.{first_failed, puts_after}
 use Rattle.esx_report.specs.Fields.{field_text}
-use Rattle.esx_report.proofs.entry.put_right.Goals as goal
+use Rattle.esx_report.proofs.column.put_right.Goals as goal
 
 pub returns-in_err-put-clause-bytes : goal.returns-in_err-put-clause-bytes
 returns-in_err-put-clause-bytes g c =
