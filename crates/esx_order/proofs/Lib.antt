@@ -1,3 +1,5 @@
 pub mod InOrder
 pub mod Those
 pub mod OneOrder
+pub mod Ranks
+pub mod Advised

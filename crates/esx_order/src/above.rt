@@ -5,7 +5,8 @@ ghost use Rattle.std.specs.List.{All};
 ghost use Rattle.esx_model.specs.declared.scene.Scene.{Scene};
 ghost use Rattle.esx_model.specs.Site.{vm_at};
 ghost use Rattle.esx_machine.specs.Machine.{Shows};
-ghost use Rattle.esx_order.specs.Order.{IsAbove, IsOrderOf, has_own_tax, those_above};
+ghost use Rattle.esx_story.specs.Order.{has_own_tax};
+ghost use Rattle.esx_order.specs.Order.{IsAbove, IsOrderOf, those_above};
 
 use crate::order::in_order;
 use esx_formulas::Row;
@@ -48,8 +49,8 @@ fn those_above(alloc: Global, machine: &Machine) -> Result<Vec<Above>, AllocErro
     Ok(all)
 }
 
-/// The machines above their targets, in the order in which they are to lose pages: a page is wanted of the first one,
-/// and where that has no more pages than its target, of the next.
+/// The machines above their targets, by their taxed ratios as they are now: the first is to lose the next page. A page
+/// that goes raises the ratio of its machine, and so may change the order.
 pub fn order_of(alloc: Global, machine: &Machine) -> Result<Vec<Above>, AllocError>
     requires { (scene : Scene) × Shows machine.now scene }
     ensures order { (scene : Scene) → Shows machine.now scene → IfOk result (λ order. IsOrderOf scene.site order.items) }

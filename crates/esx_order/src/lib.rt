@@ -1,4 +1,4 @@
-//! Which machines are above their targets, in the order in which they are to lose pages, and how that is told.
+//! Which machines are above their targets, in the order of their taxed ratios, and how that is told.
 #![tactic(auto)]
 
 mod above;

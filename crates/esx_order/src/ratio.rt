@@ -1,8 +1,8 @@
 //! The taxed ratio as a number.
 
 ghost use Rattle.std.specs.Prelude.{◌≡◌};
+ghost use Rattle.esx_formulas.specs.Ratio.{thousandths};
 ghost use Rattle.esx_order.specs.Order.{IsAbove, ratio_of};
-ghost use Rattle.esx_order.specs.Telling.{thousandths};
 
 use crate::above::Above;
 use esx_formulas::activity::WHOLE;
@@ -14,5 +14,5 @@ pub fn thousandths(above: &Above) -> u64
     ensures { result ≡ thousandths (ratio_of above.now) }
 {
     let row = &above.row;
-    1000 * u64::from(WHOLE) * u64::from(weight(row)) / (u64::from(row.pages) * price(row))
+    1000 * (u64::from(WHOLE) * u64::from(weight(row))) / (u64::from(row.pages) * price(row))
 }

@@ -46,11 +46,13 @@ fn put_above<W: Sink>(
             u64::from(row.tau),
             own_text(above.own),
             " ratio ",
-            ratio / 1000,
-            ".",
-            ratio / 100 % 10,
-            ratio / 10 % 10,
-            ratio % 10,
+            line![
+                ratio / 1000,
+                ".",
+                ratio / 100 % 10,
+                ratio / 10 % 10,
+                ratio % 10
+            ],
             "\n"
         ],
     )
