@@ -1,17 +1,19 @@
 -- How one line is answered.
-use Rattle.std.proofs.Common.{◌≡◌, ℕ, Bool, true, false, List, [], ◌∷◌, ◌++◌, arith, ◌↔◌, ◌<◌, length, Option, inl}
-use Rattle.std.specs.Io.KnownBytes.{Appends}
+use Rattle.std.proofs.Common.{◌≡◌, ℕ, Bool, true, false, List, [], ◌∷◌, ◌++◌, arith, ◌↔◌, ◌<◌, length, Option, Result, Ok, Err, inl, inr, subst, sym}
 use Rattle.std.specs.Str.{IsUtf8}
 use Rattle.std.proofs.lemmas.Str.{IsUtf8-from_ascii}
 use Rattle.esx_events.specs.declared.call.Call.{Call}
-use Rattle.esx_events.specs.declared.call.Reply.{Reply}
-use Rattle.esx_model.specs.Console.{Session, next_reply, lined}
-use Rattle.esx_writing.specs.Writing.{WritesFront}
+use Rattle.esx_events.specs.declared.event.Refusal.{Refusal}
+use Rattle.esx_model.specs.Console.{Session, next_reply}
 use Rattle.esx_replies.specs.Replies.{reply_text}
 use Rattle.esx_text.specs.declared.answer.TheConstants.{LONGEST}
 use Rattle.esx_text.specs.Lines.{IsSilent, Keeps}
-use Rattle.esx_text.specs.Answers.{IsAsked, IsAnswered, MayWantMemory}
-use Rattle.esx_text.specs.Answers.IsAnswered.{asked}
+use Rattle.esx_text.specs.declared.fault.ServeFault.{ServeFault}
+use Rattle.esx_text.specs.declared.fault.ServeFault.TheVariants.{Read, Write, OutOfMemory}
+use Rattle.esx_text.specs.PageOut.{AsksOut, pageout_call, pageout_text, pageout_after, word_after}
+use Rattle.esx_text.specs.Answers.{IsAsked, IsAnswered, IsMade, IsServed, MayWantMemory}
+use Rattle.esx_text.specs.Answers.IsAnswered.{asked, pageout}
+use Rattle.esx_text.proofs.PageOutLemmas.{pageout_is_short}
 use Rattle.esx_words.proofs.CommandLemmas.{ascii_command}
 
 pub asked_is_utf8 : (line : List ℕ) (call : Call) → IsAsked line call → IsUtf8 line
@@ -25,15 +27,32 @@ pub last_is_some : {A : Type 0} (xs : List A) (x : A) → xs ++ x ∷ [] ≡ [] 
 last_is_some [] x e = cc
 last_is_some (y ∷ xs) x e = cc
 
-pub asked_whole : (n caller : ℕ) (before after : Session) (line : List ℕ) (call : Call) (reply : Reply) (old new : Option (List ℕ))
-    → IsAsked line call → reply ≡ next_reply before call → after ≡ lined before caller call → Appends old new (reply_text reply)
-    → (text : List ℕ) × IsAnswered n caller before line text after × Appends old new text
-asked_whole n caller before after line call reply old new is r a w = (reply_text (next_reply before call), rw a (asked call is), rw r at w)
+-- A call that was made for a line serves it.
 
-pub asked_front : (n caller : ℕ) (before after : Session) (line : List ℕ) (call : Call) (reply : Reply) (old new : Option (List ℕ))
-    → IsAsked line call → reply ≡ next_reply before call → after ≡ lined before caller call → WritesFront old new (reply_text reply)
-    → (text : List ℕ) × IsAnswered n caller before line text after × WritesFront old new text
-asked_front n caller before after line call reply old new is r a w = (reply_text (next_reply before call), rw a (asked call is), rw r at w)
+pub asked_served : (n caller : ℕ) (before after : Session) (line : List ℕ) (call : Call) (old new : Option (List ℕ)) (result : Result Unit ServeFault)
+    → IsAsked line call → IsMade caller call before after old new result → IsServed n caller before line after old new result
+asked_served n caller before after line call old new (Ok done) is made = (reply_text (next_reply before call), rw made.0 (asked call is), made.1)
+asked_served n caller before after line call old new (Err Read) is made = made
+asked_served n caller before after line call old new (Err Write) is made = (reply_text (next_reply before call), rw made.0 (asked call is), made.1)
+asked_served n caller before after line call old new (Err OutOfMemory) is made = (made.0, asked_may_want line call is, made.1)
+
+pageout_may_want : (line : List ℕ) (m page : ℕ) → AsksOut line m page → MayWantMemory line
+pageout_may_want line m page asks = record { short = pageout_is_short line m page asks; wants = inr (inr (inr (m, page, asks))) }
+
+pub pageout_answered : (n caller : ℕ) (before : Session) (line : List ℕ) (m page : ℕ) (word : Result ℕ Refusal) → AsksOut line m page → word ≡ word_after before m page
+    → IsAnswered n caller before line (pageout_text before m word) (pageout_after before caller m word)
+pageout_answered n caller before line m page word asks is =
+    subst (λ (w : Result ℕ Refusal). IsAnswered n caller before line (pageout_text before m w) (pageout_after before caller m w)) (sym is) (pageout m page asks)
+
+pub pageout_served : (n caller : ℕ) (before after : Session) (line : List ℕ) (m page word : ℕ) (old new : Option (List ℕ)) (result : Result Unit ServeFault)
+    → AsksOut line m page → Ok word ≡ word_after before m page → IsMade caller (pageout_call m word) before after old new result
+    → IsServed n caller before line after old new result
+pageout_served n caller before after line m page word old new (Ok done) asks is made =
+    (pageout_text before m (Ok word), rw made.0 (pageout_answered n caller before line m page (Ok word) asks is), made.1)
+pageout_served n caller before after line m page word old new (Err Read) asks is made = made
+pageout_served n caller before after line m page word old new (Err Write) asks is made =
+    (pageout_text before m (Ok word), rw made.0 (pageout_answered n caller before line m page (Ok word) asks is), made.1)
+pageout_served n caller before after line m page word old new (Err OutOfMemory) asks is made = (made.0, pageout_may_want line m page asks, made.1)
 
 -- the line is silent exactly where what is kept of it is
 pub silent_as_kept : (kept : List ℕ) (long : Bool) (line : List ℕ) → Keeps kept long line → IsSilent line ↔ IsSilent kept

@@ -9,8 +9,10 @@ use Rattle.esx_words.proofs.CommandLemmas.{one_call}
 use Rattle.esx_words.proofs.LetterLemmas.{lower_command}
 use Rattle.esx_text.specs.Lines.{IsSilent, lines}
 use Rattle.esx_text.specs.Answers.{IsAnswered, AreAnswered, Serves}
-use Rattle.esx_text.specs.Answers.IsAnswered.{silent, asked, own, unknown}
+use Rattle.esx_text.specs.Answers.IsAnswered.{silent, asked, own, pageout, unknown}
+use Rattle.esx_text.specs.PageOut.{pageout_text, pageout_after, word_after}
 use Rattle.esx_text.proofs.OwnLemmas.{own_is_loud, own_spells_none, one_own_text}
+use Rattle.esx_text.proofs.PageOutLemmas.{pageout_is_loud, pageout_spells_none, pageout_is_no_word, one_page}
 use Rattle.esx_text.proofs.OneSplit.{one_split}
 
 -- what begins with a small letter is answered
@@ -25,24 +27,43 @@ same_reply : (session : Session) (caller : ℕ) (a b : Call) → a ≡ b
     → (reply_text (next_reply session a) ≡ reply_text (next_reply session b)) × (lined session caller a ≡ lined session caller b)
 same_reply session caller a b e = (ap (λ c. reply_text (next_reply session c)) e, ap (λ c. lined session caller c) e)
 
+same_page : (session : Session) (caller m n page other : ℕ) → m ≡ n → page ≡ other
+    → (pageout_text session m (word_after session m page) ≡ pageout_text session n (word_after session n other))
+    × (pageout_after session caller m (word_after session m page) ≡ pageout_after session caller n (word_after session n other))
+same_page session caller m n page other e f = (
+  ap (λ k. pageout_text session k (word_after session k page)) e ∙ ap (λ p. pageout_text session n (word_after session n p)) f,
+  ap (λ k. pageout_after session caller k (word_after session k page)) e ∙ ap (λ p. pageout_after session caller n (word_after session n p)) f,
+)
+
 one_line : (n caller : ℕ) (before : Session) (line text others : List ℕ) (after last : Session)
     → IsAnswered n caller before line text after → IsAnswered n caller before line others last → (text ≡ others) × (after ≡ last)
 one_line n caller before line text others after last (silent s) (silent t) = (refl, refl)
 one_line n caller before line text others after last (silent s) (asked call is) = absurd (no_silent_call line s call is.command)
 one_line n caller before line text others after last (silent s) (own word other e t) = absurd (own_is_loud line word e s)
-one_line n caller before line text others after last (silent s) (unknown l m none) = absurd (l s)
+one_line n caller before line text others after last (silent s) (pageout m page asks) = absurd (pageout_is_loud line m page asks s)
+one_line n caller before line text others after last (silent s) (unknown l m p none) = absurd (l s)
 one_line n caller before line text others after last (asked call is) (silent s) = absurd (no_silent_call line s call is.command)
 one_line n caller before line text others after last (asked call is) (asked other are) = same_reply before caller call other (one_call line call other is.command are.command)
 one_line n caller before line text others after last (asked call is) (own word other e t) = absurd (own_spells_none line word e call is.command)
-one_line n caller before line text others after last (asked call is) (unknown l m none) = absurd (none call is)
+one_line n caller before line text others after last (asked call is) (pageout m page asks) = absurd (pageout_spells_none line m page asks call is.command)
+one_line n caller before line text others after last (asked call is) (unknown l m p none) = absurd (none call is)
 one_line n caller before line text others after last (own word own_text e t) (silent s) = absurd (own_is_loud line word e s)
 one_line n caller before line text others after last (own word own_text e t) (asked call is) = absurd (own_spells_none line word e call is.command)
 one_line n caller before line text others after last (own word x e t) (own other y f u) = (one_own_text before line word other x y e f t u, refl)
-one_line n caller before line text others after last (own word own_text e t) (unknown l m none) = absurd (m word e)
-one_line n caller before line text others after last (unknown l m none) (silent s) = absurd (l s)
-one_line n caller before line text others after last (unknown l m none) (asked call is) = absurd (none call is)
-one_line n caller before line text others after last (unknown l m none) (own word other e t) = absurd (m word e)
-one_line n caller before line text others after last (unknown l m none) (unknown k j nothing) = (refl, refl)
+one_line n caller before line text others after last (own word own_text e t) (pageout m page asks) = absurd (pageout_is_no_word line m page word asks e)
+one_line n caller before line text others after last (own word own_text e t) (unknown l m p none) = absurd (m word e)
+one_line n caller before line text others after last (pageout m page asks) (silent s) = absurd (pageout_is_loud line m page asks s)
+one_line n caller before line text others after last (pageout m page asks) (asked call is) = absurd (pageout_spells_none line m page asks call is.command)
+one_line n caller before line text others after last (pageout m page asks) (own word other e t) = absurd (pageout_is_no_word line m page word asks e)
+one_line n caller before line text others after last (pageout m page asks) (pageout k other ask) =
+    let same = one_page line m page k other asks ask in
+    same_page before caller m k page other same.0 same.1
+one_line n caller before line text others after last (pageout m page asks) (unknown l w p none) = absurd (p m page asks)
+one_line n caller before line text others after last (unknown l m p none) (silent s) = absurd (l s)
+one_line n caller before line text others after last (unknown l m p none) (asked call is) = absurd (none call is)
+one_line n caller before line text others after last (unknown l m p none) (own word other e t) = absurd (m word e)
+one_line n caller before line text others after last (unknown l w p none) (pageout m page asks) = absurd (p m page asks)
+one_line n caller before line text others after last (unknown l m p none) (unknown k j q nothing) = (refl, refl)
 
 one_way : (n caller : ℕ) (before : Session) (ls : List (List ℕ)) (text others : List ℕ) (after last : Session)
     → AreAnswered n caller before ls text after → AreAnswered n caller before ls others last → (text ≡ others) × (after ≡ last)

@@ -7,3 +7,5 @@ pub mod SendingLemmas
 pub mod OneSplit
 pub mod LawLemmas
 pub mod OwnLemmas
+pub mod PageOutLemmas
+pub mod PageOutTells

@@ -1,5 +1,5 @@
 -- The words of the console alone are no calls, and each is answered in one way.
-use Rattle.std.proofs.Common.{◌≡◌, ◌<◌, ℕ, List, inr, refl, sym, ap, ◌∙◌, arith, length, codes}
+use Rattle.std.proofs.Common.{◌≡◌, ◌<◌, ℕ, List, inl, inr, refl, sym, ap, ◌∙◌, arith, length, codes}
 use Rattle.esx_events.specs.declared.call.Call.{Call}
 use Rattle.esx_model.specs.Console.{Session}
 use Rattle.esx_words.specs.Verbs.{verb_word}
@@ -71,4 +71,4 @@ one_own_text session line a b text other e f p q = own_text_is_one session b tex
 
 -- the order may want memory
 pub order_wants : (line : List ℕ) → line ≡ own_line own.Order → MayWantMemory line
-order_wants line e = record { short = (rw e (omega arith)); wants = inr (inr e) }
+order_wants line e = record { short = (rw e (omega arith)); wants = inr (inr (inl e)) }

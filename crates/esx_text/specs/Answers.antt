@@ -12,6 +12,7 @@ use Rattle.esx_words.specs.Commands.{Spells, MayTakeMemory}
 use Rattle.esx_replies.specs.Replies.{reply_text}
 use Rattle.esx_text.specs.Lines.{EndsIn, lines, line_of, IsSilent, Held, Holds}
 use Rattle.esx_text.specs.Own.{own_line, IsOwnText}
+use Rattle.esx_text.specs.PageOut.{AsksOut, pageout_text, pageout_after, word_after}
 use Rattle.esx_writing.specs.Writing.{WritesFront}
 
 -- the line is a command's, and not too long
@@ -20,10 +21,10 @@ pub record IsAsked (line : List ℕ) (call : Call) : Type 0 where
   pub command : Spells line call
 
 -- Memory may be taken for the line, which is not too long: it is a command's, or begins as one for whose words it is taken,
--- or asks for the order.
+-- or asks for the order, or that a page go out.
 pub record MayWantMemory (line : List ℕ) : Type 0 where
   pub short : length line ≤ LONGEST
-  pub wants : ((call : Call) × IsAsked line call) ⊎ (MayTakeMemory line ⊎ (line ≡ own_line Order))
+  pub wants : ((call : Call) × IsAsked line call) ⊎ (MayTakeMemory line ⊎ ((line ≡ own_line Order) ⊎ ((m page : ℕ) × AsksOut line m page)))
 
 -- the answer to line n, where it is no command
 abbrev pub unknown_text : ℕ → List ℕ
@@ -34,7 +35,17 @@ pub data IsAnswered (n caller : ℕ) (session : Session) (line : List ℕ) : Lis
   silent : IsSilent line → IsAnswered n caller session line [] session
   asked : (call : Call) → IsAsked line call → IsAnswered n caller session line (reply_text (next_reply session call)) (lined session caller call)
   own : (word : OwnWord) (text : List ℕ) → line ≡ own_line word → IsOwnText session word text → IsAnswered n caller session line text session
-  unknown : (IsSilent line → ⊥) → ((word : OwnWord) → line ≡ own_line word → ⊥) → ((call : Call) → IsAsked line call → ⊥) → IsAnswered n caller session line (unknown_text n) session
+  pageout : (m page : ℕ) → AsksOut line m page
+      → IsAnswered n caller session line (pageout_text session m (word_after session m page)) (pageout_after session caller m (word_after session m page))
+  unknown : (IsSilent line → ⊥) → ((word : OwnWord) → line ≡ own_line word → ⊥) → ((m page : ℕ) → AsksOut line m page → ⊥) → ((call : Call) → IsAsked line call → ⊥)
+      → IsAnswered n caller session line (unknown_text n) session
+
+-- A call was made and its reply written, or a front of it, or memory was wanting and nothing happened.
+abbrev pub IsMade : ℕ → Call → Session → Session → Option (List ℕ) → Option (List ℕ) → Result Unit ServeFault → Type 0
+IsMade caller call before after old new (Ok done) = (after ≡ lined before caller call) × Appends old new (reply_text (next_reply before call))
+IsMade caller call before after old new (Err Read) = ⊥
+IsMade caller call before after old new (Err Write) = (after ≡ lined before caller call) × WritesFront old new (reply_text (next_reply before call))
+IsMade caller call before after old new (Err OutOfMemory) = (after ≡ before) × Appends old new []
 
 -- The lines from number n on are answered by a text, and leave a session.
 abbrev pub AreAnswered : ℕ → ℕ → Session → List (List ℕ) → List ℕ → Session → Type 0

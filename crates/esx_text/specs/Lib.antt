@@ -5,12 +5,16 @@ pub use Rattle.esx_reading.specs.Fields
 pub use Rattle.esx_reading.specs.Written
 pub use Rattle.esx_words.specs.Commands
 pub use Rattle.esx_replies.specs.Replies
+pub use Rattle.esx_replies.specs.Texts
 pub use Rattle.esx_writing.specs.Writing
 pub use Rattle.esx_session.specs.Sessions
 pub use Rattle.esx_order.specs.Order
 pub use Rattle.esx_order.specs.Telling
+pub use Rattle.esx_pageout.specs.Word
+pub use Rattle.esx_pageout.specs.Draws
 pub mod Lines
 pub mod Own
+pub mod PageOut
 pub mod Answers
 pub mod States
 pub mod Laws

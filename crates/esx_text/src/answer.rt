@@ -6,11 +6,14 @@ ghost use Rattle.esx_model.specs.Console.{Session};
 ghost use Rattle.esx_text.specs.Lines.{Keeps, IsSilent, input_bytes};
 ghost use Rattle.esx_text.specs.declared.own.OwnWord.{OwnWord};
 ghost use Rattle.esx_text.specs.Own.{own_line};
+ghost use Rattle.esx_text.specs.PageOut.{AsksOut};
 ghost use Rattle.esx_text.specs.Answers.{IsAsked, IsServed, MayWantMemory, write_faults};
 
+use crate::calling::make_call;
 use crate::fault::ServeFault;
 use crate::line::Input;
 use crate::own::{answer_own, own_word};
+use crate::pageout::{answer_pageout, asked_out};
 use esx_console::Console;
 use esx_events::Call;
 use esx_told::Tells;
@@ -36,7 +39,7 @@ fn call_of_line(alloc: Global, line: Input) -> Result<Option<Call>, AllocError>
     parse_command(alloc, text)
 }
 
-/// Makes the call that a line asks for, and writes its reply from the log. Between the two no memory is taken.
+/// Makes the call that a line asks for, and writes its reply.
 fn answer_call<L: Tells, W: Sink>(
     console: &mut Console<L>,
     caller: u16,
@@ -53,13 +56,7 @@ fn answer_call<L: Tells, W: Sink>(
     ensures flushes { W.flushes writer.new ≡ W.flushes writer.old }
     ensures reads { IsErrOf result ServeFault.Read → ⊥ }
 {
-    let Ok(()) = console.call_spelled(caller, call, line) else {
-        return Err(ServeFault::OutOfMemory);
-    };
-    match console.kept().tell_reply(writer, held) {
-        Ok(()) => Ok(()),
-        Err(_) => Err(ServeFault::Write),
-    }
+    make_call(console, caller, writer, held, call, line)
 }
 
 /// Answers a line that is no command.
@@ -69,7 +66,8 @@ fn answer_unknown<W: Sink>(
     number: u64,
 ) -> Result<(), ServeFault>
     requires { held.old ≡ [] }
-    ensures served { (caller : ℕ) (session : Session) (line : List ℕ) → (IsSilent line → ⊥) → ((word : OwnWord) → line ≡ own_line word → ⊥) → ((call : Call) → IsAsked line call → ⊥)
+    ensures served { (caller : ℕ) (session : Session) (line : List ℕ) → (IsSilent line → ⊥) → ((word : OwnWord) → line ≡ own_line word → ⊥)
+        → ((m page : ℕ) → AsksOut line m page → ⊥) → ((call : Call) → IsAsked line call → ⊥)
         → IsServed number caller session line session (W.contents writer.old) (W.contents writer.new) result }
     ensures empty { OnOk result (held.new ≡ []) }
     ensures failures { W.failures writer.new ≡ W.failures writer.old + write_faults result }
@@ -138,8 +136,11 @@ pub fn answer_line<L: Tells, W: Sink>(
     let Ok(found) = call_of_line(alloc, asked.kept) else {
         return Err(ServeFault::OutOfMemory);
     };
-    match found {
-        Some(call) => answer_call(console, caller, writer, held, call, kept),
+    if let Some(call) = found {
+        return answer_call(console, caller, writer, held, call, kept);
+    }
+    match asked_out(asked.kept) {
+        Some((vm, page)) => answer_pageout(console, caller, writer, held, vm, page),
         None => answer_unknown(writer, held, asked.number),
     }
 }

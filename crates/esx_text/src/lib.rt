@@ -3,11 +3,13 @@
 
 mod ahead;
 mod answer;
+mod calling;
 mod ends;
 mod fault;
 pub mod laws;
 mod line;
 mod own;
+mod pageout;
 mod service;
 mod telling;
 

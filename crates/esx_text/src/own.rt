@@ -18,7 +18,7 @@ use std::alloc::Global;
 pub enum OwnWord {
     /// Tells the session so far.
     Session,
-    /// Tells the machines above their targets, in the order in which they are to lose pages.
+    /// Tells the machines above their targets, in the order of their taxed ratios.
     Order,
 }
 

@@ -4,6 +4,7 @@ use Rattle.esx_text.specs.Answers.IsAnswered.{silent}
 use Rattle.esx_writing.proofs.WritingLemmas.{appends_nothing}
 use Rattle.esx_text.proofs.AnswerLemmas.{silent_as_kept, long_line, long_unasked, kept_whole}
 use Rattle.esx_text.proofs.OwnLemmas.{long_is_no_own}
+use Rattle.esx_text.proofs.PageOutLemmas.{long_asks_none}
 use Rattle.esx_text.proofs.answer.answer_line.Goals as goal
 
 pub returns-then-is_silent-clause-served : goal.returns-then-is_silent-clause-served
@@ -20,6 +21,7 @@ returns-then-asked-clause-served g c = λ line keeps.
     c.answer_unknown.ensures.served c.args.caller c.args.console.now line
     (λ s. let t = c.is_silent.ensures.1 (subst IsSilent (sym c.bytes-kept.ensures) ((silent_as_kept kept c.args.asked.now.long line keeps).0 s)) in cc)
     (λ word e. long_is_no_own line (long_line kept c.args.asked.now.long line c.if-asked.true keeps) word e)
+    (λ m page asks. long_asks_none line (long_line kept c.args.asked.now.long line c.if-asked.true keeps) m page asks)
     (λ call is. long_unasked kept c.args.asked.now.long line call c.if-asked.true keeps is)
 
 pub returns-in-Some-clause-served : goal.returns-in-Some-clause-served
@@ -37,6 +39,11 @@ returns-in-Some-found-clause-served g c = λ line keeps.
     let e = kept_whole (input_bytes c.args.asked.now.kept) c.args.asked.now.long line c.if-asked.false keeps ∙ sym c.bytes-kept.ensures in
     rw e (c.answer_call.ensures.served c.args.asked.now.number)
 
+pub returns-in-Some-asked_out-clause-served : goal.returns-in-Some-asked_out-clause-served
+returns-in-Some-asked_out-clause-served g c = λ line keeps.
+    let e = kept_whole (input_bytes c.args.asked.now.kept) c.args.asked.now.long line c.if-asked.false keeps in
+    c.answer_pageout.ensures.served c.args.asked.now.number line (rw e c.in-Some-asked_out.ensures)
+
 pub returns-in-None-clause-served : goal.returns-in-None-clause-served
 returns-in-None-clause-served g c = λ line keeps.
     let kept = input_bytes c.args.asked.now.kept in
@@ -44,4 +51,5 @@ returns-in-None-clause-served g c = λ line keeps.
     c.answer_unknown-in-None.ensures.served c.args.caller c.args.console.now line
     (λ s. let t = c.is_silent.ensures.1 (subst IsSilent (sym c.bytes-kept.ensures) ((silent_as_kept kept c.args.asked.now.long line keeps).0 s)) in cc)
     (λ word s. (rw c.in_default.is at c.own_word.ensures) word (c.bytes-kept.ensures ∙ sym e ∙ s))
-    (λ call is. (rw c.in-None.is at c.in-Ok.ensures.found) call (rw e at is))
+    (λ m page asks. c.in-None.ensures m page (rw e at asks))
+    (λ call is. (rw c.in_default-found.is at c.in-Ok.ensures.found) call (rw e at is))

@@ -1,0 +1,3 @@
+pub mod Draws
+pub mod Told
+pub mod Out
