@@ -4,12 +4,14 @@ use Rattle.std.proofs.Math.Seq.{take-append_seam}
 use Rattle.std.proofs.lemmas.List.{map-append, length-map, length-append}
 use Rattle.std.specs.Prelude.{slice_get}
 use Rattle.esx_types.specs.declared.config.Config.{Config}
+use Rattle.esx_events.specs.declared.call.Reply.{Reply}
 use Rattle.esx_model.specs.Console.{next_reply}
 use Rattle.esx_replies.specs.Replies.{reply_text}
 use Rattle.esx_session.specs.declared.session.Entry.{Entry}
 use Rattle.esx_check.specs.declared.check.Checked.TheVariants.{Differs}
 use Rattle.esx_check.specs.Again.{made, replies_again}
 use Rattle.esx_check.specs.Checks.{Checks, PartAt, replies_told}
+use Rattle.esx_check.specs.Differences.{IsDifference}
 use Rattle.esx_check.specs.Gates.{GoesTo}
 use Rattle.esx_check.proofs.AgainLemmas.{replies_more, made_follow, text_of}
 
@@ -27,7 +29,7 @@ is_not same P is other p =
 pub one_longer : (done : List Entry) (e : Entry) → length done + 1 ≡ length (done ++ e ∷ [])
 one_longer done e = sym (length-append done (e ∷ []))
 
-at_seam : (xs : List (List ℕ)) (y : List ℕ) (ys : List (List ℕ)) → slice_get (xs ++ y ∷ ys) (length xs) ≡ Some y
+at_seam : {A : Type 0} (xs : List A) (y : A) (ys : List A) → slice_get (xs ++ y ∷ ys) (length xs) ≡ Some y
 at_seam [] y ys = refl
 at_seam (x ∷ xs) y ys = at_seam xs y ys
 
@@ -75,6 +77,21 @@ differs_here site entries done later e count split same other is =
       refl,
       rw (← point.long) (part_of (length (replies_told done)) _ _ _ _ point.told point.again (part_at_seam (replies_told done) (replies_told later) point.more e.reply reply (λ e. other (sym e)))),
     )
+
+-- the call itself, with both of its replies
+pub difference_here : (site : Config) (entries done later : List Entry) (e : Entry) (count : ℕ) (reply : Reply)
+    → entries ≡ done ++ e ∷ later → replies_again site done ≡ replies_told done
+    → reply ≡ next_reply (made site done) e.call → (reply_text reply ≡ e.reply → ⊥) → count ≡ length done
+    → IsDifference site entries (record { number = count + 1; entry = e; reply = reply })
+difference_here site entries done later e count reply split same here other is =
+    let place : count + 1 - 1 ≡ length done = omega (arith, is) in
+    let before : take (count + 1 - 1) entries ≡ done =
+    ap (λ (n : ℕ). take n entries) place ∙ ap (take (length done)) split ∙ take-append_seam done (e ∷ later) in
+    record {
+      first = differs_here site entries done later e count split same (λ is_told. other (ap reply_text here ∙ is_told)) is;
+      told = ap (slice_get entries) place ∙ ap (λ (l : List Entry). slice_get l (length done)) split ∙ at_seam done e later;
+      made_again = here ∙ ap (λ (l : List Entry). next_reply (made site l) e.call) (sym before);
+    }
 
 -- where each call that was made has its reply
 pub goes_through : (site : Config) (done : List Entry) (count : ℕ) → replies_again site done ≡ replies_told done → count ≡ length done → GoesTo site done count

@@ -6,4 +6,5 @@ pub mod LawLemmas
 pub mod ReplayLemmas
 pub mod NameLemmas
 pub mod TextLemmas
+pub mod DifferenceLemmas
 pub mod MigrateLemmas

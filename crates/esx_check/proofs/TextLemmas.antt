@@ -1,6 +1,7 @@
 -- What a check knows on its way through a text, and at its end.
 use Rattle.std.proofs.Common.{◌≡◌, inr, ℕ, ◌+◌, List, [], ◌∷◌, ◌++◌, ◌∙◌, ap, refl, append_assoc, append-nil, length}
 use Rattle.esx_types.specs.declared.config.Config.{Config}
+use Rattle.esx_events.specs.declared.call.Reply.{Reply}
 use Rattle.esx_model.specs.Console.{next_reply, lined}
 use Rattle.esx_console.specs.Calls.{opened_session}
 use Rattle.esx_console.specs.Unlogged.{Kept, AnswersAs}
@@ -11,10 +12,13 @@ use Rattle.esx_session.specs.Reading.{Reader, Follows}
 use Rattle.esx_check.specs.declared.check.Checked.TheVariants.{Same, Differs}
 use Rattle.esx_check.specs.Again.{made, replies_again}
 use Rattle.esx_check.specs.Checks.{ChecksText, replies_told}
+use Rattle.esx_check.specs.declared.difference.Compared.{Compared}
+use Rattle.esx_check.specs.declared.difference.Compared.TheVariants as compared
+use Rattle.esx_check.specs.Differences.{ComparesText, checked_of}
 use Rattle.esx_check.specs.Gates.{GoesToInText, ChecksBefore}
 use Rattle.esx_check.specs.Wants.{WantsMemory, NextWantsMemory, CallWantsMemory}
 use Rattle.esx_check.proofs.AgainLemmas.{first_again, again_more, again_nothing}
-use Rattle.esx_check.proofs.CheckLemmas.{same_more, differs_here, one_longer, goes_through, goes_to_next}
+use Rattle.esx_check.proofs.CheckLemmas.{same_more, differs_here, difference_here, one_longer, goes_through, goes_to_next}
 
 -- a reader that read on from these calls
 pub record ReadOn (text : List ℕ) (site : Config) (done : List Entry) (calls : Reader) : Type 0 where
@@ -59,14 +63,24 @@ one_more_so_far text calls next console after count e so_far follows answers is 
   counted = ap (λ n. n + 1) so_far.counted ∙ one_longer so_far.done e;
 }
 
-pub all_same : (text : List ℕ) (calls : Reader) (console : Kept) (count : ℕ) (so_far : SoFar text calls console count) → Reads text so_far.site so_far.done → ChecksText text (Same count)
+pub all_same : (text : List ℕ) (calls : Reader) (console : Kept) (count : ℕ) (so_far : SoFar text calls console count) → Reads text so_far.site so_far.done → ComparesText text (compared.Same count)
 all_same text calls console count so_far reads = (so_far.site, so_far.done, reads, (so_far.counted, so_far.same))
 
-pub one_differs : (text : List ℕ) (calls : Reader) (console : Kept) (count : ℕ) (e : Entry) (so_far : SoFar text calls console count) (later : List Entry)
-    → Reads text so_far.site ((so_far.done ++ e ∷ []) ++ later) → (reply_text (next_reply (made so_far.site so_far.done) e.call) ≡ e.reply → ⊥) → ChecksText text (Differs (count + 1))
-one_differs text calls console count e so_far later reads other =
-    let entries = (so_far.done ++ e ∷ []) ++ later in
-    (so_far.site, entries, reads, differs_here so_far.site entries so_far.done later e count (append_assoc so_far.done (e ∷ []) later) so_far.same other so_far.counted)
+pub one_differs : (text : List ℕ) (calls : Reader) (console : Kept) (count : ℕ) (e : Entry) (reply : Reply) (so_far : SoFar text calls console count) (later : List Entry)
+    → Reads text so_far.site ((so_far.done ++ e ∷ []) ++ later) → reply ≡ next_reply (made so_far.site so_far.done) e.call → (reply_text reply ≡ e.reply → ⊥)
+    → ComparesText text (compared.Differs (record { number = count + 1; entry = e; reply = reply }))
+one_differs text calls console count e reply so_far later reads here other =
+    let entries = (so_far.done ++ e ∷ []) ++ later in (
+      so_far.site,
+      entries,
+      reads,
+      difference_here so_far.site entries so_far.done later e count reply (append_assoc so_far.done (e ∷ []) later) so_far.same here other so_far.counted,
+    )
+
+-- what compares so is checked so
+pub checks_so : (text : List ℕ) (c : Compared) → ComparesText text c → ChecksText text (checked_of c)
+checks_so text (compared.Same count) is = is
+checks_so text (compared.Differs d) is = (is.0, is.1, is.2, is.3.first)
 
 -- where reading ends early, before a call and behind one
 pub goes_to_last : (text : List ℕ) (calls : Reader) (console : Kept) (count : ℕ) → SoFar text calls console count → GoesToInText text count

@@ -3,6 +3,7 @@ pub use Rattle.esx_model.specs.Console
 pub use Rattle.esx_console.specs.Calls
 pub use Rattle.esx_console.specs.Unlogged
 pub use Rattle.esx_words.specs.Commands
+pub use Rattle.esx_replies.specs.Signs
 pub use Rattle.esx_replies.specs.Replies
 pub use Rattle.esx_replies.specs.Told
 pub use Rattle.esx_session.specs.Sessions
@@ -10,6 +11,7 @@ pub use Rattle.esx_session.specs.Reading
 pub mod Comparing
 pub mod Again
 pub mod Checks
+pub mod Differences
 pub mod Gates
 pub mod Wants
 pub mod Replays

@@ -2,7 +2,7 @@
 
 ghost use Rattle.std.specs.Prelude.{◌≡◌, ◌+◌, [], OnOk, OnErr, IfOk};
 ghost use Rattle.esx_types.specs.Ranges.{IsConfig};
-ghost use Rattle.esx_writing.specs.Writing.{Writes, sink_faults};
+ghost use Rattle.esx_writing.specs.Writing.{Puts, Writes, sink_faults};
 ghost use Rattle.esx_check.specs.Checks.{Checks, checked_text};
 ghost use Rattle.esx_check.specs.Gates.{calls_made, PassedFor, PassedForSome};
 ghost use Rattle.esx_check.specs.Wants.{RunsOut};
@@ -11,7 +11,7 @@ use crate::again::Again;
 use esx_door::{Gate, Open};
 use esx_session::{Entry, Session};
 use esx_types::{Config, Sink, SinkFailed};
-use esx_writing::{AnswerBuffer, Piece, write_pieces};
+use esx_writing::{AnswerBuffer, Piece, put_pieces, write_held};
 use std::alloc::{AllocError, Global};
 
 /// What a check comes to.
@@ -76,6 +76,38 @@ pub fn check_session_through<G: Gate>(
     check_calls(alloc, site, entries.into_vec(), gate)
 }
 
+/// Puts what a check came to as a line.
+pub(crate) fn put_checked<W: Sink>(
+    sink: &mut W,
+    held: &mut AnswerBuffer,
+    checked: Checked,
+) -> Result<(), SinkFailed>
+    ensures bytes { Puts (W.contents sink.old) held.old (W.contents sink.new) held.new (checked_text checked) result }
+    ensures failures { W.failures sink.new ≡ W.failures sink.old + sink_faults result }
+    ensures flushes { W.flushes sink.new ≡ W.flushes sink.old }
+{
+    match checked {
+        Checked::Same(count) => put_pieces(
+            sink,
+            held,
+            &[
+                Piece::Text("same "),
+                Piece::Number(count),
+                Piece::Text("\n"),
+            ],
+        ),
+        Checked::Differs(number) => put_pieces(
+            sink,
+            held,
+            &[
+                Piece::Text("differs "),
+                Piece::Number(number),
+                Piece::Text("\n"),
+            ],
+        ),
+    }
+}
+
 /// Writes what a check came to as a line, over an empty buffer. Nothing is held after it, whatever came.
 pub fn write_checked<W: Sink>(
     sink: &mut W,
@@ -88,24 +120,6 @@ pub fn write_checked<W: Sink>(
     ensures failures { W.failures sink.new ≡ W.failures sink.old + sink_faults result }
     ensures flushes { W.flushes sink.new ≡ W.flushes sink.old }
 {
-    match checked {
-        Checked::Same(count) => write_pieces(
-            sink,
-            held,
-            &[
-                Piece::Text("same "),
-                Piece::Number(count),
-                Piece::Text("\n"),
-            ],
-        ),
-        Checked::Differs(number) => write_pieces(
-            sink,
-            held,
-            &[
-                Piece::Text("differs "),
-                Piece::Number(number),
-                Piece::Text("\n"),
-            ],
-        ),
-    }
+    put_checked(sink, held, checked)?;
+    write_held(sink, held)
 }

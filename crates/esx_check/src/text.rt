@@ -8,11 +8,13 @@ ghost use Rattle.esx_session.specs.declared.session.Entry.{Entry};
 ghost use Rattle.esx_session.specs.Sessions.{Reads, HasOpening, IsRefused};
 ghost use Rattle.esx_session.specs.Reading.{Follows, IsNextLine, NextTakesMemory};
 ghost use Rattle.esx_check.specs.Checks.{ChecksText};
+ghost use Rattle.esx_check.specs.Differences.{ComparesText, checked_of};
 ghost use Rattle.esx_check.specs.Gates.{calls_made, GoesToInText, GoesToBadLine, PassedFor, PassedForSome};
 ghost use Rattle.esx_check.specs.Wants.{RunsOutAsRead, RunsOutInText};
 
 use crate::again::Again;
 use crate::check::Checked;
+use crate::difference::{Compared, Difference};
 use esx_door::{Gate, Open};
 use esx_reading::TextFault;
 use esx_session::{Calls, open_calls};
@@ -36,25 +38,25 @@ fn read_on(alloc: Global, calls: &mut Calls) -> Result<(), TextFault>
 }
 
 /// Makes the calls of a text again as they are read, from the first on, at a console that was opened at the site of
-/// the text, and passes the gate before each. The console is done with then, and left to the caller: to drop it takes
-/// as long as there is memory to give back.
+/// the text, and passes the gate before each, up to the first that has another reply than the one that stands with it.
+/// The console is done with then, and left to the caller: to drop it takes as long as there is memory to give back.
 ///
 /// Where reading ends early the gate was passed for calls that stand in the text, and each but the last of them has
 /// its reply; at a bad line, and where memory is wanting to read on, for those that a check of the calls before it
 /// makes.
-pub fn check_as_read<G: Gate>(
+pub fn diff_as_read<G: Gate>(
     alloc: Global,
     again: &mut Again,
     mut calls: Calls,
     gate: &mut G,
-) -> Result<Checked, TextFault>
+) -> Result<Compared, TextFault>
     requires none { (calls.count ≡ 0) × (again.old.console.jumps ≡ 0) }
     requires empty { again.old.held ≡ [] }
     ensures ok { (text : List ℕ) (site : Config) → Follows text site [] calls.entry → AnswersAs again.old.console (opened_session site)
-        → IfOk result (ChecksText text) }
+        → IfOk result (ComparesText text) }
     ensures only { (text : List ℕ) (site : Config) → Follows text site [] calls.entry → AnswersAs again.old.console (opened_session site)
         → IfErr result (λ e. IsRefused e text) }
-    ensures gate { IfOk result (λ checked. PassedFor G.passes (calls_made checked) gate.old gate.new) }
+    ensures gate { IfOk result (λ compared. PassedFor G.passes (calls_made (checked_of compared)) gate.old gate.new) }
     ensures some { (text : List ℕ) (site : Config) → Follows text site [] calls.entry → AnswersAs again.old.console (opened_session site)
         → OnErr result (PassedForSome G.passes (GoesToInText text) gate.old gate.new) }
     ensures bad { (text : List ℕ) (site : Config) (line : ℕ) → Follows text site [] calls.entry → AnswersAs again.old.console (opened_session site)
@@ -65,17 +67,43 @@ pub fn check_as_read<G: Gate>(
     let mut count: u64 = 0;
     while let Some(entry) = calls.next(alloc)? {
         count += 1;
-        let Ok(same) = again.has_same_reply(gate, count, &entry) else {
+        let Ok(other) = again.other_reply(gate, count, &entry) else {
             return Err(TextFault::OutOfMemory);
         };
+        if let Some(reply) = other {
+            read_on(alloc, &mut calls)?;
+            return Ok(Compared::Differs(Difference {
+                number: count,
+                entry,
+                reply,
+            }));
+        }
         calls.give_back(entry.reply);
         drop(entry.call);
-        if !same {
-            read_on(alloc, &mut calls)?;
-            return Ok(Checked::Differs(count));
-        }
     }
-    Ok(Checked::Same(count))
+    Ok(Compared::Same(count))
+}
+
+/// As `check_text_through`, and gives the call that has another reply, with the reply that stands there and the one that
+/// it has.
+pub fn diff_text_through<G: Gate>(
+    alloc: Global,
+    text: &str,
+    gate: &mut G,
+) -> Result<Compared, TextFault>
+    ensures ok { IfOk result (ComparesText text.now) }
+    ensures only { IfErr result (λ e. IsRefused e text.now) }
+    ensures memory { IsErrOf result TextFault.OutOfMemory → HasOpening text.now }
+    ensures gate { IfOk result (λ compared. PassedFor G.passes (calls_made (checked_of compared)) gate.old gate.new) }
+    ensures some { OnErr result (PassedForSome G.passes (GoesToInText text.now) gate.old gate.new) }
+    ensures bad { (line : ℕ) → IsErrOf result (TextFault.BadLine line) → PassedForSome G.passes (GoesToBadLine text.now line) gate.old gate.new }
+    ensures wants { IsErrOf result TextFault.OutOfMemory → PassedForSome G.passes (RunsOutInText text.now) gate.old gate.new }
+{
+    let (site, calls) = open_calls(text)?;
+    let Ok(mut again) = Again::open(alloc, site) else {
+        return Err(TextFault::OutOfMemory);
+    };
+    diff_as_read(alloc, &mut again, calls, gate)
 }
 
 /// Reads the session of a text and makes its calls again as they are read, up to the first that has another reply
@@ -83,7 +111,8 @@ pub fn check_as_read<G: Gate>(
 /// the fault all the same.
 ///
 /// Beside the text, the tables of the site and what undoes its events there is one entry at a time, and one reply is
-/// read in place of the last. Memory is taken behind the first two lines alone.
+/// read in place of the last; behind a difference there is that call too, with both replies. Memory is taken behind the
+/// first two lines alone.
 pub fn check_text(alloc: Global, text: &str) -> Result<Checked, TextFault>
     ensures ok { IfOk result (ChecksText text.now) }
     ensures only { IfErr result (λ e. IsRefused e text.now) }
@@ -113,9 +142,8 @@ pub fn check_text_through<G: Gate>(
     ensures bad { (line : ℕ) → IsErrOf result (TextFault.BadLine line) → PassedForSome G.passes (GoesToBadLine text.now line) gate.old gate.new }
     ensures wants { IsErrOf result TextFault.OutOfMemory → PassedForSome G.passes (RunsOutInText text.now) gate.old gate.new }
 {
-    let (site, calls) = open_calls(text)?;
-    let Ok(mut again) = Again::open(alloc, site) else {
-        return Err(TextFault::OutOfMemory);
-    };
-    check_as_read(alloc, &mut again, calls, gate)
+    match diff_text_through(alloc, text, gate) {
+        Ok(compared) => Ok(compared.checked()),
+        Err(fault) => Err(fault),
+    }
 }

@@ -5,5 +5,7 @@ use esx_program::{exit_code, run};
 use std::process::ExitCode;
 
 fn main(rt: HostRuntime) -> ExitCode {
-    exit_code(&rt, run(&rt, &rt.stderr()))
+    let errors = rt.stderr();
+    let ended = run(&rt, &errors);
+    exit_code(&rt, &errors, ended)
 }

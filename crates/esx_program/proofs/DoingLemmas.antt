@@ -16,17 +16,17 @@ use Rattle.esx_check.specs.Replays.{replay_text, write_faults}
 use Rattle.esx_check.specs.declared.fault.OutputFault.{OutputFault}
 use Rattle.esx_check.specs.declared.fault.OutputFault.TheVariants as output
 use Rattle.esx_program.specs.declared.words.Asked.{Asked}
-use Rattle.esx_program.specs.declared.words.Asked.TheVariants.{Console, Run as RunOf, Replay, Check, Migrate}
+use Rattle.esx_program.specs.declared.words.Asked.TheVariants.{Console, Run as RunOf, Replay, Check, Diff, Migrate, Help}
 use Rattle.esx_program.specs.declared.Done.{Done}
-use Rattle.esx_program.specs.declared.Done.TheVariants.{Served, Ran, Replayed, Checked, Migrated}
+use Rattle.esx_program.specs.declared.Done.TheVariants.{Served, Ran, Replayed, Checked, Compared, Migrated, Helped}
 use Rattle.esx_program.specs.declared.Failure.{Failure}
 use Rattle.esx_program.specs.declared.Failure.TheVariants.{Words, Text, Serve, Output, Run}
-use Rattle.esx_program.specs.Doing.{Does, EndsCheck, LacksSite}
+use Rattle.esx_program.specs.Doing.{Does, EndsCheck, EndsDiff, LacksSite}
 use Rattle.esx_program.specs.Failing.{MayFail, WantsSession}
 use Rattle.esx_program.specs.Files.{HasText, LacksCheck, LacksScenario, LacksSession, Opened}
 use Rattle.esx_program.specs.Given.{open_fault}
 use Rattle.esx_program.specs.Sessions.{GivenOut, IsNotReplayed, IsReplayed, ReplayEnds}
-use Rattle.esx_program.specs.Status.{TellsCheck, TellsNoCheck, word_of_done}
+use Rattle.esx_program.specs.Status.{IsNotChecked, TellsCheck, TellsDiff, TellsNoCheck, TellsNoDiff, word_of_done}
 use Rattle.esx_program.specs.Words.{asked_of}
 use Rattle.esx_program.proofs.FileLemmas.{text_refused}
 use Rattle.esx_program.proofs.SessionLemmas.{faults_of}
@@ -85,27 +85,51 @@ module _ (unread left : SourceState) (errors errors' out out' : SinkState) where
   does_word (Console file) (Ok Ran) d = absurd d.0
   does_word (Console file) (Ok Replayed) d = absurd d.0
   does_word (Console file) (Ok (Checked c)) d = absurd d.0
+  does_word (Console file) (Ok (Compared c)) d = absurd d.0
   does_word (Console file) (Ok (Migrated c)) d = absurd d.0
+  does_word (Console file) (Ok Helped) d = absurd d.0
   does_word (RunOf file) (Ok Served) d = absurd d.0
   does_word (RunOf file) (Ok Ran) d = refl
   does_word (RunOf file) (Ok Replayed) d = absurd d.0
   does_word (RunOf file) (Ok (Checked c)) d = absurd d.0
+  does_word (RunOf file) (Ok (Compared c)) d = absurd d.0
   does_word (RunOf file) (Ok (Migrated c)) d = absurd d.0
+  does_word (RunOf file) (Ok Helped) d = absurd d.0
   does_word (Replay file) (Ok Served) d = absurd d.0
   does_word (Replay file) (Ok Ran) d = absurd d.0
   does_word (Replay file) (Ok Replayed) d = refl
   does_word (Replay file) (Ok (Checked c)) d = absurd d.0
+  does_word (Replay file) (Ok (Compared c)) d = absurd d.0
   does_word (Replay file) (Ok (Migrated c)) d = absurd d.0
+  does_word (Replay file) (Ok Helped) d = absurd d.0
   does_word (Check file) (Ok Served) d = absurd d.0
   does_word (Check file) (Ok Ran) d = absurd d.0
   does_word (Check file) (Ok Replayed) d = absurd d.0
   does_word (Check file) (Ok (Checked c)) d = refl
+  does_word (Check file) (Ok (Compared c)) d = absurd d.0
   does_word (Check file) (Ok (Migrated c)) d = absurd d.0
+  does_word (Check file) (Ok Helped) d = absurd d.0
+  does_word (Diff file) (Ok Served) d = absurd d.0
+  does_word (Diff file) (Ok Ran) d = absurd d.0
+  does_word (Diff file) (Ok Replayed) d = absurd d.0
+  does_word (Diff file) (Ok (Checked c)) d = absurd d.0
+  does_word (Diff file) (Ok (Compared c)) d = refl
+  does_word (Diff file) (Ok (Migrated c)) d = absurd d.0
+  does_word (Diff file) (Ok Helped) d = absurd d.0
   does_word (Migrate file) (Ok Served) d = absurd d.0
   does_word (Migrate file) (Ok Ran) d = absurd d.0
   does_word (Migrate file) (Ok Replayed) d = absurd d.0
   does_word (Migrate file) (Ok (Checked c)) d = absurd d.0
+  does_word (Migrate file) (Ok (Compared c)) d = absurd d.0
   does_word (Migrate file) (Ok (Migrated c)) d = refl
+  does_word (Migrate file) (Ok Helped) d = absurd d.0
+  does_word Help (Ok Served) d = absurd d.0
+  does_word Help (Ok Ran) d = absurd d.0
+  does_word Help (Ok Replayed) d = absurd d.0
+  does_word Help (Ok (Checked c)) d = absurd d.0
+  does_word Help (Ok (Compared c)) d = absurd d.0
+  does_word Help (Ok (Migrated c)) d = absurd d.0
+  does_word Help (Ok Helped) d = refl
   does_word asked (Err e) d = tt
 
   -- it fails only as that may fail
@@ -125,46 +149,70 @@ module _ (unread left : SourceState) (errors errors' out out' : SinkState) where
   does_fail (Replay file) (Err Words) d = absurd d.0
   does_fail (Replay file) (Err (Text e)) d = no_session_may_fail (asked_of (Replay file)) refl file e (inl refl) d.0.0
   does_fail (Replay file) (Err (Serve e)) d = absurd d.0
-  does_fail (Replay file) (Err (Output e)) d = inl refl
+  does_fail (Replay file) (Err (Output e)) d = inl (inl refl)
   does_fail (Replay file) (Err (Run e)) d = absurd d.0
   does_fail (Check file) (Err Words) d = absurd d.0
   does_fail (Check file) (Err (Text e)) d = no_check_may_fail (asked_of (Check file)) refl file e (inr (inl refl)) d.0.0
   does_fail (Check file) (Err (Serve e)) d = absurd d.0
-  does_fail (Check file) (Err (Output e)) d = inr (inl refl)
+  does_fail (Check file) (Err (Output e)) d = inl (inr (inl refl))
   does_fail (Check file) (Err (Run e)) d = absurd d.0
+  does_fail (Diff file) (Err Words) d = absurd d.0
+  does_fail (Diff file) (Err (Text e)) d = no_check_may_fail (asked_of (Diff file)) refl file e (inr (inr (inl refl))) d.0.0
+  does_fail (Diff file) (Err (Serve e)) d = absurd d.0
+  does_fail (Diff file) (Err (Output e)) d = inl (inr (inr (inl refl)))
+  does_fail (Diff file) (Err (Run e)) d = absurd d.0
   does_fail (Migrate file) (Err Words) d = absurd d.0
-  does_fail (Migrate file) (Err (Text e)) d = no_session_may_fail (asked_of (Migrate file)) refl file e (inr (inr refl)) d.0.0
+  does_fail (Migrate file) (Err (Text e)) d = no_session_may_fail (asked_of (Migrate file)) refl file e (inr (inr (inr refl))) d.0.0
   does_fail (Migrate file) (Err (Serve e)) d = absurd d.0
-  does_fail (Migrate file) (Err (Output e)) d = inr (inr refl)
+  does_fail (Migrate file) (Err (Output e)) d = inl (inr (inr (inr refl)))
   does_fail (Migrate file) (Err (Run e)) d = absurd d.0
+  does_fail Help (Err Words) d = absurd d.0
+  does_fail Help (Err (Text e)) d = absurd d.0
+  does_fail Help (Err (Serve e)) d = absurd d.0
+  does_fail Help (Err (Output e)) d = inr refl
+  does_fail Help (Err (Run e)) d = absurd d.0
 
 -- the text of a file was checked
 module _ (read : Opened) (out out' : SinkState) (bytes : List ℕ) (here : HasText read bytes) where
-  checked_done : (done : Done) → TellsCheck bytes done out out' → EndsCheck read (Ok done) out out'
-  checked_done Served t = absurd t
-  checked_done Ran t = absurd t
-  checked_done Replayed t = absurd t
-  checked_done (Checked c) t = (bytes, here, t.0, t.1)
-  checked_done (Migrated c) t = absurd t
-
-  not_checked : (failure : Failure) → TellsNoCheck bytes failure out out' → EndsCheck read (Err failure) out out'
-  not_checked Words t = absurd t
-  not_checked (Text text.NotToml) t = absurd t.0
-  not_checked (Text (text.BadKey path)) t = absurd t.0
-  not_checked (Text (text.BadLine k)) t = (text_refused read bytes (text.BadLine k) here t.0 (λ h. cc), t.1)
-  not_checked (Text text.NotText) t = absurd t.0
-  not_checked (Text (text.Differs k)) t = absurd t.0
-  not_checked (Text text.Read) t = absurd t.0
-  not_checked (Text text.Write) t = absurd t.0
-  not_checked (Text text.OutOfMemory) t = (text_refused read bytes text.OutOfMemory here tt (λ h. t.0), t.1)
-  not_checked (Serve e) t = absurd t
-  not_checked (Output e) t = (bytes, here, t.0, t.1, t.2)
-  not_checked (Run e) t = absurd t
+  not_checked : (e : TextFault) → IsNotChecked bytes e → LacksCheck read e
+  not_checked text.NotToml n = absurd n
+  not_checked (text.BadKey path) n = absurd n
+  not_checked (text.BadLine k) n = text_refused read bytes (text.BadLine k) here n (λ h. cc)
+  not_checked text.NotText n = absurd n
+  not_checked (text.Differs k) n = absurd n
+  not_checked text.Read n = absurd n
+  not_checked text.Write n = absurd n
+  not_checked text.OutOfMemory n = text_refused read bytes text.OutOfMemory here tt (λ h. n)
 
   pub file_checked : (ended : Result Done Failure) → IfOk ended (λ done. TellsCheck bytes done out out') → IfErr ended (λ e. TellsNoCheck bytes e out out')
       → EndsCheck read ended out out'
-  file_checked (Ok done) ok fault = checked_done done ok
-  file_checked (Err failure) ok fault = not_checked failure fault
+  file_checked (Ok Served) ok fault = absurd ok
+  file_checked (Ok Ran) ok fault = absurd ok
+  file_checked (Ok Replayed) ok fault = absurd ok
+  file_checked (Ok (Checked c)) ok fault = (bytes, here, ok.0, ok.1)
+  file_checked (Ok (Compared c)) ok fault = absurd ok
+  file_checked (Ok (Migrated c)) ok fault = absurd ok
+  file_checked (Ok Helped) ok fault = absurd ok
+  file_checked (Err Words) ok fault = absurd fault
+  file_checked (Err (Text e)) ok fault = (not_checked e fault.0, fault.1)
+  file_checked (Err (Serve e)) ok fault = absurd fault
+  file_checked (Err (Output e)) ok fault = (bytes, here, fault.0, fault.1, fault.2)
+  file_checked (Err (Run e)) ok fault = absurd fault
+
+  pub file_compared : (ended : Result Done Failure) → IfOk ended (λ done. TellsDiff bytes done out out') → IfErr ended (λ e. TellsNoDiff bytes e out out')
+      → EndsDiff read ended out out'
+  file_compared (Ok Served) ok fault = absurd ok
+  file_compared (Ok Ran) ok fault = absurd ok
+  file_compared (Ok Replayed) ok fault = absurd ok
+  file_compared (Ok (Checked c)) ok fault = absurd ok
+  file_compared (Ok (Compared c)) ok fault = (bytes, here, ok.0, ok.1, ok.2, ok.3)
+  file_compared (Ok (Migrated c)) ok fault = absurd ok
+  file_compared (Ok Helped) ok fault = absurd ok
+  file_compared (Err Words) ok fault = absurd fault
+  file_compared (Err (Text e)) ok fault = (not_checked e fault.0, fault.1)
+  file_compared (Err (Serve e)) ok fault = absurd fault
+  file_compared (Err (Output e)) ok fault = (bytes, here, fault.0, fault.1, fault.2)
+  file_compared (Err (Run e)) ok fault = absurd fault
 
 -- a session was gone through again, or not to its end
 pub replayed : (site : Config) (entries : List Entry) (out out' : SinkState) (r : Result (Unit {0}) OutputFault)

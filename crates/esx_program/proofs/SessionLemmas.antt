@@ -6,10 +6,8 @@ use Rattle.esx_types.specs.declared.config.Config.{Config}
 use Rattle.esx_session.specs.declared.session.Entry.{Entry}
 use Rattle.esx_check.specs.declared.fault.OutputFault.{OutputFault}
 use Rattle.esx_check.specs.declared.fault.OutputFault.TheVariants.{Write, OutOfMemory}
-use Rattle.esx_check.specs.declared.check.Checked.{Checked}
-use Rattle.esx_check.specs.Checks.{checked_text}
 use Rattle.esx_check.specs.Replays.{ReplayStops, replay_text, write_faults}
-use Rattle.esx_program.specs.Sessions.{CheckStops, GivenOut, ReplayEnds, failed_writes}
+use Rattle.esx_program.specs.Sessions.{GivenOut, ReplayEnds, TellingStops, failed_writes}
 use Rattle.esx_program.proofs.OutgoingLemmas.{appends_kept, appends_known, appends_nothing, none_wait}
 
 pub text_comes_out : {T : Type 0} (r : Result T OutputFault) (a b : Option (List ℕ)) (first last text : List ℕ)
@@ -35,7 +33,7 @@ pub no_replay : (e : OutputFault) (site : Config) (entries : List Entry) (a b : 
 no_replay Write site entries a b k = (b, inl ([], replay_text site entries, refl, appends_kept a a b [] (appends_nothing a) k), ([], appends_nothing b))
 no_replay OutOfMemory site entries a b k = (b, inr (refl, appends_kept a a b [] (appends_nothing a) k), refl)
 
--- the same of a check
-pub no_line : (e : OutputFault) (checked : Checked) (a b : Option (List ℕ)) → Keeps a b → CheckStops e checked a b
-no_line Write checked a b k = ([], checked_text checked, refl, appends_kept a a b [] (appends_nothing a) k)
-no_line OutOfMemory checked a b k = appends_kept a a b [] (appends_nothing a) k
+-- the same of any text
+pub no_telling : (e : OutputFault) (text : List ℕ) (a b : Option (List ℕ)) → Keeps a b → TellingStops e text a b
+no_telling Write text a b k = ([], text, refl, appends_kept a a b [] (appends_nothing a) k)
+no_telling OutOfMemory text a b k = appends_kept a a b [] (appends_nothing a) k

@@ -5,12 +5,17 @@ use Rattle.std.specs.Borrow.{Bor}
 use Rattle.std.specs.Option.{ok_or}
 use Rattle.std.proofs.lemmas.Option.{same_Some}
 use Rattle.clap.specs.Words.{AddsSubcommand, App, Row, Text, app_of, with_subcommand}
+use Rattle.clap.specs.Simple.{app_of_fields}
 use Rattle.clap.specs.declared.builder.command.Command.{Command}
 use Rattle.clap.specs.declared.builder.command.Command.TheViews.{out-Command as fields_of}
 use Rattle.esx_program.specs.declared.words.Asked.{Asked}
 use Rattle.esx_program.specs.declared.words.WordsFault.{WordsFault}
 use Rattle.esx_program.specs.declared.words.WordsFault.TheVariants.{Wrong}
-use Rattle.esx_program.specs.Words.{word_and_file}
+use Rattle.esx_program.specs.Words.{without_help, word_and_file}
+
+pub no_help_of_its_own : (old new : Command) (a : App) → fields_of new ≡ record (fields_of old) { disable_help_subcommand = true } → app_of old ≡ a
+    → app_of new ≡ without_help a
+no_help_of_its_own old new a fields o = ap app_of_fields fields ∙ ap without_help o
 
 pub one_more : (old sub new : Command) (a b : App) → AddsSubcommand old sub new → (fields_of sub).has_globals ≡ false
     → app_of old ≡ a → app_of sub ≡ b → app_of new ≡ with_subcommand a b.top

@@ -11,17 +11,21 @@ use Rattle.esx_reading.specs.declared.fault.TextFault.TheVariants as text
 use Rattle.esx_scenario.specs.Plans.{Plan}
 use Rattle.esx_session.specs.declared.session.Entry.{Entry}
 use Rattle.esx_text.specs.States.{SourceState, SinkState}
-use Rattle.esx_check.specs.Checks.{ChecksText}
+use Rattle.esx_check.specs.Checks.{ChecksText, checked_text}
+use Rattle.esx_check.specs.Differences.{ComparesText, checked_of, compared_text}
 use Rattle.esx_check.specs.declared.check.Checked.{Checked as Outcome}
+use Rattle.esx_check.specs.declared.difference.Compared.{Compared as Comparison}
+use Rattle.esx_check.specs.declared.fault.OutputFault.TheVariants as output
 use Rattle.esx_program.specs.declared.words.Asked.{Asked}
 use Rattle.esx_program.specs.declared.words.Asked.TheVariants as asked
 use Rattle.esx_program.specs.declared.Done.{Done}
-use Rattle.esx_program.specs.declared.Done.TheVariants.{Served, Ran, Replayed, Checked, Migrated}
+use Rattle.esx_program.specs.declared.Done.TheVariants.{Served, Ran, Replayed, Checked, Compared, Migrated, Helped}
 use Rattle.esx_program.specs.declared.Failure.{Failure}
 use Rattle.esx_program.specs.declared.Failure.TheVariants.{Words, Text, Serve, Output, Run}
 use Rattle.esx_program.specs.Failing.{Asks}
 use Rattle.esx_program.specs.Files.{Opened, IsFile, HasScenario, HasSession, HasText, LacksCheck, LacksScenario, LacksSession}
 use Rattle.esx_program.specs.Given.{Args}
+use Rattle.esx_program.specs.Help.{help_text}
 use Rattle.esx_program.specs.Runs.{Plays, RunStops}
 use Rattle.esx_program.specs.Sessions.{IsTold, IsNotTold, IsReplayed, IsNotReplayed, IsMigrated, IsNotMigrated}
 use Rattle.esx_program.specs.Streams.{IsServed}
@@ -64,11 +68,20 @@ EndsReplay read ended out out' = ⊥
 
 -- A check ends: what the session in a file comes to was written as a line, or a front of it. Or there is none to check, and nothing was written.
 abbrev pub EndsCheck : Opened → Result Done Failure → SinkState → SinkState → Type 0
-EndsCheck read (Ok (Checked checked)) out out' = (bytes : List ℕ) × HasText read bytes × ChecksText bytes checked × IsTold checked out out'
+EndsCheck read (Ok (Checked checked)) out out' = (bytes : List ℕ) × HasText read bytes × ChecksText bytes checked × IsTold (checked_text checked) out out'
 EndsCheck read (Err (Text e)) out out' = LacksCheck read e × (out' ≡ out)
 EndsCheck read (Err (Output e)) out out' =
-    (bytes : List ℕ) × HasText read bytes × (checked : Outcome) × ChecksText bytes checked × IsNotTold e checked out out'
+    (bytes : List ℕ) × HasText read bytes × (checked : Outcome) × ChecksText bytes checked × IsNotTold e (checked_text checked) out out'
 EndsCheck read ended out out' = ⊥
+
+-- A comparison ends: what the session in a file comes to was written, with a difference whole, or a front of it. Or there is none to check, and nothing was written.
+abbrev pub EndsDiff : Opened → Result Done Failure → SinkState → SinkState → Type 0
+EndsDiff read (Ok (Compared checked)) out out' =
+    (bytes : List ℕ) × HasText read bytes × (c : Comparison) × ComparesText bytes c × (checked ≡ checked_of c) × IsTold (compared_text c) out out'
+EndsDiff read (Err (Text e)) out out' = LacksCheck read e × (out' ≡ out)
+EndsDiff read (Err (Output e)) out out' =
+    (bytes : List ℕ) × HasText read bytes × (c : Comparison) × ComparesText bytes c × IsNotTold e (compared_text c) out out'
+EndsDiff read ended out out' = ⊥
 
 -- A migration ends: the session in a file was written in version 2, or the line of its first call with another reply, or writing that stopped. Or there is no such session, and nothing was written.
 abbrev pub EndsMigrate : Opened → Result Done Failure → SinkState → SinkState → Type 0
@@ -77,13 +90,21 @@ EndsMigrate read (Err (Text e)) out out' = LacksSession read e × (out' ≡ out)
 EndsMigrate read (Err (Output e)) out out' = (site : Config) × (entries : List Entry) × HasSession read site entries × IsNotMigrated e site entries out out'
 EndsMigrate read ended out out' = ⊥
 
+-- Help ends: the words of the program were written, or after a fault of writing a front of them.
+abbrev pub EndsHelp : Result Done Failure → SinkState → SinkState → Type 0
+EndsHelp (Ok Helped) out out' = IsTold help_text out out'
+EndsHelp (Err (Output output.Write)) out out' = IsNotTold output.Write help_text out out'
+EndsHelp ended out out' = ⊥
+
 -- What is asked for was done, and ended so: with what a source had, with what was told of errors, and with what was written. The streams that it takes no part in are as they were.
 abbrev pub Does : Asked Opened → Result Done Failure → SourceState → SourceState → SinkState → SinkState → SinkState → SinkState → Type 0
 Does (asked.Console file) ended unread left errors errors' out out' = EndsConsole file ended unread left out out' × (errors' ≡ errors)
 Does (asked.Run read) ended unread left errors errors' out out' = EndsRun read ended errors errors' out out' × (left ≡ unread)
 Does (asked.Replay read) ended unread left errors errors' out out' = EndsReplay read ended out out' × (left ≡ unread) × (errors' ≡ errors)
 Does (asked.Check read) ended unread left errors errors' out out' = EndsCheck read ended out out' × (left ≡ unread) × (errors' ≡ errors)
+Does (asked.Diff read) ended unread left errors errors' out out' = EndsDiff read ended out out' × (left ≡ unread) × (errors' ≡ errors)
 Does (asked.Migrate read) ended unread left errors errors' out out' = EndsMigrate read ended out out' × (left ≡ unread) × (errors' ≡ errors)
+Does asked.Help ended unread left errors errors' out out' = EndsHelp ended out out' × (left ≡ unread) × (errors' ≡ errors)
 
 -- The same of a file and of ends of the standard library, of which only the bytes are known.
 pub record DoesOver {F : Type 0} (remaining : F → Option (List ℕ)) (wanted : Asked (Result F Error)) (ended : Result Done Failure)

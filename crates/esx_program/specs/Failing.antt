@@ -20,13 +20,17 @@ NamesScenario asked = IsSome asked.1 × ((asked.0 ≡ codes "console") ⊎ (aske
 
 -- a word that wants a session
 abbrev pub WantsSession : {A : Type 0} → Word × Option A → Type 0
-WantsSession asked = (asked.0 ≡ codes "replay") ⊎ ((asked.0 ≡ codes "check") ⊎ (asked.0 ≡ codes "migrate"))
+WantsSession asked = (asked.0 ≡ codes "replay") ⊎ ((asked.0 ≡ codes "check") ⊎ ((asked.0 ≡ codes "diff") ⊎ (asked.0 ≡ codes "migrate")))
 
 -- a word and a file that is a session
 abbrev pub NamesSession : {A : Type 0} → Word × Option A → Type 0
 NamesSession asked = IsSome asked.1 × WantsSession asked
 
--- how what is asked for may fail: at the file, if one is named, at the streams of a console, in a run, or where a replay, a check or a migration is written
+-- a word whose text may fail to be written
+abbrev pub WritesText : {A : Type 0} → Word × Option A → Type 0
+WritesText asked = WantsSession asked ⊎ (asked.0 ≡ codes "help")
+
+-- how what is asked for may fail: at the file, if one is named, at the streams of a console, in a run, or where something else is written
 abbrev pub MayFail : {A : Type 0} → Word × Option A → Failure → Type 0
 MayFail asked Words = ⊥
 MayFail asked (Text text.NotToml) = NamesScenario asked
@@ -38,7 +42,7 @@ MayFail asked (Text text.Read) = IsSome asked.1
 MayFail asked (Text text.Write) = ⊥
 MayFail asked (Text text.OutOfMemory) = IsSome asked.1
 MayFail asked (Serve e) = asked.0 ≡ codes "console"
-MayFail asked (Output e) = WantsSession asked
+MayFail asked (Output e) = WritesText asked
 MayFail asked (Run e) = asked.0 ≡ codes "run"
 
 -- words that ask for nothing, as a failure

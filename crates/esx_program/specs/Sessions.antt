@@ -14,26 +14,26 @@ use Rattle.esx_check.specs.declared.fault.OutputFault.TheVariants as output
 use Rattle.esx_check.specs.Checks.{Checks, checked_text}
 use Rattle.esx_check.specs.Replays.{ReplayStops, replay_text}
 
--- the line of what a check came to was written, nothing failed, and after one flush nothing waits
-pub record IsTold (checked : Checked) (out out' : SinkState) : Type 0 where
-  pub told : Appends out.contents out'.contents (checked_text checked)
+-- a text was written, nothing failed, and after one flush nothing waits
+pub record IsTold (text : List ℕ) (out out' : SinkState) : Type 0 where
+  pub told : Appends out.contents out'.contents text
   pub failures : out'.failures ≡ out.failures
   pub flushes : out'.flushes ≡ out.flushes + 1
   pub sent : out'.waiting ≡ []
 
--- after a fault of writing a front of what the check came to was written, and nothing where memory ran out
-abbrev pub CheckStops : OutputFault → Checked → Option (List ℕ) → Option (List ℕ) → Type 0
-CheckStops output.Write checked old new = WritesFront old new (checked_text checked)
-CheckStops output.OutOfMemory checked old new = Appends old new []
+-- after a fault of writing a front of a text was written, and nothing where memory ran out
+abbrev pub TellingStops : OutputFault → List ℕ → Option (List ℕ) → Option (List ℕ) → Type 0
+TellingStops output.Write text old new = WritesFront old new text
+TellingStops output.OutOfMemory text old new = Appends old new []
 
 -- how many calls of the sink fail with a fault
 abbrev pub failed_writes : OutputFault → ℕ
 failed_writes output.Write = 1
 failed_writes output.OutOfMemory = 0
 
--- the line was not written, or not all of it, or it could not be handed on
-pub record IsNotTold (e : OutputFault) (checked : Checked) (out out' : SinkState) : Type 0 where
-  pub stops : CheckStops e checked out.contents out'.contents
+-- it was not written, or not all of it, or it could not be handed on
+pub record IsNotTold (e : OutputFault) (text : List ℕ) (out out' : SinkState) : Type 0 where
+  pub stops : TellingStops e text out.contents out'.contents
   pub failures : out'.failures ≡ out.failures + failed_writes e
   pub flushes : out'.flushes + failed_writes e ≡ out.flushes + 1
   pub sent : (e ≡ output.Write → ⊥) → out'.waiting ≡ []

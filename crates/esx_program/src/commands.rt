@@ -4,22 +4,24 @@ ghost use Rattle.std.specs.Prelude.{◌≡◌, ◌≤◌, Option, IfOk, IfErr};
 ghost use Rattle.esx_types.specs.Ranges.{IsConfig};
 ghost use Rattle.esx_text.specs.States.{sink_state, source_state};
 ghost use Rattle.esx_program.specs.declared.words.Asked.{Asked as Wanted};
-ghost use Rattle.esx_program.specs.Doing.{Does, EndsCheck, EndsConsole, EndsMigrate, EndsReplay, EndsRun, IsSiteAsked, LacksSite};
+ghost use Rattle.esx_program.specs.Doing.{Does, EndsCheck, EndsConsole, EndsDiff, EndsHelp, EndsMigrate, EndsReplay, EndsRun, IsSiteAsked, LacksSite};
 ghost use Rattle.esx_program.specs.Files.{AreLeft, IsLeft, MayBeLeft, Opened};
-ghost use Rattle.esx_program.specs.Status.{TellsCheck, TellsNoCheck};
+ghost use Rattle.esx_program.specs.Status.{TellsCheck, TellsDiff, TellsNoCheck, TellsNoDiff};
 
 use crate::files::{scenario_of_file, script_of_file, session_of_file, text_of_file};
+use crate::help::tell_help;
 use crate::migrating::migrate_to;
 use crate::outgoing::{Outgoing, Waiting};
 use crate::running::run_to;
-use crate::session::{check_watched, replay_watched, tell_check};
+use crate::session::{check_watched, diff_watched, replay_watched, tell};
 use crate::site::serve_site;
 use crate::streams::{Ended, Streams};
 use crate::words::Asked;
 use crate::{Done, Failure, SITE};
+use esx_check::OutputFault;
 use esx_reading::TextFault;
 use esx_text::give_up;
-use esx_types::{Config, Sink, Source};
+use esx_types::{Config, Sink, SinkFailed, Source};
 use std::alloc::{AllocGlobal, Global};
 use std::io;
 use std::marker::Brand;
@@ -192,7 +194,7 @@ fn check_to<P: Print, W: Sink>(
         (sink_state W.contents W.waiting W.failures W.flushes writer.old) (sink_state W.contents W.waiting W.failures W.flushes writer.new)) }
 {
     match check_watched(alloc, text, to) {
-        Ok(checked) => match tell_check(alloc, checked, writer) {
+        Ok(checked) => match tell(alloc, &checked, writer) {
             Ok(()) => Ok(Done::Checked(checked)),
             Err(fault) => Err(Failure::Output(fault)),
         },
@@ -214,6 +216,45 @@ fn check_file<P: Print, F: Source, W: Sink>(
 {
     match text_of_file(alloc, opened) {
         Ok(text) => check_to(alloc, text.as_str(), to, writer),
+        Err(fault) => Err(Failure::Text(fault)),
+    }
+}
+
+/// Checks the session of a text, and tells a writer what came of it, with a difference whole.
+fn diff_to<P: Print, W: Sink>(
+    alloc: Global,
+    text: &str,
+    to: Option<&P>,
+    writer: &mut W,
+) -> Result<Done, Failure>
+    ensures told { IfOk result (λ done. TellsDiff text.now done
+        (sink_state W.contents W.waiting W.failures W.flushes writer.old) (sink_state W.contents W.waiting W.failures W.flushes writer.new)) }
+    ensures failure { IfErr result (λ e. TellsNoDiff text.now e
+        (sink_state W.contents W.waiting W.failures W.flushes writer.old) (sink_state W.contents W.waiting W.failures W.flushes writer.new)) }
+{
+    match diff_watched(alloc, text, to) {
+        Ok(compared) => match tell(alloc, &compared, writer) {
+            Ok(()) => Ok(Done::Compared(compared.checked())),
+            Err(fault) => Err(Failure::Output(fault)),
+        },
+        Err(fault) => Err(Failure::Text(fault)),
+    }
+}
+
+/// Checks the session in a file, while its text is read, and tells a writer what came of it, with a difference whole.
+/// How far it is, is told to `to`, where there is one.
+fn diff_file<P: Print, F: Source, W: Sink>(
+    alloc: Global,
+    opened: &mut io::Result<F>,
+    to: Option<&P>,
+    writer: &mut W,
+) -> Result<Done, Failure>
+    ensures { (read : Opened) × IsLeft (source_state F.remaining F.calls F.failures F.empty_reads F.asked) opened.old opened.new read
+        × EndsDiff read result
+        (sink_state W.contents W.waiting W.failures W.flushes writer.old) (sink_state W.contents W.waiting W.failures W.flushes writer.new) }
+{
+    match text_of_file(alloc, opened) {
+        Ok(text) => diff_to(alloc, text.as_str(), to, writer),
         Err(fault) => Err(Failure::Text(fault)),
     }
 }
@@ -257,6 +298,17 @@ fn migrate_file<P: Print, F: Source, I: Drop, E: Drop, W: Sink + Drop>(
     Ended { ended, streams }
 }
 
+/// Writes the words of the program.
+fn help_to<W: Sink>(writer: &mut W) -> Result<Done, Failure>
+    ensures { EndsHelp result
+        (sink_state W.contents W.waiting W.failures W.flushes writer.old) (sink_state W.contents W.waiting W.failures W.flushes writer.new) }
+{
+    match tell_help(writer) {
+        Ok(()) => Ok(Done::Helped),
+        Err(SinkFailed) => Err(Failure::Output(OutputFault::Write)),
+    }
+}
+
 /// Does what is asked for. How far a long work is, is told to `to`, where there is one.
 pub fn run_asked<
     R: AllocGlobal + Threads + Wait + Sync,
@@ -287,6 +339,14 @@ pub fn run_asked<
             let ended = check_file(rt.alloc(), opened, to, &mut streams.writer);
             Ended { ended, streams }
         }
+        Asked::Diff(opened) => {
+            let ended = diff_file(rt.alloc(), opened, to, &mut streams.writer);
+            Ended { ended, streams }
+        }
         Asked::Migrate(opened) => migrate_file(rt.alloc(), opened, to, streams),
+        Asked::Help => {
+            let ended = help_to(&mut streams.writer);
+            Ended { ended, streams }
+        }
     }
 }

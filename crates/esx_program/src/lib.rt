@@ -1,4 +1,4 @@
-//! What the program does: a console over the standard streams, sessions gone through again, and runs of scenarios.
+//! What the program does: a console over the standard streams, sessions gone through again, runs of scenarios, and its words.
 #![tactic(auto)]
 
 ghost use Rattle.std.specs.Prelude.{◌≡◌, map, string_bytes, IfOk, IfErr, IfSome};
@@ -13,6 +13,7 @@ mod commands;
 mod ends;
 mod files;
 mod gates;
+mod help;
 mod migrating;
 mod outgoing;
 mod progress;
@@ -27,10 +28,11 @@ use esx_check::{Checked, OutputFault};
 use esx_reading::TextFault;
 use esx_text::ServeFault;
 use esx_types::{Config, MAX_NODES};
+pub use help::tell_help;
 pub use migrating::migrate_watched;
 pub use running::RunFault;
-pub use session::check_watched;
 use session::status_of_check;
+pub use session::{check_watched, diff_watched};
 pub use site::serve_site;
 use standard::opened;
 pub use standard::run_counted;
@@ -76,8 +78,18 @@ pub enum Failure {
 }
 
 impl Failure {
-    ghost use Rattle.std.specs.Prelude.{◌≡◌};
-    ghost use Rattle.esx_program.specs.Status.{status_of};
+    ghost use Rattle.std.specs.Prelude.{◌≡◌, option_map};
+    ghost use Rattle.esx_program.specs.Status.{advice_of, status_of};
+
+    /// What a person at a terminal is told behind it.
+    pub fn advice(&self) -> Option<&'static str>
+        ensures { option_map (λ s. s.now) result ≡ advice_of self.now }
+    {
+        match self {
+            Failure::Words => Some("esxplan help lists the words"),
+            _ => None,
+        }
+    }
 
     /// The status that the program ends with.
     pub fn status(&self) -> u8
@@ -104,7 +116,9 @@ pub enum Done {
     Ran,
     Replayed,
     Checked(Checked),
+    Compared(Checked),
     Migrated(Checked),
+    Helped,
 }
 
 impl Done {
@@ -116,8 +130,10 @@ impl Done {
         ensures { result ≡ status_of_done self }
     {
         match self {
-            Done::Served | Done::Ran | Done::Replayed => 0,
-            Done::Checked(checked) | Done::Migrated(checked) => status_of_check(checked),
+            Done::Served | Done::Ran | Done::Replayed | Done::Helped => 0,
+            Done::Checked(checked) | Done::Compared(checked) | Done::Migrated(checked) => {
+                status_of_check(checked)
+            }
         }
     }
 }
@@ -242,15 +258,28 @@ pub fn run<R: Env + Files + Input + Print + AllocGlobal + Threads + Wait + Sync>
     run_given(rt, env::args(rt), terminal(errors), streams).ended
 }
 
+/// Tells why the program ends otherwise than well, and behind it, at a terminal, what helps.
+fn tell_failure<R: Eprint, E: IsTerminal>(rt: &R, errors: &E, failure: Failure) {
+    let advice = failure.advice();
+    let _ = rt.eprintln(failure);
+    if let (Some(_), Some(advice)) = (terminal(errors), advice) {
+        let _ = rt.eprintln(advice);
+    }
+}
+
 /// What the program ends with. Where it ends otherwise than well, the standard error is told why.
-pub fn exit_code<R: Eprint>(rt: &R, ended: Result<Done, Failure>) -> ExitCode
+pub fn exit_code<R: Eprint, E: IsTerminal>(
+    rt: &R,
+    errors: &E,
+    ended: Result<Done, Failure>,
+) -> ExitCode
     ensures { exit_status result ≡ status_of_end ended }
 {
     match ended {
         Ok(done) => ExitCode::from(done.status()),
         Err(failure) => {
             let status = failure.status();
-            let _ = rt.eprintln(failure);
+            tell_failure(rt, errors, failure);
             ExitCode::from(status)
         }
     }

@@ -12,7 +12,7 @@ use crate::gates::Counting;
 use crate::outgoing::Waiting;
 use crate::progress::Progress;
 use crate::running::session_buffered;
-use crate::session::{give_up, write_line};
+use crate::session::{give_up, write_told};
 use esx_check::{Checked, MigrateFault, OutputFault, migrate_through};
 use esx_console::Console;
 use esx_session::Session;
@@ -110,7 +110,7 @@ fn tell_difference<W: Sink + Drop>(
         (sink_state W.contents W.waiting W.failures W.flushes writer) (sink_state W.contents W.waiting W.failures W.flushes result.writer)) }
 {
     let checked = Checked::Differs(number);
-    let written = write_line(&mut writer, &mut held, checked);
+    let written = write_told(&mut writer, &mut held, &checked);
     Migrated {
         ended: ended_as(written, checked),
         writer,

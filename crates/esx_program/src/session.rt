@@ -8,14 +8,18 @@ ghost use Rattle.esx_console.specs.Unlogged.{AnswersAs};
 ghost use Rattle.esx_session.specs.declared.session.Entry.{Entry};
 ghost use Rattle.esx_session.specs.Sessions.{HasOpening, IsRefused, request};
 ghost use Rattle.esx_check.specs.Checks.{ChecksText, checked_text};
+ghost use Rattle.esx_check.specs.Differences.{ComparesText, compared_text};
 ghost use Rattle.esx_check.specs.Replays.{replay_text, write_faults};
 ghost use Rattle.esx_writing.specs.Writing.{Writes, sink_faults};
-ghost use Rattle.esx_program.specs.Sessions.{CheckStops, GivenOut, ReplayEnds, check_status, failed_writes};
+ghost use Rattle.esx_program.specs.Sessions.{GivenOut, ReplayEnds, TellingStops, check_status, failed_writes};
 
 use crate::gates::Counting;
 use crate::outgoing::{Outgoing, Waiting};
 use crate::progress::{Progress, Watched};
-use esx_check::{Again, Checked, OutputFault, check_as_read, replay_calls, write_checked};
+use esx_check::{
+    Again, Checked, Compared, OutputFault, diff_as_read, replay_calls, write_checked,
+    write_compared,
+};
 use esx_reading::TextFault;
 use esx_session::{Script, open_calls};
 use esx_types::{Config, Sink, SinkFailed};
@@ -25,17 +29,17 @@ use std::marker::Brand;
 use std::mem;
 use std::sync::ledger::{Blank, Ledger};
 
-/// Checks the session of a text while it is read, and tells how many of its calls were made to `to`, where there
-/// is one.
+/// Checks the session of a text while it is read, and gives the first call with another reply. How many of its calls
+/// were made is told to `to`, where there is one.
 ///
 /// A bad line behind a difference is the fault all the same. The program ends with the check, so the system takes
 /// the memory of the console back as a whole.
-pub fn check_watched<P: Print>(
+pub fn diff_watched<P: Print>(
     alloc: Global,
     text: &str,
     to: Option<&P>,
-) -> Result<Checked, TextFault>
-    ensures checks { IfOk result (ChecksText text.now) }
+) -> Result<Compared, TextFault>
+    ensures compares { IfOk result (ComparesText text.now) }
     ensures fault { IfErr result (λ e. IsRefused e text.now) }
     ensures memory { IsErrOf result TextFault.OutOfMemory → HasOpening text.now }
 {
@@ -47,10 +51,26 @@ pub fn check_watched<P: Print>(
     let mut gate = Counting {
         progress: &progress,
     };
-    let checked = check_as_read(alloc, &mut again, calls, &mut gate);
+    let compared = diff_as_read(alloc, &mut again, calls, &mut gate);
     progress.end();
     mem::forget(again);
-    checked
+    compared
+}
+
+/// The same, and gives what a check tells.
+pub fn check_watched<P: Print>(
+    alloc: Global,
+    text: &str,
+    to: Option<&P>,
+) -> Result<Checked, TextFault>
+    ensures checks { IfOk result (ChecksText text.now) }
+    ensures fault { IfErr result (λ e. IsRefused e text.now) }
+    ensures memory { IsErrOf result TextFault.OutOfMemory → HasOpening text.now }
+{
+    match diff_watched(alloc, text, to) {
+        Ok(compared) => Ok(compared.checked()),
+        Err(fault) => Err(fault),
+    }
 }
 
 /// Hands on what waits, where memory ran out, and tells what an output comes to by that.
@@ -66,30 +86,56 @@ pub fn give_up<W: Sink>(writer: &mut W) -> OutputFault
     }
 }
 
-/// Writes what a check came to as a line, and hands it on.
-pub fn write_line<W: Sink>(
+/// What is told of a session that was gone through again.
+pub trait Told {
+    ghost text: { Self → List ℕ };
+
+    /// Writes it, over an empty buffer.
+    fn write_to<W: Sink>(&self, writer: &mut W, held: &mut AnswerBuffer) -> Result<(), SinkFailed>
+        requires { held.old ≡ [] }
+        ensures bytes { Writes (W.contents writer.old) (W.contents writer.new) (text self.now) result }
+        ensures failures { W.failures writer.new ≡ W.failures writer.old + sink_faults result }
+        ensures flushes { W.flushes writer.new ≡ W.flushes writer.old };
+}
+
+/// What a check came to, as a line.
+impl Told for Checked {
+    ghost text = { checked_text };
+
+    fn write_to<W: Sink>(&self, writer: &mut W, held: &mut AnswerBuffer) -> Result<(), SinkFailed> {
+        write_checked(writer, held, *self)
+    }
+}
+
+/// The same, with a difference whole.
+impl Told for Compared {
+    ghost text = { compared_text };
+
+    fn write_to<W: Sink>(&self, writer: &mut W, held: &mut AnswerBuffer) -> Result<(), SinkFailed> {
+        write_compared(writer, held, self)
+    }
+}
+
+/// Writes what is told, and hands it on.
+pub fn write_told<T: Told, W: Sink>(
     writer: &mut W,
     held: &mut AnswerBuffer,
-    checked: Checked,
+    told: &T,
 ) -> Result<(), SinkFailed>
     requires { held.old ≡ [] }
-    ensures bytes { Writes (W.contents writer.old) (W.contents writer.new) (checked_text checked) result }
+    ensures bytes { Writes (W.contents writer.old) (W.contents writer.new) (T.text told.now) result }
     ensures failures { W.failures writer.new ≡ W.failures writer.old + sink_faults result }
     ensures flushes { W.flushes writer.new + sink_faults result ≡ W.flushes writer.old + 1 }
     ensures sent { OnOk result (W.waiting writer.new ≡ []) }
 {
-    write_checked(writer, held, checked)?;
+    told.write_to(writer, held)?;
     writer.flush()
 }
 
-/// Writes what a check came to as a line, and hands it on.
-pub fn tell_check<W: Sink>(
-    alloc: Global,
-    checked: Checked,
-    writer: &mut W,
-) -> Result<(), OutputFault>
-    ensures told { OnOk result (Appends (W.contents writer.old) (W.contents writer.new) (checked_text checked)) }
-    ensures fault { IfErr result (λ e. CheckStops e checked (W.contents writer.old) (W.contents writer.new)) }
+/// The same, where there is memory for a buffer.
+pub fn tell<T: Told, W: Sink>(alloc: Global, told: &T, writer: &mut W) -> Result<(), OutputFault>
+    ensures told { OnOk result (Appends (W.contents writer.old) (W.contents writer.new) (T.text told.now)) }
+    ensures fault { IfErr result (λ e. TellingStops e (T.text told.now) (W.contents writer.old) (W.contents writer.new)) }
     ensures failures { W.failures writer.new ≡ W.failures writer.old + write_faults result }
     ensures flushes { W.flushes writer.new + write_faults result ≡ W.flushes writer.old + 1 }
     ensures sent { (IsErrOf result OutputFault.Write → ⊥) → W.waiting writer.new ≡ [] }
@@ -97,7 +143,7 @@ pub fn tell_check<W: Sink>(
     let Ok(mut held) = AnswerBuffer::new(alloc) else {
         return Err(give_up(writer));
     };
-    match write_line(writer, &mut held, checked) {
+    match write_told(writer, &mut held, told) {
         Ok(()) => Ok(()),
         Err(SinkFailed) => Err(OutputFault::Write),
     }

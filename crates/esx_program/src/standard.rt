@@ -35,7 +35,9 @@ pub fn opened<R: Files>(rt: &R, asked: Asked<&str>) -> Asked<io::Result<R::File>
         Asked::Run(path) => Asked::Run(open_apart(rt, path)),
         Asked::Replay(path) => Asked::Replay(open_apart(rt, path)),
         Asked::Check(path) => Asked::Check(open_apart(rt, path)),
+        Asked::Diff(path) => Asked::Diff(open_apart(rt, path)),
         Asked::Migrate(path) => Asked::Migrate(open_apart(rt, path)),
+        Asked::Help => Asked::Help,
     }
 }
 
@@ -71,7 +73,9 @@ fn with_source<F: Read + Drop, L: Ledger>(
         Asked::Run(opened) => Asked::Run(source_of(opened, calls)),
         Asked::Replay(opened) => Asked::Replay(source_of(opened, calls)),
         Asked::Check(opened) => Asked::Check(source_of(opened, calls)),
+        Asked::Diff(opened) => Asked::Diff(source_of(opened, calls)),
         Asked::Migrate(opened) => Asked::Migrate(source_of(opened, calls)),
+        Asked::Help => Asked::Help,
     }
 }
 

@@ -20,8 +20,12 @@ pub enum Asked<F> {
     Replay(F),
     /// Whether the calls of a session in a file have the replies that stand with them.
     Check(F),
+    /// The same, and the first call with another reply.
+    Diff(F),
     /// A session in a file, printed in version 2 where its calls have these replies.
     Migrate(F),
+    /// The words of the program.
+    Help,
 }
 
 /// Why the words ask for nothing.
@@ -41,19 +45,22 @@ fn word_with_file<'a>(alloc: Global, word: &'a str) -> Result<Command<'a>, Alloc
 }
 
 /// What may stand on the program's command line: nothing, or `console` and at most one file, or `run`, `replay`,
-/// `check` or `migrate` and a file.
+/// `check`, `diff` or `migrate` and a file, or `help`.
 fn program<'a>(alloc: Global) -> Result<Command<'a>, AllocError>
     ensures { IfOk result (λ c. app_of c ≡ program_app) }
 {
     Command::new(alloc, "esxplan")
+        .disable_help_subcommand(true)
         .subcommand(word_with_file(alloc, "console")?)?
         .subcommand(word_with_file(alloc, "replay")?)?
         .subcommand(word_with_file(alloc, "check")?)?
+        .subcommand(word_with_file(alloc, "diff")?)?
         .subcommand(word_with_file(alloc, "migrate")?)?
+        .subcommand(Command::new(alloc, "help"))?
         .subcommand(word_with_file(alloc, "run")?)
 }
 
-/// What is asked for by a word and the file behind it. All words but a console want one.
+/// What is asked for by a word and the file behind it. All words but `console` and `help` want one.
 fn asked_for<'a>(word: &str, file: Option<&'a str>) -> Option<Asked<&'a str>>
     ensures { option_map word_and_file result ≡ asked_by word.now (option_map (λ f. f.now) file.entry) }
 {
@@ -61,13 +68,15 @@ fn asked_for<'a>(word: &str, file: Option<&'a str>) -> Option<Asked<&'a str>>
         "run" => Some(Asked::Run(file?)),
         "replay" => Some(Asked::Replay(file?)),
         "check" => Some(Asked::Check(file?)),
+        "diff" => Some(Asked::Diff(file?)),
         "migrate" => Some(Asked::Migrate(file?)),
+        "help" => Some(Asked::Help),
         _ => Some(Asked::Console(file)),
     }
 }
 
 /// What the words ask for, the first of which is the program's name. Any refusal but for memory is `Wrong`,
-/// a request for help too.
+/// a request for help by a flag too.
 pub fn asked_of_words<'a>(alloc: Global, words: &'a [String]) -> Result<Asked<&'a str>, WordsFault>
     ensures ok { IfOk result (λ asked. asked_in (map string_bytes words.now) ≡ Some (word_and_file asked)) }
     ensures refused { IfErr result (λ e. e ≡ WordsFault.Wrong

@@ -245,6 +245,7 @@ fn failures(rt: HostRuntime) -> Result<(), Fail> {
     for (failure, status, text) in &rows {
         assert_eq!(rt; failure.status(), *status);
         assert_eq!(rt; failure.to_string(alloc)?.as_str(), *text);
+        assert_eq!(rt; failure.advice().is_some(), *status == 2);
     }
     Ok(())
 }

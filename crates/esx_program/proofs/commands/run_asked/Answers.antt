@@ -1,5 +1,5 @@
 use Rattle.std.proofs.Common.{refl}
-use Rattle.esx_program.specs.declared.words.Asked.TheVariants.{Console, Run, Replay, Check, Migrate}
+use Rattle.esx_program.specs.declared.words.Asked.TheVariants.{Console, Run, Replay, Check, Diff, Migrate, Help}
 use Rattle.esx_program.proofs.commands.run_asked.Goals as goal
 
 pub returns-in-Console : goal.returns-in-Console
@@ -26,3 +26,11 @@ pub returns-in-Migrate : goal.returns-in-Migrate
 returns-in-Migrate g c =
     let done = c.migrate_file.ensures in
     rw (c.in-Migrate.is, done.reader, done.errors) (Migrate done.migrated.0, record { word = (refl, refl); file = done.migrated.1 }, (done.migrated.2, refl, refl))
+
+pub returns-in-Diff : goal.returns-in-Diff
+returns-in-Diff g c =
+    let done = c.diff_file-ended.ensures in
+    rw c.in-Diff.is (Diff done.0, record { word = (refl, refl); file = done.1 }, (done.2, refl, refl))
+
+pub returns-in-Help : goal.returns-in-Help
+returns-in-Help g c = rw c.in-Help.is (Help, record { word = (refl, refl); file = tt }, (c.help_to-ended.ensures, refl, refl))

@@ -5,7 +5,7 @@ use Rattle.esx_console.specs.Unlogged.{AnswersAs}
 use Rattle.esx_session.specs.Reading.{Follows}
 use Rattle.esx_check.specs.Gates.{PassedFor}
 use Rattle.esx_check.proofs.TextLemmas.{SoFar}
-use Rattle.esx_check.proofs.text.check_as_read.Given as goal
+use Rattle.esx_check.proofs.text.diff_as_read.Given as goal
 
 abbrev pub invariant-loop-calls : goal.invariant-loop-calls
 invariant-loop-calls g l = record {

@@ -1,12 +1,11 @@
 use Rattle.std.proofs.Common.{inl, inr, sym, ◌∙◌, ap, arith, ◌+◌, ◌++◌, ◌∷◌, []}
 use Rattle.std.proofs.lemmas.Result.{err_from_is_err_and}
-use Rattle.esx_session.specs.Reading.{Follows}
+use Rattle.esx_replies.specs.Replies.{reply_text}
 use Rattle.esx_check.specs.Again.{made}
 use Rattle.esx_check.specs.Wants.{WantsMemory}
-use Rattle.esx_check.proofs.CheckLemmas.{is_not}
 use Rattle.esx_check.proofs.GateLemmas.{passed_none, passed_more, some_of, some_more, on_err}
 use Rattle.esx_check.proofs.TextLemmas.{nothing_so_far, one_more_so_far, all_same, one_differs, goes_to_last, goes_to_one_more, stops_behind_last, stops_behind_difference, wants_at_call}
-use Rattle.esx_check.proofs.text.check_as_read.Goals as goal
+use Rattle.esx_check.proofs.text.diff_as_read.Goals as goal
 
 pub loop-calls-init : goal.loop-calls-init
 loop-calls-init g c = record {
@@ -25,10 +24,10 @@ loop-calls-preserved g c =
       so_far = λ text site follows answers.
           let so_far = c.loop-calls.invariant.so_far text site follows answers in
           one_more_so_far text _ _ _ _ _ c.in-Some.entry so_far (rw c.give_back.ensures (rw c.in-Some.is at (entry.some text so_far.site so_far.done so_far.follows)))
-          (is.made (made so_far.site so_far.done) so_far.answers) ((is.same (made so_far.site so_far.done) so_far.answers).0 c.if-not-same.false);
+          (is.made (made so_far.site so_far.done) so_far.answers) ((rw c.in_default-other.is at is.same) (made so_far.site so_far.done) so_far.answers);
       count = rw c.give_back.ensures (ap (λ n. n + 1) c.loop-calls.invariant.count ∙ sym (rw c.in-Some.is at entry.count));
       few = omega arith;
-      held = is.empty c.if-not-same.false;
+      held = rw c.in_default-other.is at is.empty;
       gate = passed_more _ _ _ _ _ c.loop-calls.invariant.gate is.gate;
     }
 
@@ -42,18 +41,16 @@ pub returns-in_err-read_on-clause-only : goal.returns-in_err-read_on-clause-only
 returns-in_err-read_on-clause-only g c = λ text site follows answers.
     let so_far = c.loop-calls.invariant.so_far text site follows answers in
     let p = err_from_is_err_and c.from_residual-in_err-read_on.result c.from_residual-in_err-read_on.ensures.1 in
-    let next : Follows text so_far.site (so_far.done ++ c.in-Some.entry ∷ []) c.give_back.new.self =
-    rw c.give_back.ensures (rw c.in-Some.is at (c.in_ok-entry.ensures.some text so_far.site so_far.done so_far.follows)) in
+    let next = rw c.in-Some.is at (c.in_ok-entry.ensures.some text so_far.site so_far.done so_far.follows) in
     rw (p.1, p.2) (c.in_err-read_on.ensures.only text so_far.site (so_far.done ++ c.in-Some.entry ∷ []) next)
 
-pub returns-then-not-same-clause-ok : goal.returns-then-not-same-clause-ok
-returns-then-not-same-clause-ok g c = λ text site follows answers.
+pub returns-in-Some-other-clause-ok : goal.returns-in-Some-other-clause-ok
+returns-in-Some-other-clause-ok g c = λ text site follows answers.
     let so_far = c.loop-calls.invariant.so_far text site follows answers in
-    let next : Follows text so_far.site (so_far.done ++ c.in-Some.entry ∷ []) c.give_back.new.self =
-    rw c.give_back.ensures (rw c.in-Some.is at (c.in_ok-entry.ensures.some text so_far.site so_far.done so_far.follows)) in
+    let next = rw c.in-Some.is at (c.in_ok-entry.ensures.some text so_far.site so_far.done so_far.follows) in
     let on = c.in_ok-read_on.ensures.ok text so_far.site (so_far.done ++ c.in-Some.entry ∷ []) next in
-    one_differs text _ _ _ c.in-Some.entry so_far on.0 on.1
-    (is_not _ _ (c.in-Ok.ensures.same (made so_far.site so_far.done) so_far.answers) c.if-not-same.true)
+    one_differs text _ _ _ c.in-Some.entry c.in-Some-other.reply so_far on.0 on.1
+    ((rw c.in-Some-other.is at c.in-Ok.ensures.other) (made so_far.site so_far.done) so_far.answers) (rw c.in-Some-other.is at c.in-Ok.ensures.differs)
 
 pub returns-clause-ok : goal.returns-clause-ok
 returns-clause-ok g c = λ text site follows answers.
@@ -65,22 +62,21 @@ returns-in_err-entry-clause-some g c = λ text site follows answers.
     let so_far = c.loop-calls.invariant.so_far text site follows answers in
     on_err c.from_residual.result (some_of _ _ _ _ _ (goes_to_last text _ _ _ so_far) c.loop-calls.invariant.gate)
 
-pub returns-in_default-has_same_reply-clause-some : goal.returns-in_default-has_same_reply-clause-some
-returns-in_default-has_same_reply-clause-some g c = λ text site follows answers.
+pub returns-in_default-other_reply-clause-some : goal.returns-in_default-other_reply-clause-some
+returns-in_default-other_reply-clause-some g c = λ text site follows answers.
     let so_far = c.loop-calls.invariant.so_far text site follows answers in
     let next = rw c.in-Some.is at (c.in_ok-entry.ensures.some text so_far.site so_far.done so_far.follows) in
-    some_more _ _ _ _ _ _ (goes_to_one_more text _ _ _ _ c.in-Some.entry so_far next) c.loop-calls.invariant.gate c.in_default-has_same_reply.ensures.gate
+    some_more _ _ _ _ _ _ (goes_to_one_more text _ _ _ _ c.in-Some.entry so_far next) c.loop-calls.invariant.gate c.in_default-other_reply.ensures.gate
 
 pub returns-in_err-read_on-clause-some : goal.returns-in_err-read_on-clause-some
 returns-in_err-read_on-clause-some g c = λ text site follows answers.
     let so_far = c.loop-calls.invariant.so_far text site follows answers in
-    let next : Follows text so_far.site (so_far.done ++ c.in-Some.entry ∷ []) c.give_back.new.self =
-    rw c.give_back.ensures (rw c.in-Some.is at (c.in_ok-entry.ensures.some text so_far.site so_far.done so_far.follows)) in
+    let next = rw c.in-Some.is at (c.in_ok-entry.ensures.some text so_far.site so_far.done so_far.follows) in
     on_err c.from_residual-in_err-read_on.result
     (some_more _ _ _ _ _ _ (goes_to_one_more text _ _ _ _ c.in-Some.entry so_far next) c.loop-calls.invariant.gate c.in-Ok.ensures.gate)
 
-pub returns-then-not-same-clause-gate : goal.returns-then-not-same-clause-gate
-returns-then-not-same-clause-gate g c = passed_more _ _ _ _ _ c.loop-calls.invariant.gate c.in-Ok.ensures.gate
+pub returns-in-Some-other-clause-gate : goal.returns-in-Some-other-clause-gate
+returns-in-Some-other-clause-gate g c = passed_more _ _ _ _ _ c.loop-calls.invariant.gate c.in-Ok.ensures.gate
 
 pub returns-in_err-entry-clause-bad : goal.returns-in_err-entry-clause-bad
 returns-in_err-entry-clause-bad g c = λ text site line follows answers is.
@@ -94,13 +90,13 @@ pub returns-in_err-read_on-clause-bad : goal.returns-in_err-read_on-clause-bad
 returns-in_err-read_on-clause-bad g c = λ text site line follows answers is.
     let so_far = c.loop-calls.invariant.so_far text site follows answers in
     let p = err_from_is_err_and c.from_residual-in_err-read_on.result c.from_residual-in_err-read_on.ensures.1 in
-    let next : Follows text so_far.site (so_far.done ++ c.in-Some.entry ∷ []) c.give_back.new.self =
-    rw c.give_back.ensures (rw c.in-Some.is at (c.in_ok-entry.ensures.some text so_far.site so_far.done so_far.follows)) in
+    let next = rw c.in-Some.is at (c.in_ok-entry.ensures.some text so_far.site so_far.done so_far.follows) in
     let on = c.in_err-read_on.ensures.err text so_far.site (so_far.done ++ c.in-Some.entry ∷ []) next in
     let bad = rw (p.1, p.2) at is in
     let near = c.in_err-read_on.ensures.near line (cc) in
-    let other = is_not _ _ (c.in-Ok.ensures.same (made so_far.site so_far.done) so_far.answers) c.if-not-same.true in
-    some_more _ _ _ _ _ _ (inr (stops_behind_difference text _ _ _ _ _ c.in-Some.entry so_far on.0 on.1 near other)) c.loop-calls.invariant.gate c.in-Ok.ensures.gate
+    let here = (rw c.in-Some-other.is at c.in-Ok.ensures.other) (made so_far.site so_far.done) so_far.answers in
+    let other = rw c.in-Some-other.is at c.in-Ok.ensures.differs in
+    some_more _ _ _ _ _ _ (inr (stops_behind_difference text _ _ _ _ _ c.in-Some.entry so_far on.0 on.1 near (λ is_told. other (ap reply_text here ∙ is_told)))) c.loop-calls.invariant.gate c.in-Ok.ensures.gate
 
 pub returns-in_err-entry-clause-wants : goal.returns-in_err-entry-clause-wants
 returns-in_err-entry-clause-wants g c = λ text site follows answers is.
@@ -110,11 +106,11 @@ returns-in_err-entry-clause-wants g c = λ text site follows answers is.
     let wants = c.in_err-entry.ensures.wants (cc) in
     some_of _ _ _ _ _ (inr (stops_behind_last text _ _ _ _ so_far wants)) c.loop-calls.invariant.gate
 
-pub returns-in_default-has_same_reply-clause-wants : goal.returns-in_default-has_same_reply-clause-wants
-returns-in_default-has_same_reply-clause-wants g c = λ text site follows answers is.
+pub returns-in_default-other_reply-clause-wants : goal.returns-in_default-other_reply-clause-wants
+returns-in_default-other_reply-clause-wants g c = λ text site follows answers is.
     let so_far = c.loop-calls.invariant.so_far text site follows answers in
     let next = rw c.in-Some.is at (c.in_ok-entry.ensures.some text so_far.site so_far.done so_far.follows) in
-    let call = c.in_default-has_same_reply.ensures in
+    let call = c.in_default-other_reply.ensures in
     let wanted = call.wants (made so_far.site so_far.done) so_far.answers in
     let wants : WantsMemory so_far.site so_far.done c.in-Some.entry.call = record { may = wanted.0; comes = wanted.1 } in
     some_more _ _ _ _ _ _ (inl (wants_at_call text _ _ _ _ c.in-Some.entry so_far next wants)) c.loop-calls.invariant.gate call.gate
@@ -123,10 +119,10 @@ pub returns-in_err-read_on-clause-wants : goal.returns-in_err-read_on-clause-wan
 returns-in_err-read_on-clause-wants g c = λ text site follows answers is.
     let so_far = c.loop-calls.invariant.so_far text site follows answers in
     let p = err_from_is_err_and c.from_residual-in_err-read_on.result c.from_residual-in_err-read_on.ensures.1 in
-    let next : Follows text so_far.site (so_far.done ++ c.in-Some.entry ∷ []) c.give_back.new.self =
-    rw c.give_back.ensures (rw c.in-Some.is at (c.in_ok-entry.ensures.some text so_far.site so_far.done so_far.follows)) in
+    let next = rw c.in-Some.is at (c.in_ok-entry.ensures.some text so_far.site so_far.done so_far.follows) in
     let on = c.in_err-read_on.ensures.err text so_far.site (so_far.done ++ c.in-Some.entry ∷ []) next in
     let out = rw (p.1, p.2) at is in
     let wants = c.in_err-read_on.ensures.wants (cc) in
-    let other = is_not _ _ (c.in-Ok.ensures.same (made so_far.site so_far.done) so_far.answers) c.if-not-same.true in
-    some_more _ _ _ _ _ _ (inr (stops_behind_difference text _ _ _ _ _ c.in-Some.entry so_far on.0 on.1 wants other)) c.loop-calls.invariant.gate c.in-Ok.ensures.gate
+    let here = (rw c.in-Some-other.is at c.in-Ok.ensures.other) (made so_far.site so_far.done) so_far.answers in
+    let other = rw c.in-Some-other.is at c.in-Ok.ensures.differs in
+    some_more _ _ _ _ _ _ (inr (stops_behind_difference text _ _ _ _ _ c.in-Some.entry so_far on.0 on.1 wants (λ is_told. other (ap reply_text here ∙ is_told)))) c.loop-calls.invariant.gate c.in-Ok.ensures.gate

@@ -1,0 +1,39 @@
+//! The words of the program, told to whoever asks for them.
+
+ghost use Rattle.std.specs.Prelude.{◌≡◌, ◌+◌, [], OnOk};
+ghost use Rattle.esx_writing.specs.Writing.{Writes, sink_faults};
+ghost use Rattle.esx_program.specs.Help.{help_text};
+
+use esx_types::{Sink, SinkFailed};
+use esx_writing::put_all;
+
+/// Each word in a line, and below it an example.
+const HELP: &str = "\
+console        reads commands, one a line, and answers each at once; so it does without a word too
+                   esxplan console <examples/sharing.txt
+console FILE   the same at the site of the scenario in FILE
+                   esxplan console examples/small.toml <examples/paging.txt
+run FILE       lets the machines of a scenario play their traces, and prints the session that they made
+                   esxplan run examples/scenario.toml >run.session
+check FILE     makes the calls of a session again; prints same N, or differs K for the first with another reply
+                   esxplan check run.session
+diff FILE      the same, and prints that call with both replies: the one that stands there, and the one that it has
+                   esxplan diff run.session
+replay FILE    makes them again and prints their replies, and then the table
+                   esxplan replay run.session
+migrate FILE   prints a session of version 1 in version 2
+                   esxplan migrate examples/old.session >new.session
+help           prints these lines
+                   esxplan help
+";
+
+/// Writes the words of the program, and hands them on. No memory is taken.
+pub fn tell_help<W: Sink>(writer: &mut W) -> Result<(), SinkFailed>
+    ensures bytes { Writes (W.contents writer.old) (W.contents writer.new) help_text result }
+    ensures failures { W.failures writer.new ≡ W.failures writer.old + sink_faults result }
+    ensures flushes { W.flushes writer.new + sink_faults result ≡ W.flushes writer.old + 1 }
+    ensures sent { OnOk result (W.waiting writer.new ≡ []) }
+{
+    put_all(writer, HELP.as_bytes())?;
+    writer.flush()
+}
