@@ -64,7 +64,8 @@ def command(draw, pair=PAIRS[0]):
         return "whatif " + "; ".join(event(draw, pair) for _ in range(draw.choice([1, 2, 3, 64, 65])))
     fields = {"name": draw.choice(["base", "a-1", "x_9", "z" * 32, "z" * 33, "Top"]), reader.VM: machine(draw, pair),
               reader.NUMBER: number(draw, 6)}
-    return " ".join([word] + [fields[kind] for kind in reader.OTHERS.get(word, [])])
+    kinds = {**reader.OTHERS, **reader.CONSOLE_WORDS}.get(word, [])
+    return " ".join([word] + [fields[kind] for kind in kinds])
 
 
 def changed(draw, data):
@@ -149,12 +150,14 @@ def check_sessions(program, draw, count, sessions):
             session = reader.session_of(text)
             out, status = console.told_of_check(session)
             wanted, replayed = Told(status, out, b""), Told(0, console.told_of_replay(session), b"")
+            compared = Told(status, console.told_of_diff(session)[0], b"")
             migrated = Told(status, console.told_of_migration(session)[0], b"")
             good, same = good + 1, same + (status == 0)
         else:
-            wanted = replayed = migrated = Told(1, b"", refused.encode() + b"\n")
+            wanted = compared = replayed = migrated = Told(1, b"", refused.encode() + b"\n")
         with file_of(text) as name:
             expect(f"check of {text!r}", wanted, ask(program, ["check", name]))
+            expect(f"diff of {text!r}", compared, ask(program, ["diff", name]))
             expect(f"replay of {text!r}", replayed, ask(program, ["replay", name]))
             expect(f"migration of {text!r}", migrated, ask(program, ["migrate", name]))
     return good, same
@@ -182,13 +185,18 @@ def check_words(program, draw, count):
     """The program's words, with a file that is no scenario and no session, and one that is not there."""
     with file_of(b"\n") as name, tempfile.TemporaryDirectory() as nowhere:
         for _ in range(count):
-            drawn = [draw.choice(["console", "run", "check", "replay", "migrate", name, f"{name}.none", "", "Run", "sum", "0"])
+            drawn = [draw.choice(["console", "run", "check", "diff", "replay", "migrate", "help", name, f"{name}.none", "", "Run",
+                                  "sum", "0"])
                      for _ in range(draw.choice([0, 1, 1, 2, 2, 2, 3]))]
             found = reader.file_of_words(drawn)
             if found is None:
                 wanted = Told(2, b"", b"wrong words\n")
             elif found == ("console", None):
                 wanted = Told(0, b"at 0 depth 0 jumps 0\n", b"")
+            elif found == ("help", None):
+                told = ask(program, drawn, b"where\n", cwd=nowhere)
+                expect(f"words {drawn}", (0, b"", True), (told.status, told.err, told.out.startswith(b"console ")))
+                continue
             elif found[1] != name:
                 wanted = Told(1, b"", b"read fault\n")
             else:

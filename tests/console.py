@@ -174,6 +174,13 @@ class Console:
     def order(self):
         return self.site.order()
 
+    def pageout(self, number, page):
+        try:
+            word = self.site.word_of(int(number), int(page))
+        except Refused as refused:
+            return [str(refused)]
+        return self.call(f"swapout {number} {word}")
+
     def session(self):
         frames, page, slots, tau, *levels, nodes = self.numbers
         lines = ["esx session 2", f"frames {frames} page {page} slots {slots} tau {tau} levels "
@@ -203,8 +210,9 @@ def answers(console, data):
         what = reader.what_line_is(line)
         if what == "call":
             told.append(bytes_of(console.call(line.decode())))
-        elif what in reader.CONSOLE_WORDS:
-            told.append(bytes_of(getattr(console, what)()))
+        elif what == "word":
+            word, *fields = line.decode().split(" ")
+            told.append(bytes_of(getattr(console, word)(*fields)))
         else:
             told.append(b"? line %d\n" % at if what == "none" else b"")
     return told
@@ -222,6 +230,17 @@ def replies_of(session):
 def told_of_check(session):
     differs = replies_of(session)[1]
     return (b"differs %d\n" % differs, 1) if differs else (b"same %d\n" % len(session.calls), 0)
+
+
+def told_of_diff(session):
+    """What a check tells, and behind a difference the call and both of its replies."""
+    console, differs = replies_of(session)
+    if differs is None:
+        return b"same %d\n" % len(session.calls), 0
+    caller, call, told = session.calls[differs - 1]
+    made = console.log[differs - 1][2]
+    lines = [f"differs {differs}", f"call: {caller} {call}"]
+    return bytes_of(lines + [f"told: {line}" for line in told] + [f"made: {line}" for line in made]), 1
 
 
 def told_of_migration(session):

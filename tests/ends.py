@@ -140,14 +140,14 @@ def limit_files(size):
     resource.setrlimit(resource.RLIMIT_FSIZE, (size, size))
 
 
-def check_small_disk(program, asked, given, right, rooms):
+def check_small_disk(program, asked, given, right, rooms, status=0):
     """A disk takes so many bytes, and then no more."""
     for room in rooms:
         with tempfile.TemporaryFile() as disk:
             done = subprocess.run([program, *asked], input=given, stdout=disk, stderr=subprocess.PIPE, check=False,
                                   preexec_fn=lambda size=room: limit_files(size))
             disk.seek(0)
-            wanted = Told(0, right, b"") if room >= len(right) else Told(1, right[:room], b"write fault\n")
+            wanted = Told(status, right, b"") if room >= len(right) else Told(1, right[:room], b"write fault\n")
             expect(f"{asked} onto a disk of {room} bytes", wanted, Told(done.returncode, disk.read(), done.stderr))
 
 
@@ -200,7 +200,7 @@ def closed(program, asked, shell, given=b""):
 
 def check_closed(program, session):
     """Standard streams that are closed when the program begins."""
-    for asked in ([], ["check", session], ["replay", session], ["migrate", session]):
+    for asked in ([], ["check", session], ["diff", session], ["replay", session], ["migrate", session], ["help"]):
         expect(f"{asked} with no output", WRITE_FAULT, closed(program, asked, ">&-", b"sum\n"))
         told = closed(program, asked, "2>&-", b"sum\n")
         expect(f"{asked} with nowhere to tell faults", ask(program, asked, b"sum\n"), told)
@@ -244,6 +244,7 @@ def check_failing_calls(program, tried, step):
             count += len(row.asked) + 1 + 2 * len(row.answered)
         with file_of(words.SESSION) as session, file_of(words.SCENARIO) as scenario:
             for case in (Case("check FILE", ["check", session], b"", b"same 3\n", {0}),
+                         Case("diff FILE", ["diff", session], b"", b"same 3\n", {0}),
                          Case("replay FILE", ["replay", session], b"", words.REPLAYED, {0}),
                          Case("migrate FILE", ["migrate", session], b"", words.SESSION, {0}),
                          Case("console FILE", ["console", scenario], b"", b"", {0})):
@@ -256,7 +257,8 @@ def check(program, is_long):
     tried = chosen(is_long)
     for row in rows.all_rows():
         check_person(program, row)
-    with file_of(words.SESSION) as session, file_of(words.SCENARIO) as scenario:
+    other, difference = words.DIFFERENCES[0]
+    with file_of(words.SESSION) as session, file_of(words.SCENARIO) as scenario, file_of(other) as differs:
         for row in tried:
             check_cut(program, row, 1 if is_long else 5)
             check_nobody_reads(program, row)
@@ -265,9 +267,13 @@ def check(program, is_long):
         check_small_disk(program, ["replay", session], b"", words.REPLAYED, range(len(words.REPLAYED) + 2))
         check_small_disk(program, ["migrate", session], b"", words.SESSION, range(len(words.SESSION) + 2))
         check_small_disk(program, ["check", session], b"", b"same 3\n", range(9))
+        check_small_disk(program, ["diff", differs], b"", difference, range(len(difference) + 2), 1)
+        check_small_disk(program, ["help"], b"", ask(program, ["help"]).out, range(0, 2000, 99))
         check_full(program, ["replay", session], b"")
         check_full(program, ["migrate", session], b"")
         check_full(program, ["check", session], b"")
+        check_full(program, ["diff", differs], b"")
+        check_full(program, ["help"], b"")
         check_no_input(program)
         check_closed(program, session)
         check_run_ends(program, scenario)

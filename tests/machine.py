@@ -430,6 +430,13 @@ class Site:
             self.hint((number, page))
         return f"ok {told}"
 
+    def word_of(self, number, page):
+        """The least word by which `swapout` draws a page: its place among those of the machine in frames."""
+        here = self.vm(number).here()
+        if page not in here:
+            raise Refused(15)
+        return here.index(page)
+
     def swapout(self, number, word):
         vm = self.vm(number)
         if self.level == HIGH or self.level == SOFT and vm.state == "running" and vm.lent() < vm.balloon:
@@ -498,7 +505,7 @@ class Site:
         return f"here frame {place.frame} private{' hint' * ((number, page) in self.hint_of)}"
 
     def order(self):
-        """The machines above their targets, in the order in which they are to lose pages."""
+        """The machines above their targets, in the order of their taxed ratios."""
         above = sorted(Claim(self, one, vm.count(Here)) for one, vm in self.vms.items() if vm.is_above_target())
         return [f"order {len(above)}"] + [self.told_in_order(claim) for claim in above]
 

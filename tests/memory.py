@@ -67,6 +67,9 @@ def cases_of_files():
         yield names["scenario"], [
             Case("check", ["check", names["session"]], b"", b"same 3\n", {0}),
             Case("check of another", ["check", names["other"]], b"", b"differs 1\n", {0}, 1),
+            Case("diff", ["diff", names["session"]], b"", b"same 3\n", {0}),
+            Case("diff of another", ["diff", names["other"]], b"", words.DIFFERENCES[0][1], {0}, 1),
+            Case("diff of a cut one", ["diff", names["cut"]], b"", b"", {0}, 1, b"bad line 7\n"),
             Case("check of a cut one", ["check", names["cut"]], b"", b"", {0}, 1, b"bad line 7\n"),
             Case("migration", ["migrate", names["old"]], b"", words.in_version_2(words.OLD_SESSION), {0}),
             Case("migration of another", ["migrate", names["other"]], b"", b"differs 1\n", {0}, 1),

@@ -98,7 +98,12 @@ def is_call(text, version=NEW):
     return is_event(text, version) or word in OTHERS and is_made_of(OTHERS[word], fields, version)
 
 
-CONSOLE_WORDS = ("session", "order")  # they are no calls, and no session has them
+CONSOLE_WORDS = {"session": [], "order": [], "pageout": [VM, NUMBER]}  # they are no calls, and no session has them
+
+
+def is_console_word(text):
+    word, *fields = text.split(" ")
+    return word in CONSOLE_WORDS and is_made_of(CONSOLE_WORDS[word], fields, NEW)
 
 
 def lines_of(data):
@@ -113,14 +118,14 @@ def text_of(line):
 
 
 def what_line_is(line):
-    """Whether a line at the console is `nothing`, a `call`, a word of the console alone, or `none`."""
+    """Whether a line at the console is `nothing`, a `call`, one with a `word` of the console alone, or `none`."""
     if line == b"" or line.startswith(b"#"):
         return "nothing"
     text = text_of(line)
     if text is None or len(line) > LONGEST_LINE:
         return "none"
-    if text in CONSOLE_WORDS:
-        return text
+    if is_console_word(text):
+        return "word"
     return "call" if is_call(text) else "none"
 
 
@@ -325,6 +330,7 @@ def file_of_words(words):
     """The command and the file, if any, that the program's words name; none if they are wrong. No word begins with `-`."""
     if not words:
         return "console", None
-    if words[0] == "console" and len(words) <= 2 or words[0] in ("run", "check", "replay", "migrate") and len(words) == 2:
+    takes_none, takes_one = words[0] in ("console", "help"), words[0] in ("console", "run", "check", "diff", "replay", "migrate")
+    if len(words) == 1 and takes_none or len(words) == 2 and takes_one:
         return words[0], words[1] if len(words) == 2 else None
     return None

@@ -122,13 +122,13 @@ def contents(draw, page=None, pages=None, kind=Contents):
     yield from [f"write {vm} {number} {few.part()}" for vm in vms for number in range(pages)]
     for _ in range(draw.choice([60, 150])):
         chance = draw.random()
-        where = f"page {draw.choice(vms)} {draw.randrange(pages)}"
+        where = f"{draw.choice(vms)} {draw.randrange(pages)}"
         if chance < 0.8:
             yield content_event(draw, few, vms, pages)
         elif chance < 0.86:
-            yield from moves(draw, lowest, draw.choice([where, "table"]))
+            yield from moves(draw, lowest, draw.choice([f"page {where}", "table"]))
         elif chance < 0.94:
-            yield where
+            yield draw.choice([f"page {where}", f"pageout {where}"])
         else:
             tried = [content_event(draw, few, vms, pages) for _ in range(draw.choice([1, 3]))]
             yield "whatif " + "; ".join(tried)
@@ -193,7 +193,7 @@ def paging(draw):
     for _ in range(300):
         vm, number, chance = draw.randrange(machines), draw.randrange(pages), draw.random()
         if chance < 0.4:
-            yield f"swapout {vm} {word(draw)}"
+            yield draw.choice([f"swapout {vm} {word(draw)}", f"swapout {vm} {word(draw)}", f"pageout {vm} {number}"])
         elif chance < 0.8:
             yield draw.choice([f"read {vm} {number} {page - 2} 2", f"write {vm} {number} {page - 2} {number % 7:04x}"])
         elif chance < 0.87:
@@ -378,7 +378,7 @@ def verbs(draw, events, others):
     fields = {"machine": "0", "number": "3", "word": "5", "bytes": "2a", "words": "1 2", "name": "a", "own tax": "50"}
     yield site(20, 16, 8)
     yield from opened([(4, 4, 1, 1000, 0)])
-    for verb, kinds in {**events, **others, "whatif": ["event"], "session": [], "order": []}.items():
+    for verb, kinds in {**events, **others, "whatif": ["event"]}.items():
         rest = " ".join(fields.get(kind, "read 0 0 0 1") for kind in kinds)
         for at in range(len(verb)):
             for other in (verb[:at] + verb[at + 1:], verb[:at] + draw.choice("aeiorstz") + verb[at:],

@@ -1,11 +1,16 @@
 """The program's words and files: what is told of each that is refused, and the status."""
 
+import os
+import re
+import subprocess
 import tempfile
 
+import console
 import reader
-from program import Told, Wrong, ask, expect, file_of
+from program import HERE, Told, Wrong, ask, expect, file_of
 
 WRONG_WORDS = Told(2, b"", b"wrong words\n")
+ADVICE = b"esxplan help lists the words\n"
 
 SESSION = b"""esx session 2
 frames 9 page 32 slots 3 tau 10 levels 8 8 3 3 nodes 12
@@ -72,6 +77,23 @@ EMPTY = b"esx session 2\nframes 20 page 16 slots 8 tau 75 levels 6 4 2 1 nodes 1
 def changed(text, old, new):
     assert text.count(old) == 1, old
     return text.replace(old, new)
+
+
+# What `diff` tells of sessions in which a call has another reply: the reply that stands there may have more lines, or fewer.
+DIFFERENCES = [
+    (changed(SHORT, b"3/20", b"3/21"),
+     b"differs 1\ncall: 0 admit 0 2 6 1 1000 0\ntold: ok memory 3/21 swap 4/8\nmade: ok memory 3/20 swap 4/8\n"),
+    (changed(SESSION, b"BadSpec\n", b"BadSpec\n= \n"),
+     b"differs 3\ncall: 511 vmtax 200 100\ntold: no 3 BadSpec\ntold: \nmade: no 3 BadSpec\n"),
+    (changed(OLD_SESSION, b"= 1 ok frame 0 overhead 1/2 starting\n= 2 ok\n= after overhead 1 private 0 shared 0 free 8 high\n", b""),
+     b"differs 2\ncall: 0 whatif start 31; stop 31\ntold: whatif 2/2\ntold: before overhead 0 private 0 shared 0 free 9 high\n"
+     b"made: whatif 2/2\nmade: before overhead 0 private 0 shared 0 free 9 high\nmade: 1 ok frame 0 overhead 1/2 starting\n"
+     b"made: 2 ok\nmade: after overhead 1 private 0 shared 0 free 8 high\n"),
+    (changed(SHORT, b"3/20", b"3/\x1b2\t1")[:-1],
+     b"differs 1\ncall: 0 admit 0 2 6 1 1000 0\ntold: ok memory 3/\x1b2\t1 swap 4/8\nmade: ok memory 3/20 swap 4/8\n"),
+    (changed(SHORT, b"3/20", b"3/21").replace(b"\n", b"\r\n"),
+     b"differs 1\ncall: 0 admit 0 2 6 1 1000 0\ntold: ok memory 3/21 swap 4/8\nmade: ok memory 3/20 swap 4/8\n"),
+]
 
 
 def in_version_2(text):
@@ -272,10 +294,11 @@ def refuses(program, words, status, told):
 
 
 def check_words(program, folder):
-    for words in (["serve"], ["run"], ["check"], ["replay"], ["migrate"], ["--help"], ["-h"], ["--version"],
-                  ["console", "a", "b"], ["check", "a", "b"], ["migrate", "a", "b"], ["sum"], ["Console"], [""], ["--", "--help"]):
+    for words in (["serve"], ["run"], ["check"], ["diff"], ["replay"], ["migrate"], ["--help"], ["-h"], ["--version"],
+                  ["console", "a", "b"], ["check", "a", "b"], ["diff", "a", "b"], ["migrate", "a", "b"], ["help", "a"], ["help", "help"],
+                  ["help", "check"], ["help", "--help"], ["sum"], ["Console"], ["Help"], [""], ["--", "--help"], ["--", "help"]):
         expect(" ".join(words), WRONG_WORDS, ask(program, words))
-    for words in (["console"], ["run"], ["check"], ["replay"], ["migrate"]):
+    for words in (["console"], ["run"], ["check"], ["diff"], ["replay"], ["migrate"]):
         refuses(program, [*words, f"{folder}/none"], 1, b"read fault\n")
         refuses(program, [*words, folder], 1, b"read fault\n")
     nobody = Told(0, b"overhead 0 private 0 shared 0 free 20 high\n", b"")
@@ -283,15 +306,55 @@ def check_words(program, folder):
         expect(f"sum, with {words}", nobody, ask(program, words, b"sum\n"))
 
 
+def check_help(program):
+    """Help has a line for each word and an example below it, of files that are there or that an earlier example writes."""
+    told = ask(program, ["help"])
+    expect("help", Told(0, told.out, b""), told)
+    lines = told.out.decode("ascii").splitlines()
+    written, top = set(), os.path.dirname(HERE)
+    for line, example in zip(lines[::2], lines[1::2], strict=True):
+        name, *asked = re.sub(" [<>][^ ]*", "", example).split()
+        found, file = reader.file_of_words(asked) or (None, None)
+        read = {file, *re.findall("<([^ ]+)", example)} - {None}
+        is_there = all(one in written or os.path.exists(f"{top}/{one}") for one in read)
+        if name != "esxplan" or line.split()[0] != found or not example.startswith(" ") or not is_there:
+            raise Wrong(f"help says {line!r}, with {example!r}")
+        written |= {*re.findall(">([^ ]+)", example)}
+    if {line.split()[0] for line in lines[::2]} != {"console", "run", "check", "diff", "replay", "migrate", "help"}:
+        raise Wrong(f"help has other words: {told!r}")
+
+
+def check_terminal(program):
+    """A person at a terminal is told what helps behind wrong words, and behind nothing else."""
+    for words, wanted in ((["serve"], b"wrong words\n" + ADVICE), (["check", "/"], b"read fault\n"), (["help"], b"")):
+        screen, line = os.openpty()
+        try:
+            subprocess.run([program, *words], stdin=subprocess.DEVNULL, stdout=subprocess.DEVNULL, stderr=line, timeout=120, check=False)
+            os.write(line, b".")
+            told = b""
+            while not told.endswith(b"."):
+                told += os.read(screen, 4096)
+        finally:
+            os.close(line)
+            os.close(screen)
+        if told.replace(b"\r\n", b"\n") != wanted + b".":
+            raise Wrong(f"at a terminal {words} tell {told!r}")
+
+
 def check_sessions(program):
     for text, status, out in CHECKED:
         with file_of(text) as name:
             expect(f"check of {text!r}", Told(status, out, b""), ask(program, ["check", name]))
+            compared = console.told_of_diff(reader.session_of(text))[0]
+            expect(f"diff of {text!r}", Told(status, compared, b""), ask(program, ["diff", name]))
             printed = in_version_2(text) if status == 0 else out
             expect(f"migration of {text!r}", Told(status, printed, b""), ask(program, ["migrate", name]))
+    for text, out in DIFFERENCES:
+        with file_of(text) as name:
+            expect(f"diff of {text!r}", Told(1, out, b""), ask(program, ["diff", name]))
     for text, line in BAD_LINES:
         with file_of(text) as name:
-            for word in ("check", "replay", "migrate"):
+            for word in ("check", "diff", "replay", "migrate"):
                 refuses(program, [word, name], 1, b"bad line %d\n" % line)
     for text in (SESSION, OLD_SESSION, SHORT):
         for end in range(len(text) - 1):
@@ -318,7 +381,7 @@ def check_scenarios(program):
     for text in NO_TOML:
         with file_of(text) as name:
             refuses(program, ["console", name], 1, b"bad toml\n")
-    for word in ("console", "run", "check", "replay", "migrate"):
+    for word in ("console", "run", "check", "diff", "replay", "migrate"):
         with file_of(b"esx \xff\n") as name:
             refuses(program, [word, name], 1, b"bad text\n")
     with file_of(changed(SCENARIO, b"min = 3", b"min = 8").replace(b"max = 4", b"max = 9")) as name:
@@ -352,6 +415,8 @@ def check_long_lines(program):
 def check(program, _is_long):
     with tempfile.TemporaryDirectory() as folder:
         check_words(program, folder)
+    check_help(program)
+    check_terminal(program)
     check_sessions(program)
     check_scenarios(program)
     check_run(program, SCENARIO, ENDS, b"0 admit 200 3 4 2 40 1 60")
