@@ -1,0 +1,17 @@
+mod Lists
+mod Along
+mod Pushed
+mod Reading
+mod Living
+mod Sited
+mod Few
+mod Going
+mod Opened
+mod Refusing
+mod Lost
+mod RowsMade
+mod Lawful
+mod Moved
+mod Added
+mod Hosting
+mod Smallness

@@ -1,0 +1,7 @@
+use Rattle.std.proofs.Common.{◌≡◌, ◌≤◌, ◌*◌, take, sum_by}
+use Rattle.esx_types.specs.declared.config.TheConstants.{MAX_PAGES}
+use Rattle.esx_sums.specs.Sums.{here_of}
+use Rattle.esx_sums.proofs.site.all_here.Given as goal
+
+abbrev pub invariant-loop-at : goal.invariant-loop-at
+invariant-loop-at l = (l.total ≡ sum_by here_of (take l._at l.present)) × (l.total ≤ l._at * MAX_PAGES)

@@ -1,0 +1,14 @@
+pub mod Lives
+pub mod Mets
+pub mod Moving
+pub mod Guests
+pub mod Extremes
+pub mod Site
+pub mod Sums
+pub mod Few
+pub mod Accounts
+pub mod Kept
+pub mod Losses
+pub mod Rows
+pub mod Laws
+pub mod Telling
