@@ -1,0 +1,11 @@
+pub mod Lists
+pub mod Told
+pub mod Rising
+pub mod Sessions
+pub mod Lined
+pub mod Whole
+pub mod Reached
+pub mod Marked
+pub mod Keeping
+pub mod Asked
+pub mod Going
