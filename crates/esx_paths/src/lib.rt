@@ -1,5 +1,5 @@
 //! The path to a node of a session, from the session's text: the calls that made it, in order, and the refusals that were
-//! met on it. Nothing stands on this.
+//! met on it.
 #![tactic(auto)]
 
 pub mod at;
