@@ -1,0 +1,9 @@
+pub mod Placed
+pub mod Told
+pub mod Asked
+pub mod Front
+pub mod Reached
+pub mod Accepted
+pub mod Ways
+pub mod Losses
+pub mod Texts

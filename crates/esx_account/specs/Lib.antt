@@ -1,0 +1,14 @@
+pub use Rattle.esx_types.specs.Ranges
+pub use Rattle.esx_words.specs.Commands
+pub use Rattle.esx_session.specs.Sessions
+pub use Rattle.esx_check.specs.Again
+pub use Rattle.esx_story.specs.Moments
+pub use Rattle.esx_story.specs.Order
+pub use Rattle.esx_story.specs.Waits
+pub use Rattle.esx_story.specs.Story
+pub use Rattle.esx_walk.specs.Walks
+pub use Rattle.esx_paths.specs.Paths
+pub mod Asking
+pub mod Walking
+pub mod Texts
+pub mod Lines
