@@ -40,7 +40,7 @@ fn nothing_done(rt: HostRuntime) -> Result<(), Fail> {
         ("esxplan replay none/a", 1),
         ("esxplan check none/a", 1),
         ("esxplan run", 2),
-        ("esxplan help", 2),
+        ("esxplan help a", 2),
     ];
     for (line, status) in &rows {
         let words = words_of(alloc, *line)?;
