@@ -12,5 +12,5 @@ mod written;
 
 pub use fault::TextFault;
 pub use fields::{Fields, number_of};
-pub use whole::{CHUNK, MAX_FILE, READS, read_text, read_whole};
+pub use whole::{CHUNK, MAX_FILE, MAX_SESSION, READS, read_text, read_text_within, read_whole};
 pub use written::{MAX_DIGITS, small_written_bytes, written_bytes};
