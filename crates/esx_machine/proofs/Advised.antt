@@ -21,7 +21,7 @@ use Rattle.esx_model.specs.declared.scene.Site.{Site}
 use Rattle.esx_model.specs.declared.scene.Scene.{Scene}
 use Rattle.esx_model.specs.declared.tables.Tables.{Tables}
 use Rattle.esx_model.specs.Site.{vm_at, place_at, pages_at}
-use Rattle.esx_model.specs.Tables.{raw_place, vm_table, tables_of}
+use Rattle.esx_model.specs.Tables.{raw_place, standing_of, vm_table, tables_of}
 use Rattle.esx_model.specs.Advice.{can_write, help_by, target_of, help_for, help_at, advice}
 use Rattle.esx_model.specs.event.Outcome.{unless, standing, page_gate}
 use Rattle.esx_model.specs.event.Access.{is_blocked, write_frame}
@@ -107,3 +107,13 @@ target_shown k t n shows =
     ap (λ (x : Tables). option_map (λ (w : VmRow). w.target) (row_at x n)) shows.tables
     ∙ ap (option_map (λ (w : VmRow). w.target)) (row_there k.config t.site n)
     ∙ same_target (vm_at t.site n)
+
+same_standing : (o : Option Vm) → option_map standing_of (option_map vm_table o) ≡ option_map standing o
+same_standing None = refl
+same_standing (Some v) = ap (λ (m : Standing). Some m) (standing_shown v)
+
+pub standing_there : (k : Kept) (t : Scene) (n : ℕ) → Shows k t → option_map standing_of (row_at k.tables n) ≡ option_map standing (vm_at t.site n)
+standing_there k t n shows =
+    ap (λ (x : Tables). option_map standing_of (row_at x n)) shows.tables
+    ∙ ap (option_map standing_of) (row_there k.config t.site n)
+    ∙ same_standing (vm_at t.site n)

@@ -8,3 +8,4 @@ pub mod Paged
 pub mod Advised
 pub mod Loops
 pub mod Applied
+pub mod Equals

@@ -1,5 +1,5 @@
 -- What questions read of the raw tables, and what the tables of every sound site have on which they rest. No public clause cites this module.
-use Rattle.std.specs.Prelude.{◌≡◌, ℕ, ◌≤◌, ◌==◌, Bool, true, false, ◌&&◌, not, is_some, nat_lt, nat_le, List, [], ◌∷◌, length, Option, Some, None, if◌then◌else◌, Result, Ok, Err}
+use Rattle.std.specs.Prelude.{◌≡◌, ℕ, ◌≤◌, ◌==◌, Bool, true, false, ◌&&◌, not, is_some, nat_lt, nat_le, List, [], ◌∷◌, length, Option, Some, None, option_map, if◌then◌else◌, Result, Ok, Err}
 use Rattle.std.specs.List.{list_any}
 use Rattle.esx_types.specs.Ranges.{IsTax}
 use Rattle.esx_types.specs.declared.config.TheConstants.{MAX_PAGES, MAX_SHARES, MAX_TAU, VM_NUMBERS}
@@ -16,6 +16,8 @@ use Rattle.esx_events.specs.declared.call.Help.TheVariants as helps
 use Rattle.esx_events.specs.declared.call.PageState.{PageState}
 use Rattle.esx_events.specs.declared.call.PageState.TheVariants as states
 use Rattle.esx_events.specs.declared.call.TableRow.{TableRow}
+use Rattle.esx_events.specs.declared.event.Event.{Event}
+use Rattle.esx_events.specs.declared.event.Event.TheVariants.{Scan, SwapOut}
 use Rattle.esx_events.specs.declared.event.Refusal.{Refusal}
 use Rattle.esx_events.specs.declared.event.Refusal.TheVariants.{NoVm, OutOfRange}
 use Rattle.esx_formulas.specs.declared.targets.Row.{Row}
@@ -27,11 +29,14 @@ use Rattle.esx_model.specs.Tables.{standing_of}
 use Rattle.esx_model.specs.Readings.{state_in, table_row}
 use Rattle.esx_model.specs.Advice.{help_by}
 use Rattle.esx_model.specs.event.Access.{is_blocked}
+use Rattle.esx_model.specs.event.Sharing.{other_found}
 use Rattle.esx_model.specs.event.Outcome.{unless, page_gate}
 use Rattle.esx_tables.specs.Readings.{row_at}
 use Rattle.esx_changes.specs.Activity.{IsTold}
+use Rattle.esx_changes.specs.Drawn.{drawn_page}
 use Rattle.esx_changes.specs.Spare.{has_spare}
 use Rattle.esx_plans.specs.plan.Ratios.{numbered, ratio_row}
+use Rattle.esx_sharing.specs.Sharing.{look_in}
 
 -- a machine's numbers are in their ranges
 pub record IsReadable (v : VmRow) : Type 0 where
@@ -105,3 +110,28 @@ advice_from t level page (Some v) = unless (page_gate (standing_of v) page) (Ok 
 abbrev pub line_of : ℕ → Option VmRow → List TableRow
 line_of n None = []
 line_of n (Some v) = table_row n v ∷ []
+
+-- What an event finds to be equal to its page: the page by its row, and by that of its machine.
+abbrev pub found_at : Tables → ℕ → ℕ → MapRow → Option (ℕ × ℕ)
+found_at t n page maps.Untouched = None
+found_at t n page (maps.Here f) = other_found (look_in t n page (frame_at t.frames f))
+found_at t n page (maps.Out slot) = None
+found_at t n page (maps.Lent e) = None
+
+abbrev pub found_of : Tables → ℕ → ℕ → Option VmRow → Option (ℕ × ℕ)
+found_of t n page None = None
+found_of t n page (Some v) = found_at t n page (page_at v.pages page)
+
+abbrev pub equal_in : Tables → Option (ℕ × ℕ) → Option (ℕ × ℕ)
+equal_in t None = None
+equal_in t (Some p) = found_of t p.0 p.1 (row_at t p.0)
+
+-- the page that a word draws, and the one that an event compares with others
+abbrev pub drawn_in : ℕ → Option VmRow → ℕ → Option (ℕ × ℕ)
+drawn_in n None word = None
+drawn_in n (Some v) word = option_map (λ page. (n, page)) (drawn_page v word)
+
+abbrev pub compared_in : Tables → Event → Option (ℕ × ℕ)
+compared_in t (Scan n page) = Some (n, page)
+compared_in t (SwapOut n word) = drawn_in n (row_at t n) word
+compared_in t _ = None

@@ -2,6 +2,7 @@
 #![tactic(auto)]
 
 mod advice;
+mod equal;
 pub mod laws;
 pub mod machine;
 mod planning;

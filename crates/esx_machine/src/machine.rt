@@ -1,15 +1,16 @@
 //! The machine: one event, one flip, and questions.
 
 use crate::advice::advise;
+use crate::equal::equal_page;
 use crate::planning::plan;
-use crate::reading::{activity, page_state, spec_of, target_of};
+use crate::reading::{activity, page_state, spec_of, standing_of_vm, target_of};
 use crate::record::Record;
 use crate::rows::target_rows;
 use crate::table::table_of;
 use esx_events::{Activity, Answer, Event, Help, PageState, Refusal, Sum, TableRow};
 use esx_formulas::Row;
 use esx_level::Thresholds;
-use esx_model::Book;
+use esx_model::{Book, Standing};
 use esx_plans::Plan;
 use esx_tables::SiteTables;
 use esx_types::{Config, Level, Rows, VmId, VmSpec};
@@ -44,7 +45,10 @@ impl Machine {
     ghost use Rattle.esx_model.specs.Site.{free_count, vm_at};
     ghost use Rattle.esx_model.specs.Readings.{sum_of, page_state, activity, table_of};
     ghost use Rattle.esx_model.specs.Advice.{advice, target_of};
+    ghost use Rattle.esx_model.specs.event.Outcome.{standing};
+    ghost use Rattle.esx_model.specs.event.Paging.{compared};
     ghost use Rattle.esx_model.specs.event.Rebalancing.{rows_of};
+    ghost use Rattle.esx_model.specs.event.Sharing.{found_by};
     ghost use Rattle.esx_model.specs.Replay.{next, opening};
     ghost use Rattle.esx_model.specs.sound.Sound.{NamesVm};
     ghost use Rattle.esx_changes.specs.Planned.{Plans};
@@ -200,6 +204,14 @@ impl Machine {
         spec_of(&self.tables, vm)
     }
 
+    /// What a virtual machine asked for, its state and its target, and how many of its pages are in frames, in slots and
+    /// lent, if there is such a machine.
+    pub fn standing(&self, vm: VmId) -> Option<Standing>
+        ensures { (scene : Scene) → Shows self.now scene → result ≡ option_map standing (vm_at scene.site vm) }
+    {
+        standing_of_vm(&self.tables, vm)
+    }
+
     /// How many pages a virtual machine is to have, if there is such a machine.
     pub fn target(&self, vm: VmId) -> Option<u32>
         ensures { (scene : Scene) → Shows self.now scene → result ≡ option_map (λ v. v.target) (vm_at scene.site vm) }
@@ -213,6 +225,14 @@ impl Machine {
         ensures { (scene : Scene) → Shows self.now scene → IfOk result (λ rows. rows.items ≡ rows_of target_of scene.site) }
     {
         target_rows(self.alloc, &self.tables)
+    }
+
+    /// The page that a scan, or a swap-out of the page that it draws, would find to be equal to its own and alone in its
+    /// frame. Other events find none, nor does one that would be refused need to.
+    pub fn equal_page(&self, event: &Event) -> Option<(VmId, u32)>
+        ensures { (scene : Scene) → Shows self.now scene → result ≡ found_by scene.site (compared scene.site event.now) }
+    {
+        equal_page(&self.tables, event)
     }
 
     /// Reads what an access of a page is to read, so that it is near when the access comes. What it gives means nothing.

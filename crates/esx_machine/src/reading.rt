@@ -4,12 +4,14 @@ ghost use Rattle.std.specs.Prelude.{◌≡◌, option_map};
 ghost use Rattle.esx_types.specs.Frames.{frame_at};
 ghost use Rattle.esx_types.specs.Listings.{listing_at};
 ghost use Rattle.esx_model.specs.Readings.{activity_in, activity_of, state_in};
+ghost use Rattle.esx_model.specs.Tables.{standing_of};
 ghost use Rattle.esx_tables.specs.Readings.{row_at};
 ghost use Rattle.esx_changes.specs.Activity.{IsTold};
 ghost use Rattle.esx_machine.specs.Questions.{AreReadable, is_hinted, state_of, page_from};
 
 use esx_changes::activity::{active, sampled, touched};
 use esx_events::{Activity, PageState, Refusal};
+use esx_model::Standing;
 use esx_tables::{SiteTables, VmTable};
 use esx_types::{FrameRow, Listing, MapRow, VmId, VmSpec};
 
@@ -68,6 +70,16 @@ pub fn target_of(tables: &SiteTables, vm: VmId) -> Option<u32>
     match tables.vm(vm) {
         None => None,
         Some(row) => Some(row.facts().target),
+    }
+}
+
+/// What gates read of a machine.
+pub fn standing_of_vm(tables: &SiteTables, vm: VmId) -> Option<Standing>
+    ensures { result ≡ option_map standing_of (row_at tables.now vm) }
+{
+    match tables.vm(vm) {
+        None => None,
+        Some(row) => Some(row.standing()),
     }
 }
 

@@ -20,7 +20,7 @@ use Rattle.esx_model.specs.Site.{vm_at, place_at, place_in, place_of, least_slot
 use Rattle.esx_model.specs.Hints.{is_hint_of, with_place, placed}
 use Rattle.esx_model.specs.Replay.{next}
 use Rattle.esx_model.specs.event.Outcome.{standing}
-use Rattle.esx_model.specs.event.Sharing.{look, after_look, said_of, scan_gate, scan}
+use Rattle.esx_model.specs.event.Sharing.{look, after_look, said_of, scan_gate, scan, other_found, found_by}
 use Rattle.esx_model.specs.event.Paging.{victim, swap_out_gate, to_slot, leave_by, leave, swap_out}
 use Rattle.esx_model.specs.sound.Sound.{IsSound}
 use Rattle.esx_model.proofs.Callers.{step_of, of_vm, passed, SeesPage, Sees, look_sees, beside, place_within, vm_placed_there, eqb_same}
@@ -29,7 +29,7 @@ use Rattle.esx_story.specs.declared.change.Spot.{Spot}
 use Rattle.esx_story.specs.declared.change.Spot.TheVariants as spots
 use Rattle.esx_story.specs.Spots.{spot_of, how_here, how_of, ends_loans}
 use Rattle.esx_story.proofs.event.Access.{outcome_is}
-use Rattle.esx_sums.specs.Moving.{other_found, found_by, page_shared}
+use Rattle.esx_sums.specs.Moving.{page_shared}
 use Rattle.esx_sums.specs.Telling.{IsHostHow}
 use Rattle.esx_sums.proofs.Moved.{here_spot, was_spot, looked_on}
 

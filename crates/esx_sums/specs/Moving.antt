@@ -4,11 +4,7 @@ use Rattle.esx_events.specs.declared.event.Event.{Event}
 use Rattle.esx_events.specs.declared.event.Event.TheVariants.{Scan, SwapOut, Write}
 use Rattle.esx_events.specs.declared.event.Answer.{Answer}
 use Rattle.esx_events.specs.declared.event.Answer.TheVariants as answers
-use Rattle.esx_model.specs.declared.look.Look.{Look}
-use Rattle.esx_model.specs.declared.look.Look.TheVariants.{OtherPage}
-use Rattle.esx_model.specs.declared.scene.Site.{Site}
-use Rattle.esx_model.specs.Site.{place_of}
-use Rattle.esx_model.specs.event.Sharing.{look}
+use Rattle.esx_model.specs.event.Sharing.{found_by}
 use Rattle.esx_story.specs.declared.change.How.{How}
 use Rattle.esx_story.specs.declared.change.How.TheVariants.{Share, Cow, Own}
 use Rattle.esx_story.specs.declared.change.Change.{Change}
@@ -58,15 +54,6 @@ moved_at x = move_of x (page_about x.event x.answer)
 abbrev pub is_so : ℕ → (How → Bool) → Option Change → Bool
 is_so n test None = false
 is_so n test (Some y) = (y.vm == n) && test y.how
-
--- the page that is found to be equal to a page, and was alone in its frame until then
-abbrev pub other_found : Look → Option (ℕ × ℕ)
-other_found (OtherPage m q frame) = Some (m, q)
-other_found _ = None
-
-abbrev pub found_by : Site → Option (ℕ × ℕ) → Option (ℕ × ℕ)
-found_by s None = None
-found_by s (Some p) = other_found (look s p.0 p.1 (place_of s p.0 p.1))
 
 -- the page that comes to be shared: one that is scanned, one that is shared in place of being paged out
 abbrev pub page_shared : Event → Answer → Option (ℕ × ℕ)

@@ -1,9 +1,11 @@
 -- Pages leave for the swap area, or make room for one of their own machine (Waldspurger, "Demand Paging", "Reclamation Mechanisms").
-use Rattle.std.specs.Prelude.{ℕ, ◌%◌, Bool, true, false, ◌&&◌, ◌||◌, not, nat_lt, nat_le, List, Option, Some, None, slice_get, Ok, Err, ◌∷◌, []}
+use Rattle.std.specs.Prelude.{ℕ, ◌%◌, Bool, true, false, ◌&&◌, ◌||◌, not, nat_lt, nat_le, List, Option, Some, None, option_map, slice_get, Ok, Err, ◌∷◌, []}
 use Rattle.std.specs.List.{list_any}
 use Rattle.esx_types.specs.declared.config.Config.{Config}
 use Rattle.esx_types.specs.declared.level.Level.{Level}
 use Rattle.esx_types.specs.declared.level.Level.TheVariants.{High, Soft, Hard, Low}
+use Rattle.esx_events.specs.declared.event.Event.{Event}
+use Rattle.esx_events.specs.declared.event.Event.TheVariants.{Scan, SwapOut}
 use Rattle.esx_events.specs.declared.event.Answer.TheVariants as answers
 use Rattle.esx_events.specs.declared.event.Refusal.TheVariants.{NotRunning, OutOfRange, Short, NotNow, AtTarget, NotNeeded}
 use Rattle.esx_model.specs.declared.scene.Place.{Place}
@@ -52,6 +54,16 @@ leave_by c s n page bytes Nothing = to_slot s n page bytes (least_slot c.slots s
 abbrev pub leave : Config → Site → ℕ → Vm → Option ℕ → Outcome
 leave c s n v None = Err AtTarget
 leave c s n v (Some page) = leave_by c s n page (contents c (place_at v page)) (look s n page (place_at v page))
+
+-- the page that an event compares with others: one that is scanned, and one that is drawn to go out
+abbrev pub drawn_of : ℕ → Option Vm → ℕ → Option (ℕ × ℕ)
+drawn_of n None word = None
+drawn_of n (Some v) word = option_map (λ page. (n, page)) (victim v word)
+
+abbrev pub compared : Site → Event → Option (ℕ × ℕ)
+compared s (Scan n page) = Some (n, page)
+compared s (SwapOut n word) = drawn_of n (vm_at s n) word
+compared s _ = None
 
 unfoldable pub swap_out : Config → Site → Level → ℕ → ℕ → Outcome
 swap_out c s level n word = at_vm (vm_at s n) (λ v. unless (swap_out_gate level (standing v)) (leave c s n v (victim v word)))

@@ -61,6 +61,15 @@ look s n page Untouched = Nothing
 look s n page (Out bytes slot) = Nothing
 look s n page (Lent epoch) = Nothing
 
+-- the page that is found to be equal to a page, and was alone in its frame until then
+abbrev pub other_found : Look → Option (ℕ × ℕ)
+other_found (OtherPage m q frame) = Some (m, q)
+other_found _ = None
+
+abbrev pub found_by : Site → Option (ℕ × ℕ) → Option (ℕ × ℕ)
+found_by s None = None
+found_by s (Some p) = other_found (look s p.0 p.1 (place_of s p.0 p.1))
+
 -- the site where the page is the hint under its short
 abbrev pub hinted : Site → ℕ → ℕ → List ℕ → Site
 hinted s n page bytes = record s { hints = with_hint (record { key = hint_key bytes; vm = n; page = page }) s.hints }
