@@ -21,12 +21,12 @@ DrawsItsPage = (s : Site) (n page word : ℕ) (v : Vm) → vm_at s n ≡ Some v 
 abbrev pub IsDrawnByNone : Type 0
 IsDrawnByNone = (s : Site) (n page word : ℕ) (e : Refusal) (v : Vm) → vm_at s n ≡ Some v → word_of s n page ≡ Err e → victim v word ≡ Some page → ⊥
 
--- the answer tells that this page left its frame
+-- the answer tells this page
 abbrev pub TellsOut : ℕ → Answer → Type 0
 TellsOut page (answers.PagedOut other slot) = other ≡ page
 TellsOut page (answers.SharedOut other frame) = other ≡ page
 TellsOut page _ = ⊥
 
--- where a swap-out by the word of a page is accepted, the page goes out
+-- where a swap-out by the word of a page is accepted, its answer tells the page: it is out, or it came into a shared frame
 abbrev pub GoesOut : Type 0
 GoesOut = (c : Config) (t : Scene) (n page word : ℕ) (r : Answer × Scene) → word_of t.site n page ≡ Ok word → next c t (SwapOut n word) ≡ Ok r → TellsOut page r.0

@@ -53,6 +53,16 @@ calls_of_way makers n ups up later fits way =
     } in
     subst (RiseFrom 0) (append-nil (map (λ (w : Waypoint). w.call) (reverse ups))) (climbs makers (length makers) (λ k. (maker_at makers k).call) (λ w. w.call) climb (λ k. refl) n ups [] fits way tt)
 
+-- each waypoint of a way is what is told of its node
+pub made_of_way : (makers : List Maker) (n : ℕ) (ups : List Waypoint) → IsWayUp makers n ups → map (λ (w : Waypoint). waypoint_at makers w.node) (reverse ups) ≡ reverse ups
+made_of_way makers n [] up = refl
+made_of_way makers n (w ∷ ups) up =
+    let told : Waypoint → Waypoint = λ x. waypoint_at makers x.node in
+    let here : told w ≡ w = ap (λ (x : Waypoint). told x) up.1 ∙ sym up.1 in
+    ap (map told) (reverse_cons w ups) ∙ map-append told (reverse ups) (w ∷ [])
+    ∙ ap (λ (xs : List Waypoint). xs ++ told w ∷ []) (made_of_way makers (maker_at makers n).parent ups up.2)
+    ∙ ap (λ (x : Waypoint). reverse ups ++ x ∷ []) here ∙ sym (reverse_cons w ups)
+
 -- a way has no more waypoints than its node's number
 pub way_short : (makers : List Maker) (n : ℕ) (ups : List Waypoint) → LeadsUp makers → n ≤ length makers → IsWayUp makers n ups → length ups ≤ n
 way_short makers n [] up fits way = omega arith

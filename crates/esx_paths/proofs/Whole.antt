@@ -8,12 +8,12 @@ use Rattle.esx_model.specs.Console.{Session, history}
 use Rattle.esx_paths.specs.declared.mets.Met.{Met}
 use Rattle.esx_paths.specs.declared.path.Path.{Path}
 use Rattle.esx_paths.specs.declared.way.Waypoint.{Waypoint}
-use Rattle.esx_paths.specs.Makers.{makers, refusals}
+use Rattle.esx_paths.specs.Makers.{makers, refusals, waypoint_at}
 use Rattle.esx_paths.specs.Paths.{RiseFrom, IsPathTo, IsPath, event_by, caller_by, met_on, nodes_to, mets_on}
 use Rattle.esx_paths.specs.Ways.{LeadsUp, IsWayTo, TellsPath}
 use Rattle.esx_paths.proofs.Lists.{in_order_length, mapped_and_not}
 use Rattle.esx_paths.proofs.Told.{tells_way, leads_up, calls_rise}
-use Rattle.esx_paths.proofs.Rising.{calls_of_way}
+use Rattle.esx_paths.proofs.Rising.{calls_of_way, made_of_way}
 use Rattle.esx_paths.proofs.Sessions.{session_told}
 
 pub session_leads_up : (s : Session) → IsTree (history s).nodes → LeadsUp (makers s)
@@ -28,8 +28,9 @@ path_told s node waypoints tree fits way =
     let Q : List Waypoint → Type 0 = λ ws. map (λ (w : Waypoint). event_by s w.call) ws ≡ map (λ (e : Event). Some e) (path (history s).nodes node) in
     let R : List Waypoint → Type 0 = λ ws. map (λ (w : Waypoint). caller_by s w.call) ws ≡ map (λ (w : Waypoint). Some w.caller) ws in
     let U : List Waypoint → Type 0 = λ ws. RiseFrom 0 (map (λ (w : Waypoint). w.call) ws) in
+    let M : List Waypoint → Type 0 = λ ws. map (λ (w : Waypoint). waypoint_at (makers s) w.node) ws ≡ ws in
     let down = sym way.down in
-    record { nodes = subst P down told.nodes_are; events = subst Q down told.events_are; callers = subst R down told.callers_are; rise = subst U down rise }
+    record { nodes = subst P down told.nodes_are; events = subst Q down told.events_are; callers = subst R down told.callers_are; rise = subst U down rise; made = subst M down (made_of_way (makers s) node way.ups way.up) }
 
 pub session_path : (s : Session) (node : ℕ) (told : Path) → IsTree (history s).nodes → node ≤ length (makers s) → TellsPath s.site (length s.log) (makers s) (refusals s) node told → IsPath s node told
 session_path s node told tree fits tells =

@@ -1,5 +1,5 @@
 -- What made the nodes of a session, and what it refused: both are told of its calls, one after another.
-use Rattle.std.specs.Prelude.{ℕ, ◌+◌, Bool, true, false, if◌then◌else◌, List, [], ◌∷◌, ◌++◌, Option, Some, None, option_map}
+use Rattle.std.specs.Prelude.{ℕ, zero, suc, ◌+◌, Bool, true, false, if◌then◌else◌, List, [], ◌∷◌, ◌++◌, slice_index_or, Option, Some, None, option_map}
 use Rattle.std.specs.Option.{option_to_list}
 use Rattle.esx_events.specs.declared.event.Event.{Event}
 use Rattle.esx_events.specs.declared.event.Event.TheVariants.{Read, Write}
@@ -13,6 +13,7 @@ use Rattle.esx_model.specs.History.{History, opened, cursor}
 use Rattle.esx_model.specs.Console.{Session, outcome, after}
 use Rattle.esx_paths.specs.declared.makers.Maker.{Maker}
 use Rattle.esx_paths.specs.declared.makers.RefusedCall.{RefusedCall}
+use Rattle.esx_paths.specs.declared.way.Waypoint.{Waypoint}
 
 -- what each line of a log adds to a list, told the history before it and its number
 module _ {A : Type 0} (adds : History → ℕ → Line → List A) where
@@ -62,3 +63,15 @@ refusal_of h number x = option_to_list (option_map (refused_at (cursor h) number
 -- to read or to write, and why
 abbrev pub refusals : Session → List RefusedCall
 refusals s = gathered refusal_of (opened s.site) 1 s.log
+
+-- what made node n; the opening was made by no call
+abbrev pub nobody : Maker
+nobody = record { parent = 0; call = 0; caller = 0 }
+
+abbrev pub maker_at : List Maker → ℕ → Maker
+maker_at makers zero = nobody
+maker_at makers (suc k) = slice_index_or makers k nobody
+
+-- node n, and what made it
+abbrev pub waypoint_at : List Maker → ℕ → Waypoint
+waypoint_at makers n = record { node = n; call = (maker_at makers n).call; caller = (maker_at makers n).caller }

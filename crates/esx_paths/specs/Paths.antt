@@ -12,7 +12,7 @@ use Rattle.esx_paths.specs.declared.makers.RefusedCall.{RefusedCall}
 use Rattle.esx_paths.specs.declared.way.Waypoint.{Waypoint}
 use Rattle.esx_paths.specs.declared.mets.Met.{Met}
 use Rattle.esx_paths.specs.declared.path.Path.{Path}
-use Rattle.esx_paths.specs.Makers.{refusals}
+use Rattle.esx_paths.specs.Makers.{makers, refusals, waypoint_at}
 
 -- the line of a log that has this number, from 1 on
 abbrev pub line_numbered : List Line → ℕ → Option Line
@@ -40,13 +40,14 @@ abbrev pub RiseFrom : ℕ → List ℕ → Type 0
 RiseFrom low [] = Unit {0}
 RiseFrom low (n ∷ later) = (low < n) × RiseFrom n later
 
--- The waypoints are the nodes that lead to a node, the opening left out. Each has the number of the call that made it, which
--- is one of an event of the path, and its caller.
+-- The waypoints are the nodes that lead to a node, the opening left out, each with the number and the caller of the call that
+-- made it, which is one of an event of the path.
 pub record IsPathTo (s : Session) (node : ℕ) (waypoints : List Waypoint) : Type 0 where
   pub nodes : map (λ (w : Waypoint). w.node) waypoints ≡ line (history s).nodes node
   pub events : map (λ (w : Waypoint). event_by s w.call) waypoints ≡ map (λ (e : Event). Some e) (path (history s).nodes node)
   pub callers : map (λ (w : Waypoint). caller_by s w.call) waypoints ≡ map (λ (w : Waypoint). Some w.caller) waypoints
   pub rise : RiseFrom 0 (map (λ (w : Waypoint). w.call) waypoints)
+  pub made : map (λ (w : Waypoint). waypoint_at (makers s) w.node) waypoints ≡ waypoints
 
 -- the nodes that lead to a node, the opening first
 abbrev pub nodes_to : Session → ℕ → List ℕ

@@ -1,5 +1,5 @@
 -- The way from a node up to the opening, as it is told by what made each node.
-use Rattle.std.specs.Prelude.{◌≡◌, ◌<◌, ◌≤◌, ◌+◌, ℕ, zero, suc, List, [], ◌∷◌, length, map, reverse, slice_index_or, filter_map}
+use Rattle.std.specs.Prelude.{◌≡◌, ◌<◌, ◌≤◌, ◌+◌, ℕ, List, [], ◌∷◌, length, map, reverse, slice_index_or, filter_map}
 use Rattle.esx_types.specs.Listings.{in_order}
 use Rattle.esx_types.specs.declared.config.Config.{Config}
 use Rattle.esx_paths.specs.declared.makers.Maker.{Maker}
@@ -8,22 +8,11 @@ use Rattle.esx_paths.specs.declared.way.Waypoint.{Waypoint}
 use Rattle.esx_paths.specs.declared.mets.Met.{Met}
 use Rattle.esx_paths.specs.declared.path.Path.{Path}
 use Rattle.esx_paths.specs.Paths.{RiseFrom, met_on}
-
--- what made node n; the opening was made by no call
-abbrev pub nobody : Maker
-nobody = record { parent = 0; call = 0; caller = 0 }
-
-abbrev pub maker_at : List Maker → ℕ → Maker
-maker_at makers zero = nobody
-maker_at makers (suc k) = slice_index_or makers k nobody
+pub use Rattle.esx_paths.specs.Makers.{nobody, maker_at, waypoint_at}
 
 -- each node's parent is older
 abbrev pub LeadsUp : List Maker → Type 0
 LeadsUp makers = (k : ℕ) → k < length makers → (slice_index_or makers k nobody).parent ≤ k
-
--- node n, and what made it
-abbrev pub waypoint_at : List Maker → ℕ → Waypoint
-waypoint_at makers n = record { node = n; call = (maker_at makers n).call; caller = (maker_at makers n).caller }
 
 -- node n, its parent, and so on, up to the opening, which is left out
 abbrev pub IsWayUp : List Maker → ℕ → List Waypoint → Type 0
