@@ -1,0 +1,5 @@
+mod Along
+mod Hosts
+mod Listed
+mod Counted
+mod Surveying
