@@ -1,12 +1,12 @@
 -- What stands before the ends of lines.
-use Rattle.std.proofs.Common.{◌≡◌, ◌+◌, ◌-◌, ◌/◌, ◌%◌, ◌<◌, ◌++◌, ◌∷◌, [], ℕ, zero, suc, Bool, true, false, List, length, arith, decimal, codes, flat_map, replicate, ap, sym, refl, ◌∙◌, ◌==◌, if◌then◌else◌, append_assoc, append-nil, take, drop, subst, Option, Some, None}
+use Rattle.std.proofs.Common.{◌≡◌, ◌+◌, ◌-◌, ◌/◌, ◌%◌, ◌<◌, ◌++◌, ◌∷◌, [], ℕ, zero, suc, true, false, List, length, arith, decimal, codes, flat_map, replicate, ap, sym, refl, ◌∙◌, ◌==◌, if◌then◌else◌, append_assoc, append-nil, take, drop, subst, Option, Some, None}
 use Rattle.std.proofs.lemmas.Grind.{flat_map-append}
 use Rattle.std.specs.Fmt.{digits, digits_onto, digit_glyph}
 use Rattle.std.proofs.lemmas.Bool.{lt-ltb}
 use Rattle.esx_report.specs.declared.field.Field.{Field}
 use Rattle.esx_report.specs.declared.field.Field.TheVariants as fields
 use Rattle.esx_report.specs.declared.losses.LossLine.{LossLine}
-use Rattle.esx_report.specs.declared.guests.Guest.{Guest}
+use Rattle.esx_sums.specs.declared.guest.Guest.{Guest}
 use Rattle.esx_report.specs.declared.column.Cell.{Cell}
 use Rattle.esx_report.specs.declared.column.Cell.TheVariants.{Right}
 use Rattle.esx_report.specs.Fields.{cell_text, field_text}

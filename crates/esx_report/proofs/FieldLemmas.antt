@@ -1,5 +1,5 @@
 -- Numbers that are cut off, and how long they are as texts.
-use Rattle.std.proofs.Common.{◌≡◌, ◌+◌, ◌*◌, ◌/◌, ◌%◌, ◌<◌, ◌≤◌, ◌^◌, ◌++◌, ℕ, List, length, arith, decimal, codes, ap, length-append}
+use Rattle.std.proofs.Common.{◌≡◌, ◌+◌, ◌*◌, ◌/◌, ◌%◌, ◌<◌, ◌≤◌, ◌^◌, ℕ, length, arith, decimal, ap, length-append}
 use Rattle.std.proofs.lemmas.Nat.{le-div, div_below, div-add-mod', mod_below}
 use Rattle.std.proofs.lemmas.Fmt.{decimal_digit, length-decimal-le}
 use Rattle.esx_writing.specs.Writing.{thousandths_text}

@@ -1,5 +1,5 @@
 -- Ratios of rows whose numbers are in their ranges.
-use Rattle.std.proofs.Common.{◌≡◌, ◌+◌, ◌-◌, ◌*◌, ◌/◌, ◌<◌, ◌≤◌, ℕ, List, arith, ap, false, true, refl, ◌∙◌, ◌==◌, if◌then◌else◌}
+use Rattle.std.proofs.Common.{◌≡◌, ◌-◌, ◌*◌, ◌/◌, ◌<◌, ◌≤◌, ℕ, List, arith, ap, ◌∙◌, ◌==◌, if◌then◌else◌}
 use Rattle.std.proofs.Math.Nat.{mul-le-mul_left, zero-mul}
 use Rattle.esx_formulas.specs.declared.targets.Row.{Row}
 use Rattle.esx_formulas.specs.declared.activity.TheConstants.{WHOLE}

@@ -1,5 +1,5 @@
 -- Sentences that are told one way or another.
-use Rattle.std.proofs.Common.{◌≡◌, ◌++◌, ℕ, List, [], Option, Result, codes, decimal, ap, sym, ◌∙◌, ◌==◌, if◌then◌else◌}
+use Rattle.std.proofs.Common.{◌≡◌, ◌++◌, ℕ, List, [], Option, Result, codes, decimal, ap, ◌∙◌, ◌==◌, if◌then◌else◌}
 use Rattle.esx_writing.specs.Writing.{Puts}
 use Rattle.esx_report.specs.Why.{waits_text, place_text}
 use Rattle.esx_report.proofs.CommaLemmas.{not_match}

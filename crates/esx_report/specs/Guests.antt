@@ -1,10 +1,10 @@
 -- The tables of guests.
-use Rattle.std.specs.Prelude.{ℕ, List, [], ◌∷◌, ◌+◌, codes}
+use Rattle.std.specs.Prelude.{ℕ, List, [], ◌∷◌, ◌++◌, ◌+◌, codes, flat_map}
 use Rattle.esx_report.specs.declared.field.Field.{Field}
 use Rattle.esx_report.specs.declared.field.Field.TheVariants as fields
 use Rattle.esx_report.specs.declared.column.Cell.{Cell}
 use Rattle.esx_report.specs.declared.column.Cell.TheVariants.{Right}
-use Rattle.esx_report.specs.declared.guests.Guest.{Guest}
+use Rattle.esx_sums.specs.declared.guest.Guest.{Guest}
 use Rattle.esx_report.specs.Rows.{csv_row, table_row}
 use Rattle.esx_report.specs.Losses.{number_field}
 
@@ -23,6 +23,10 @@ guest_fields g =
 
 abbrev pub guest_row : Guest → List ℕ
 guest_row g = csv_row (guest_fields g)
+
+-- the whole table of guests
+abbrev pub guests_csv : List Guest → List ℕ
+guests_csv guests = guest_head ++ flat_map guest_row guests
 
 abbrev pub guest_heading : List ℕ
 guest_heading = codes " vm life  accesses   first  popped  swapin    lost balloon    swap replace    drop    back   soon  waits  shared    cow   held  short  above   most   here target\n"

@@ -5,7 +5,9 @@ pub mod Fields
 pub mod Guests
 pub mod Losses
 pub mod LossTable
+pub mod Report
 pub mod Rows
 pub mod Site
+pub mod SiteTable
 pub mod Values
 pub mod Why

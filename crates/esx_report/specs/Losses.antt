@@ -1,10 +1,11 @@
 -- The tables of losses.
-use Rattle.std.specs.Prelude.{ℕ, List, [], ◌∷◌, ◌+◌, ◌-◌, ◌*◌, ◌==◌, codes, if◌then◌else◌, option_map, Option, Some, None}
+use Rattle.std.specs.Prelude.{ℕ, List, [], ◌∷◌, ◌++◌, ◌+◌, ◌-◌, ◌*◌, ◌==◌, codes, flat_map, if◌then◌else◌, option_map, Option, Some, None, All}
 use Rattle.esx_formulas.specs.declared.targets.Row.{Row}
 use Rattle.esx_formulas.specs.declared.activity.TheConstants.{WHOLE}
 use Rattle.esx_formulas.specs.Ratio.{claim}
 use Rattle.esx_story.specs.declared.change.Asked.{Asked}
 use Rattle.esx_story.specs.declared.change.How.{How}
+use Rattle.esx_story.specs.Order.{HasGoodRows}
 use Rattle.esx_report.specs.declared.field.Field.{Field}
 use Rattle.esx_report.specs.declared.field.Field.TheVariants as fields
 use Rattle.esx_report.specs.declared.losses.LossLine.{LossLine}
@@ -68,6 +69,14 @@ loss_fields line =
 
 abbrev pub loss_row : LossLine → List ℕ
 loss_row line = csv_row (loss_fields line)
+
+-- the whole table of losses
+abbrev pub losses_csv : List LossLine → List ℕ
+losses_csv lines = loss_head ++ flat_map loss_row lines
+
+-- the rows that are told of each are in their ranges
+abbrev pub AreGoodLines : List LossLine → Type 0
+AreGoodLines lines = All (λ line. HasGoodRows line.loss.seen.order) lines
 
 abbrev pub commas : List ℕ → ℕ
 commas [] = 0

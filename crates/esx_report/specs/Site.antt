@@ -1,14 +1,13 @@
 -- The lines of a report that tell of the site.
 use Rattle.std.specs.Prelude.{ℕ, List, ◌++◌, ◌+◌, ◌-◌, codes, decimal, max}
-use Rattle.esx_types.specs.declared.level.Level.{Level}
 use Rattle.esx_writing.specs.Writing.{right_in, left_in}
 use Rattle.esx_report.specs.declared.field.Field.{Field}
 use Rattle.esx_report.specs.declared.field.Field.TheVariants as fields
 use Rattle.esx_report.specs.declared.site.Opened.{Opened}
 use Rattle.esx_report.specs.declared.site.PathSums.{PathSums}
-use Rattle.esx_report.specs.declared.site.LevelSums.{LevelSums}
-use Rattle.esx_report.specs.declared.site.SiteSums.{SiteSums}
-use Rattle.esx_report.specs.declared.site.LevelLosses.{LevelLosses}
+use Rattle.esx_sums.specs.declared.level.LevelSums.{LevelSums}
+use Rattle.esx_sums.specs.declared.site.SiteSums.{SiteSums}
+use Rattle.esx_sums.specs.declared.losses.LevelLosses.{LevelLosses}
 use Rattle.esx_report.specs.Fields.{field_text, level_text}
 
 -- what sharing saves at the end

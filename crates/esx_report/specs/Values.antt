@@ -2,8 +2,8 @@
 use Rattle.std.specs.Prelude.{ℕ, List, ◌++◌, codes, decimal}
 use Rattle.esx_report.specs.declared.field.Field.TheVariants as fields
 use Rattle.esx_report.specs.declared.site.PathSums.{PathSums}
-use Rattle.esx_report.specs.declared.site.LevelSums.{LevelSums}
-use Rattle.esx_report.specs.declared.site.SiteSums.{SiteSums}
+use Rattle.esx_sums.specs.declared.level.LevelSums.{LevelSums}
+use Rattle.esx_sums.specs.declared.site.SiteSums.{SiteSums}
 use Rattle.esx_report.specs.Fields.{field_text}
 use Rattle.esx_report.specs.Site.{saved, mean_saved}
 

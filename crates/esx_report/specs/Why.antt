@@ -1,5 +1,5 @@
 -- Why a page was lost, in sentences.
-use Rattle.std.specs.Prelude.{ℕ, Bool, true, false, List, [], ◌++◌, ◌-◌, ◌==◌, codes, decimal, take, if◌then◌else◌, Option, Some, None}
+use Rattle.std.specs.Prelude.{ℕ, Bool, true, false, List, [], ◌++◌, ◌-◌, ◌==◌, codes, decimal, length, flat_map, take, if◌then◌else◌, Option, Some, None, string_bytes, All}
 use Rattle.esx_formulas.specs.declared.targets.Row.{Row}
 use Rattle.esx_story.specs.declared.change.Asked.{Asked}
 use Rattle.esx_story.specs.declared.change.How.{How}
@@ -7,6 +7,7 @@ use Rattle.esx_story.specs.declared.change.How.TheVariants as hows
 use Rattle.esx_story.specs.declared.change.Loan.{Loan}
 use Rattle.esx_story.specs.declared.story.Loss.{Loss}
 use Rattle.esx_story.specs.declared.story.Order.{Order}
+use Rattle.esx_story.specs.Order.{HasGoodRows}
 use Rattle.esx_report.specs.declared.field.Field.TheVariants as fields
 use Rattle.esx_report.specs.declared.losses.LossLine.{LossLine}
 use Rattle.esx_report.specs.declared.why.Why.{Why}
@@ -48,10 +49,10 @@ outcome_text how None = mechanism_text how ++ codes ".\n"
 outcome_text how (Some slot) = mechanism_text how ++ (codes ", to slot " ++ (decimal slot ++ codes ".\n"))
 
 abbrev pub happened : Why → List ℕ
-happened w = happened_head w.command.now w.line.now ++ outcome_text w.line.now.loss.change.how w.line.now.loss.slot
+happened w = happened_head (string_bytes w.command) w.line ++ outcome_text w.line.loss.change.how w.line.loss.slot
 
 abbrev pub memory_text : Why → List ℕ
-memory_text w = codes "  Memory: level " ++ (field_text (codes "-") (fields.Level w.line.now.loss.seen.level) ++ (codes ", " ++ (decimal w.line.now.loss.seen.free ++ (codes " of " ++ (decimal w.frames ++ (codes " frames free (level high returns at " ++ (decimal w.returns_at ++ (codes ").\n"))))))))
+memory_text w = codes "  Memory: level " ++ (field_text (codes "-") (fields.Level w.line.loss.seen.level) ++ (codes ", " ++ (decimal w.line.loss.seen.free ++ (codes " of " ++ (decimal w.frames ++ (codes " frames free (level high returns at " ++ (decimal w.returns_at ++ (codes ").\n"))))))))
 
 abbrev pub target_head : Option Row → List ℕ
 target_head own = codes "  The guest: " ++ (field_text (codes "-") (row_fields own).pages ++ (codes " pages in frames, target " ++ (field_text (codes "-") (row_fields own).target ++ (codes " "))))
@@ -124,17 +125,17 @@ abbrev pub back_line : Loss → List ℕ
 back_line l = back_head l ++ back_tail l
 
 abbrev pub guest_lines : Why → List ℕ
-guest_lines w = target_line w.line.now ++ rate_line w.line.now
+guest_lines w = target_line w.line ++ rate_line w.line
 
 abbrev pub grounds : Why → List ℕ
 grounds w = memory_text w ++ guest_lines w
 
 -- what a stopping guest gives back needs no reason
 abbrev pub reason : Why → List ℕ
-reason w = if is_drop w.line.now.loss.change.how then [] else grounds w
+reason w = if is_drop w.line.loss.change.how then [] else grounds w
 
 abbrev pub why_rest : Why → List ℕ
-why_rest w = reason w ++ back_line w.line.now.loss
+why_rest w = reason w ++ back_line w.line.loss
 
 abbrev pub why_text : Why → List ℕ
 why_text w = happened w ++ why_rest w
@@ -142,3 +143,11 @@ why_text w = happened w ++ why_rest w
 -- the lines before all reasons
 abbrev pub why_head : ℕ → List ℕ
 why_head count = codes "esx why 1\nlosses " ++ (decimal count ++ (codes "\n"))
+
+-- all reasons, behind how many there are
+abbrev pub why_all : List Why → List ℕ
+why_all whys = why_head (length whys) ++ flat_map why_text whys
+
+-- the rows that are told of each loss are in their ranges
+abbrev pub AreGoodWhys : List Why → Type 0
+AreGoodWhys whys = All (λ (w : Why). HasGoodRows w.line.loss.seen.order) whys

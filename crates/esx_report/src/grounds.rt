@@ -37,7 +37,7 @@ fn put_memory<W: Sink>(sink: &mut W, held: &mut AnswerBuffer, why: &Why) -> Resu
             Part::Text(" of "),
             Part::Shown(Field::Number(why.frames as u64)),
             Part::Text(" frames free (level high returns at "),
-            Part::Shown(Field::Number(why.returns_at as u64)),
+            Part::Shown(Field::Number(why.returns_at)),
             Part::Text(").\n"),
         ],
     )
@@ -201,18 +201,18 @@ fn put_rate<W: Sink>(
 
 /// The sentences on the guest and its ratio.
 fn put_guest<W: Sink>(sink: &mut W, held: &mut AnswerBuffer, why: &Why) -> Result<(), SinkFailed>
-    requires { HasGoodRows why.now.line.now.loss.seen.order }
+    requires { HasGoodRows why.now.line.loss.seen.order }
     ensures bytes { Puts (W.contents sink.old) held.old (W.contents sink.new) held.new (guest_lines why.now) result }
     ensures failures { W.failures sink.new ≡ W.failures sink.old + sink_faults result }
     ensures flushes { W.flushes sink.new ≡ W.flushes sink.old }
 {
-    put_target(sink, held, why.line)?;
-    put_rate(sink, held, why.line)
+    put_target(sink, held, &why.line)?;
+    put_rate(sink, held, &why.line)
 }
 
 /// The sentences on memory and the guest.
 fn put_grounds<W: Sink>(sink: &mut W, held: &mut AnswerBuffer, why: &Why) -> Result<(), SinkFailed>
-    requires { HasGoodRows why.now.line.now.loss.seen.order }
+    requires { HasGoodRows why.now.line.loss.seen.order }
     ensures bytes { Puts (W.contents sink.old) held.old (W.contents sink.new) held.new (grounds why.now) result }
     ensures failures { W.failures sink.new ≡ W.failures sink.old + sink_faults result }
     ensures flushes { W.flushes sink.new ≡ W.flushes sink.old }
@@ -227,7 +227,7 @@ pub fn put_reason<W: Sink>(
     held: &mut AnswerBuffer,
     why: &Why,
 ) -> Result<(), SinkFailed>
-    requires { HasGoodRows why.now.line.now.loss.seen.order }
+    requires { HasGoodRows why.now.line.loss.seen.order }
     ensures bytes { Puts (W.contents sink.old) held.old (W.contents sink.new) held.new (reason why.now) result }
     ensures failures { W.failures sink.new ≡ W.failures sink.old + sink_faults result }
     ensures flushes { W.flushes sink.new ≡ W.flushes sink.old }

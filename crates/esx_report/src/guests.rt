@@ -9,41 +9,9 @@ use crate::field::Field;
 use crate::losses::number_field;
 use crate::row::put_row;
 use esx_story::Counts;
-use esx_types::{Sink, SinkFailed, VmId};
+use esx_sums::Guest;
+use esx_types::{Sink, SinkFailed};
 use esx_writing::{AnswerBuffer, put_line};
-
-/// A life of a virtual machine, up to its end or to the end of the path.
-///
-/// `reads` and `writes` are those that were accepted, `counts` how its pages came and left, and `share`, `host`,
-/// `cow` and `own` how their frames changed. `back` is how many of its losses came back, `soon` those of them
-/// within 1000 events, `waits` how many accesses of lost pages were refused; `held` and `short` are how many
-/// of its accesses were refused so in all. Of the `events` of its life it was `above` and `below` its target with so many;
-/// `sum_here` adds the pages that it had at each, and `most` is the greatest of them. `here` and `target` are
-/// those at the end, 0 and none where the life is over.
-#[derive(Clone, Copy)]
-pub struct Guest {
-    pub vm: VmId,
-    pub life: u32,
-    pub reads: u32,
-    pub writes: u32,
-    pub counts: Counts,
-    pub share: u32,
-    pub host: u32,
-    pub cow: u32,
-    pub own: u32,
-    pub back: u32,
-    pub soon: u32,
-    pub waits: u32,
-    pub held: u32,
-    pub short: u32,
-    pub above: u32,
-    pub below: u32,
-    pub events: u32,
-    pub sum_here: u64,
-    pub most: u32,
-    pub here: u32,
-    pub target: Option<u32>,
-}
 
 fn guest_fields(guest: &Guest) -> [Field; 27]
     ensures { result ≡ guest_fields guest.now }
@@ -66,7 +34,7 @@ fn guest_fields(guest: &Guest) -> [Field; 27]
         Field::Number(guest.own as u64),
         Field::Number(guest.back as u64),
         Field::Number(guest.soon as u64),
-        Field::Number(guest.waits as u64),
+        Field::Number(guest.waits),
         Field::Number(guest.held as u64),
         Field::Number(guest.short as u64),
         Field::Number(guest.above as u64),
@@ -106,7 +74,7 @@ fn guest_cells(guest: &Guest) -> [Cell; 22]
         Cell::Right(7, Field::Number(guest.counts.dropped as u64)),
         Cell::Right(7, Field::Number(guest.back as u64)),
         Cell::Right(6, Field::Number(guest.soon as u64)),
-        Cell::Right(6, Field::Number(guest.waits as u64)),
+        Cell::Right(6, Field::Number(guest.waits)),
         Cell::Right(7, Field::Number(guest.share as u64)),
         Cell::Right(6, Field::Number(guest.cow as u64)),
         Cell::Right(6, Field::Number(guest.held as u64)),

@@ -80,6 +80,6 @@ pub fn put_happened<W: Sink>(
     ensures failures { W.failures sink.new ≡ W.failures sink.old + sink_faults result }
     ensures flushes { W.flushes sink.new ≡ W.flushes sink.old }
 {
-    put_happened_head(sink, held, why.command, why.line)?;
+    put_happened_head(sink, held, why.command.as_bytes(), &why.line)?;
     put_outcome(sink, held, why.line.loss.change.how, why.line.loss.slot)
 }

@@ -4,7 +4,7 @@ ghost use Rattle.std.specs.Prelude.{◌≡◌, ◌<◌, ℕ, List};
 ghost use Rattle.esx_formulas.specs.declared.targets.Row.{Row};
 ghost use Rattle.esx_formulas.specs.Ratio.{claim, thousandths, IsRow};
 ghost use Rattle.esx_report.specs.declared.losses.LossLine.{LossLine};
-ghost use Rattle.esx_report.specs.declared.guests.Guest.{Guest};
+ghost use Rattle.esx_sums.specs.declared.guest.Guest.{Guest};
 ghost use Rattle.esx_report.specs.Losses.{field_count, loss_head, loss_row, ratio};
 ghost use Rattle.esx_report.specs.LossTable.{loss_line};
 ghost use Rattle.esx_report.specs.Guests.{guest_head, guest_row, guest_line};

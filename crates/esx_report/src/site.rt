@@ -7,7 +7,8 @@ ghost use Rattle.esx_report.specs.Site.{saved, mean_saved, opened_line, path_lin
 use crate::column::Cell;
 use crate::field::Field;
 use crate::part::{Part, put_parts};
-use esx_types::{Level, Sink, SinkFailed};
+use esx_sums::{LevelLosses, LevelSums, SiteSums};
+use esx_types::{Sink, SinkFailed};
 use esx_writing::{AnswerBuffer, put_line};
 
 /// A site as it was opened, with the thresholds of its levels in frames, and the margin above a threshold at which
@@ -34,53 +35,6 @@ pub struct PathSums {
     pub calls: u32,
     pub refused: u32,
     pub elsewhere: u32,
-}
-
-/// After how many events a level stood, and how often it was entered.
-#[derive(Clone, Copy)]
-pub struct LevelSums {
-    pub level: Level,
-    pub events: u32,
-    pub entered: u32,
-}
-
-/// The least or the most of something, and the first event at which it was so.
-#[derive(Clone, Copy)]
-pub struct Extreme {
-    pub number: u32,
-    pub event: u32,
-}
-
-/// What stood at the ends of a path and in between.
-///
-/// `pages` is how many pages are in frames, `private`, `shared` and `free` how many frames are so, and `out` how
-/// many slots are in use, all at the end. `saved_sum` adds up what sharing saved at
-/// each of so many `events`. Targets were set so many times by `rebalances`, with so many pages `revoked`.
-#[derive(Clone, Copy)]
-pub struct SiteSums {
-    pub events: u32,
-    pub least_free: Extreme,
-    pub most_pages: Extreme,
-    pub most_saved: Extreme,
-    pub most_slots: Extreme,
-    pub saved_sum: u64,
-    pub rebalances: u32,
-    pub revoked: u64,
-    pub free: u32,
-    pub pages: u32,
-    pub private: u32,
-    pub shared: u32,
-    pub out: u32,
-}
-
-/// How many losses of a level came in each way.
-#[derive(Clone, Copy)]
-pub struct LevelLosses {
-    pub level: Level,
-    pub balloon: u32,
-    pub swap: u32,
-    pub replace: u32,
-    pub drop: u32,
 }
 
 /// What sharing saves at the end.
@@ -373,7 +327,7 @@ pub fn put_level_losses<W: Sink>(
 pub fn put_losses_heading<W: Sink>(
     sink: &mut W,
     held: &mut AnswerBuffer,
-    count: u32,
+    count: u64,
 ) -> Result<(), SinkFailed>
     ensures bytes { Puts (W.contents sink.old) held.old (W.contents sink.new) held.new (losses_heading count) result }
     ensures failures { W.failures sink.new ≡ W.failures sink.old + sink_faults result }
@@ -384,7 +338,7 @@ pub fn put_losses_heading<W: Sink>(
         held,
         &[
             Part::Text("\nlosses "),
-            Part::Shown(Field::Number(count as u64)),
+            Part::Shown(Field::Number(count)),
             Part::Text("\n"),
         ],
     )

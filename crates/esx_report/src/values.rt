@@ -6,7 +6,8 @@ ghost use Rattle.esx_report.specs.Values.{path_values, events_value, entered_val
 
 use crate::field::Field;
 use crate::part::{Part, put_parts};
-use crate::site::{LevelSums, PathSums, SiteSums, mean_saved, saved};
+use crate::site::{PathSums, mean_saved, saved};
+use esx_sums::{LevelSums, SiteSums};
 use esx_types::{Sink, SinkFailed};
 use esx_writing::{AnswerBuffer, put_line};
 
@@ -145,7 +146,7 @@ pub fn put_extreme_values<W: Sink>(
 pub fn put_refused_value<W: Sink>(
     sink: &mut W,
     held: &mut AnswerBuffer,
-    number: u32,
+    number: u64,
     count: u32,
 ) -> Result<(), SinkFailed>
     ensures bytes { Puts (W.contents sink.old) held.old (W.contents sink.new) held.new (refused_value number count) result }
@@ -157,7 +158,7 @@ pub fn put_refused_value<W: Sink>(
         held,
         &[
             Part::Text("refused_"),
-            Part::Shown(Field::Number(number as u64)),
+            Part::Shown(Field::Number(number)),
             Part::Text(","),
             Part::Shown(Field::Number(count as u64)),
             Part::Text("\n"),

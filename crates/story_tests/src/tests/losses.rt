@@ -76,6 +76,7 @@ fn put_lines<W: Sink>(
 }
 
 fn put_reasons<W: Sink>(
+    alloc: Global,
     sink: &mut W,
     held: &mut AnswerBuffer,
     losses: &[Loss],
@@ -83,14 +84,15 @@ fn put_reasons<W: Sink>(
 ) -> Result<(), SinkFailed>
     requires { AreGood losses.now }
 {
-    let count = u32::try_from(losses.len()).unwrap_or(0);
-    put_why_head(sink, held, count)?;
+    put_why_head(sink, held, losses.len() as u64)?;
     for (at, loss) in losses.iter().enumerate() {
         let (call, command) = call_at(calls, at);
-        let line = line_of(loss, call);
+        let Ok(command) = String::from_str(alloc, command) else {
+            return Err(SinkFailed);
+        };
         let why = Why {
-            line: &line,
-            command: command.as_bytes(),
+            line: line_of(loss, call),
+            command,
             frames: 8,
             returns_at: 5,
         };
@@ -100,6 +102,7 @@ fn put_reasons<W: Sink>(
 }
 
 fn put_told<W: Sink>(
+    alloc: Global,
     sink: &mut W,
     held: &mut AnswerBuffer,
     losses: &[Loss],
@@ -109,7 +112,7 @@ fn put_told<W: Sink>(
 {
     put_rows(sink, held, losses, calls)?;
     put_lines(sink, held, losses, calls)?;
-    put_reasons(sink, held, losses, calls)?;
+    put_reasons(alloc, sink, held, losses, calls)?;
     write_held(sink, held)
 }
 
@@ -126,7 +129,7 @@ fn told_counted<L: Ledger>(
 {
     let mut held = AnswerBuffer::new(alloc)?;
     let mut sink = MemorySink::<L>::new(Vec::new(alloc), blank);
-    match put_told(&mut sink, &mut held, losses_of(walk), calls) {
+    match put_told(alloc, &mut sink, &mut held, losses_of(walk), calls) {
         Ok(()) => Ok(sink.into_bytes()),
         Err(_) => Err(Fail::new("a text")),
     }
