@@ -147,12 +147,18 @@ path_leads site entries node = elim (cases_lt (length (history (made site entrie
   | inr fits ↦ (let runs = (reached_steady site (history (made site entries)) (reached_of site entries)).paths node fits in record { scene = runs.scene; runs = runs.runs })
 ]
 
--- and is short
+-- a session makes few nodes
+pub nodes_few : (site : Config) (entries : List Entry) → IsConfig site → length (history (made site entries)).nodes ≤ MAX_NODES
+nodes_few site entries good =
+    let few = nodes_fit site (history (made site entries)) (reached_of site entries) in
+    let most = good.most_nodes in
+    omega arith
+
+-- and each path is short
 pub path_fits : (site : Config) (entries : List Entry) (node : ℕ) → IsConfig site → length (path (history (made site entries)).nodes node) ≤ MAX_NODES
 path_fits site entries node good = (
     let h = history (made site entries) in
-    let few = nodes_fit site h (reached_of site entries) in
-    let most = good.most_nodes in
+    let few = nodes_few site entries good in
     elim (cases_lt (length h.nodes) node) [
       | inl past ↦ (let none = ap length (path_past h.nodes node past) in omega arith)
       | inr fits ↦ (let short = path_short h.nodes node (reached_steady site h (reached_of site entries)).tree fits in omega arith)

@@ -2,7 +2,7 @@
 use Rattle.std.proofs.Common.{◌≡◌, ℕ, zero, suc, ◌<◌, List, [], ◌∷◌, ◌++◌, length, map, get_or, slice_get, Option, Some, None, refl, sym, ◌∙◌, ap, append_assoc, append-nil, is_some}
 use Rattle.std.specs.Prelude.{option_map, IsSome}
 use Rattle.std.specs.List.{AllByRecursion}
-use Rattle.std.proofs.lemmas.List.{map-append}
+use Rattle.std.proofs.lemmas.List.{map-append, length-map}
 use Rattle.std.proofs.lemmas.Option.{slice_get-map, slice_get-get_or}
 use Rattle.esx_types.specs.declared.config.Config.{Config}
 use Rattle.esx_events.specs.declared.event.Event.{Event}
@@ -18,6 +18,7 @@ use Rattle.esx_paths.specs.declared.way.Waypoint.{Waypoint}
 use Rattle.esx_paths.specs.Paths as paths
 use Rattle.esx_paths.specs.Paths.{line_numbered, event_of, event_by}
 use Rattle.esx_account.specs.Asking.{call_asked, event_in, event_asked}
+use Rattle.esx_account.specs.Surveying.{AreEvents}
 
 abbrev call_in : Line → Call
 call_in x = x.call
@@ -52,6 +53,10 @@ calls_wanted (e ∷ entries) = ap (λ calls. e.call ∷ calls) (calls_wanted ent
 made_calls : (site : Config) (entries : List Entry) → map call_in (made site entries).log ≡ map call_at entries
 unfolding made
 made_calls site entries = all_calls (opened_session site) (map asked entries) ∙ calls_asked entries
+
+-- as many as the session has entries
+pub log_long : (site : Config) (entries : List Entry) → length (made site entries).log ≡ length entries
+log_long site entries = sym (length-map (made site entries).log call_in) ∙ ap length (made_calls site entries) ∙ length-map entries call_at
 
 -- the event of the call that has a number, in a list of calls
 abbrev numbered : List Call → ℕ → Option Event
@@ -91,7 +96,7 @@ some_event None found is = cc
 some_event (Some e) found is = (e, refl, (let same : Some e ≡ found = cc in sym same))
 
 event_there : (requests : List Request) (waypoints : List Waypoint) (es : List Event) (i : ℕ) (d : Waypoint)
-    → map (λ (w : Waypoint). event_asked requests w.call) waypoints ≡ map (λ (e : Event). Some e) es → i < length waypoints
+    → AreEvents requests waypoints es → i < length waypoints
     → (e : Event) × (slice_get es i ≡ Some e) × (event_asked requests (get_or waypoints i d).call ≡ Some e)
 event_there requests waypoints es i d events below =
     let of : Waypoint → Option Event = λ (v : Waypoint). event_asked requests v.call in
@@ -100,12 +105,12 @@ event_there requests waypoints es i d events below =
     (sym (slice_get-map some es i) ∙ ap (λ os. slice_get os i) (sym events) ∙ slice_get-map of waypoints i ∙ ap (option_map of) (slice_get-get_or waypoints i d below))
 
 pub event_is_asked : (requests : List Request) (waypoints : List Waypoint) (es : List Event) (i : ℕ) (d : Waypoint)
-    → map (λ (w : Waypoint). event_asked requests w.call) waypoints ≡ map (λ (e : Event). Some e) es → i < length waypoints → IsSome (event_asked requests (get_or waypoints i d).call)
+    → AreEvents requests waypoints es → i < length waypoints → IsSome (event_asked requests (get_or waypoints i d).call)
 event_is_asked requests waypoints es i d events below = ap is_some (event_there requests waypoints es i d events below).2
 
 -- and what is asked is the event of the path
 pub event_is : (requests : List Request) (waypoints : List Waypoint) (es : List Event) (i : ℕ) (d : Waypoint) (e : Event)
-    → map (λ (w : Waypoint). event_asked requests w.call) waypoints ≡ map (λ (e : Event). Some e) es → i < length waypoints → event_asked requests (get_or waypoints i d).call ≡ Some e → slice_get es i ≡ Some e
+    → AreEvents requests waypoints es → i < length waypoints → event_asked requests (get_or waypoints i d).call ≡ Some e → slice_get es i ≡ Some e
 event_is requests waypoints es i d e events below asked = (let there = event_there requests waypoints es i d events below in there.1 ∙ sym there.2 ∙ asked)
 
 -- Each waypoint's call is one of those that were made.
@@ -114,7 +119,7 @@ a_call : (o : Option Call) (e : Event) → event_in o ≡ Some e → IsSome o
 a_call None e is = cc
 a_call (Some call) e is = refl
 
-pub all_asked : (requests : List Request) (waypoints : List Waypoint) (es : List Event) → map (λ (w : Waypoint). event_asked requests w.call) waypoints ≡ map (λ (e : Event). Some e) es
+pub all_asked : (requests : List Request) (waypoints : List Waypoint) (es : List Event) → AreEvents requests waypoints es
     → AllByRecursion (λ (w : Waypoint). IsSome (call_asked requests w.call)) waypoints
 all_asked requests [] es events = tt
 all_asked requests (w ∷ waypoints) [] events = cc

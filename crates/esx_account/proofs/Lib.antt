@@ -7,3 +7,7 @@ pub mod Accepted
 pub mod Ways
 pub mod Losses
 pub mod Texts
+pub mod MostPages
+pub mod Refusals
+pub mod Counted
+pub mod Gathered

@@ -7,7 +7,7 @@ use Rattle.std.proofs.lemmas.Option.{slice_get-get_or, slice_get_within}
 use Rattle.esx_types.specs.declared.config.Config.{Config}
 use Rattle.esx_events.specs.declared.event.Event.{Event}
 use Rattle.esx_model.specs.declared.scene.Scene.{Scene}
-use Rattle.esx_model.specs.Replay.{opening, next, run_from}
+use Rattle.esx_model.specs.Replay.{opening, next, run_from, run}
 use Rattle.esx_model.proofs.Callers.{run_one}
 use Rattle.esx_story.specs.declared.story.Loss.{Loss}
 use Rattle.esx_story.specs.Moments.{moments_from, moments}
@@ -31,6 +31,9 @@ is_there : (waypoints : List Waypoint) (at : ℕ) → 0 < at → at ≤ length w
 is_there waypoints zero some fits = absurd (omega arith)
 is_there waypoints (suc k) some fits = ap is_some (slice_get-get_or waypoints k (record { node = 0; call = 0; caller = 0 }) (omega arith))
 
+pub moments_long : (c : Config) (es : List Event) (t : Scene) → run c es ≡ Ok t → length (moments c es) ≡ length es
+moments_long c es t runs = long_from c 0 es (opening c) t runs
+
 -- the waypoint of the event with which a loss came
 pub loss_there : (site : Config) (es : List Event) (mets : List story.Met) (w : Walked) (waypoints : List Waypoint) (losses : List Loss) (k : ℕ) (l : Loss) → IsWalk site es mets w → length es ≡ length waypoints
     → AreAllLosses (moments site es) losses → k < length losses → l ≡ get_or losses k l → IsSome (waypoint_numbered waypoints l.at)
@@ -39,7 +42,7 @@ loss_there site es mets w waypoints losses k l walk long all below is =
     let loss = (all l.at l.change.vm l.change.page).1 (k, l, there, refl, refl, refl) in
     let at = loss.1 in
     let within = slice_get_within (moments site es) at.0 loss.0 at.2 in
-    let many = long_from site 0 es (opening site) walk.scene walk.runs in
+    let many = moments_long site es walk.scene walk.runs in
     let number = at.1 in
     is_there waypoints l.at (omega arith) (omega arith)
 

@@ -12,9 +12,9 @@ use Rattle.esx_model.specs.Console.{Session, outcome, after}
 use Rattle.esx_paths.specs.declared.makers.RefusedCall.{RefusedCall}
 use Rattle.esx_paths.specs.declared.mets.Met.{Met}
 use Rattle.esx_paths.specs.Makers.{gathered, refused_at, refusal_in, refusal_of, refusals}
-use Rattle.esx_paths.specs.Paths.{met_on, mets_on, nodes_to}
+use Rattle.esx_paths.specs.Paths.{met_on, mets_on, mets_off, nodes_to}
 use Rattle.esx_paths.proofs.Lists.{in_order_length, mapped_and_not}
-use Rattle.esx_account.specs.Walking.{NeverFall}
+use Rattle.esx_account.specs.Surveying.{NeverFall}
 
 abbrev place : Met → ℕ
 place m = m.at
@@ -114,6 +114,12 @@ pub mets_few : (s : Session) (node : ℕ) → length (mets_on s node) ≤ length
 mets_few s node =
     let met = filter_map (met_on (nodes_to s node)) (refusals s) in
     let placed = in_order_length place met in
+    let parted = mapped_and_not (met_on (nodes_to s node)) (refusals s) in
+    let few = refusals_few s in
+    omega arith
+
+pub elsewhere_few : (s : Session) (node : ℕ) → mets_off s node ≤ length s.log
+elsewhere_few s node =
     let parted = mapped_and_not (met_on (nodes_to s node)) (refusals s) in
     let few = refusals_few s in
     omega arith

@@ -9,7 +9,7 @@ use Rattle.esx_session.specs.declared.session.Entry.{Entry}
 use Rattle.esx_session.specs.declared.session.Request.{Request}
 use Rattle.esx_session.specs.Sessions.{Reads, Tells, StopsAt, IsRefused, request}
 use Rattle.esx_paths.specs.declared.path.Path.{Path}
-use Rattle.esx_account.specs.Walking.{IsPathOf}
+use Rattle.esx_account.specs.Surveying.{IsPathOf}
 use Rattle.esx_account.specs.Texts.{IsPathIn}
 
 never_stops : (n : ℕ) (told : List (List ℕ)) (site : Config) (entries : List Entry) → Tells told site entries → StopsAt n told → ⊥

@@ -1,24 +1,24 @@
--- A walk is told of refusals in order of place.
+-- A survey is told of refusals in order of place.
 use Rattle.std.proofs.Common.{◌≡◌, ◌≢◌, ℕ, zero, suc, ◌+◌, ◌<◌, List, [], ◌∷◌, ◌++◌, length, map, take, drop, get_or, refl, sym, ◌∙◌, ap, subst, arith}
 use Rattle.std.proofs.lemmas.List.{take_more, drop_more, map-append}
 use Rattle.esx_types.specs.declared.config.Config.{Config}
 use Rattle.esx_events.specs.declared.event.Event.{Event}
 use Rattle.esx_story.specs.Waits as story
-use Rattle.esx_walk.specs.Walks.{Walked, IsWalk}
+use Rattle.esx_survey.specs.Surveys.{Surveyed, IsSurvey}
 use Rattle.esx_paths.specs.declared.mets.Met.{Met}
-use Rattle.esx_account.specs.Walking.{met_of, NeverFall}
+use Rattle.esx_account.specs.Surveying.{met_of, NeverFall}
 use Rattle.esx_account.proofs.Placed.{EachWithin}
 
 -- one more is told
-pub told_more : (site : Config) (es : List Event) (w : Walked) (mets : List Met) (i : ℕ) (m : Met) → i < length mets → m ≡ get_or mets i m → m.at ≡ length es
-    → IsWalk site es (map met_of (take i mets) ++ record { at = length es; access = m.access; refusal = m.refusal } ∷ []) w → IsWalk site es (map met_of (take (i + 1) mets)) w
-told_more site es w mets i m below is at walk =
+pub told_more : (site : Config) (es : List Event) (s : Surveyed) (mets : List Met) (i : ℕ) (m : Met) → i < length mets → m ≡ get_or mets i m → m.at ≡ length es
+    → IsSurvey site es (map met_of (take i mets) ++ record { at = length es; access = m.access; refusal = m.refusal } ∷ []) s → IsSurvey site es (map met_of (take (i + 1) mets)) s
+told_more site es s mets i m below is at survey =
     let front : List story.Met = map met_of (take i mets) in
     let told : ℕ → story.Met = λ (k : ℕ). record { at = k; access = m.access; refusal = m.refusal } in
     let whole : map met_of (take (i + 1) mets) ≡ front ++ met_of m ∷ [] =
     ap (map met_of) (take_more mets i m below) ∙ map-append met_of (take i mets) (get_or mets i m ∷ []) ∙ ap (λ x. front ++ met_of x ∷ []) (sym is) in
-    let P : List story.Met → Type 0 = λ ms. IsWalk site es ms w in
-    subst P (ap (λ k. front ++ told k ∷ []) (sym at) ∙ sym whole) walk
+    let P : List story.Met → Type 0 = λ ms. IsSurvey site es ms s in
+    subst P (ap (λ k. front ++ told k ∷ []) (sym at) ∙ sym whole) survey
 
 next_is : (mets : List Met) (i : ℕ) (m : Met) → i < length mets → m ≡ get_or mets i m → drop i mets ≡ m ∷ drop (i + 1) mets
 next_is mets i m below is = drop_more mets i m below ∙ ap (λ x. x ∷ drop (i + 1) mets) (sym is)

@@ -12,13 +12,13 @@ use Rattle.esx_session.specs.declared.session.Entry.{Entry}
 use Rattle.esx_session.specs.declared.session.Request.{Request}
 use Rattle.esx_check.specs.Again.{made}
 use Rattle.esx_story.specs.Waits as story
-use Rattle.esx_walk.specs.Walks.{Walked, IsWalk}
+use Rattle.esx_survey.specs.Surveys.{Surveyed, IsSurvey}
 use Rattle.esx_paths.specs.declared.way.Waypoint.{Waypoint}
 use Rattle.esx_paths.specs.declared.mets.Met.{Met}
 use Rattle.esx_paths.specs.declared.path.Path.{Path}
 use Rattle.esx_paths.specs.Paths.{event_by, nodes_to, IsPathTo}
 use Rattle.esx_account.specs.Asking.{call_asked, event_asked}
-use Rattle.esx_account.specs.Walking.{IsPathOf, IsWay, IsAlong, NeverFall}
+use Rattle.esx_account.specs.Surveying.{IsPathOf, IsWay, IsAlong, AreEvents, NeverFall, events_to}
 use Rattle.esx_account.proofs.Placed.{EachWithin, mets_rise, mets_within, mets_few}
 use Rattle.esx_account.proofs.Asked.{same_events, all_asked, event_is}
 use Rattle.esx_account.proofs.Front.{one_more}
@@ -66,6 +66,12 @@ way_of site entries requests told good fits is =
     }
 
 -- the same of what is passed on
+pub events_passed_on : (requests rs : List Request) (waypoints ws : List Waypoint) (es : List Event) → rs ≡ requests → ws ≡ waypoints → AreEvents requests waypoints es → AreEvents rs ws es
+events_passed_on requests rs waypoints ws es r w events =
+    let P : List Request → Type 0 = λ x. AreEvents x ws es in
+    let Q : List Waypoint → Type 0 = λ x. AreEvents requests x es in
+    subst P (sym r) (subst Q (sym w) events)
+
 pub passed_on : (site : Config) (requests rs : List Request) (waypoints ws : List Waypoint) (mets ms : List Met) (es : List Event) → rs ≡ requests → ws ≡ waypoints → ms ≡ mets
     → IsWay site requests waypoints mets es → IsWay site rs ws ms es
 passed_on site requests rs waypoints ws mets ms es r w m way =
@@ -74,26 +80,33 @@ passed_on site requests rs waypoints ws mets ms es r w m way =
     let R : List Met → Type 0 = λ x. IsWay site requests waypoints x es in
     subst P (sym r) (subst Q (sym w) (subst R (sym m) way))
 
-pub goes_along : {E : Type 0} (site : Config) (es : List Event) (mets : List story.Met) (waypoints : List Waypoint) (r : Result Walked E) → length es ≡ length waypoints
-    → IfOk r (λ w. IsWalk site es mets w) → IfOk r (IsAlong waypoints)
-goes_along site es mets waypoints (Ok w) long walk = record { site = site; events = es; mets = mets; walk = walk; long = long }
-goes_along site es mets waypoints (Err e) long walk = tt
+pub goes_along : {E : Type 0} (site : Config) (es : List Event) (mets : List story.Met) (waypoints : List Waypoint) (r : Result Surveyed E) → length es ≡ length waypoints
+    → IfOk r (λ s. IsSurvey site es mets s) → IfOk r (λ s. IsAlong waypoints s.walk)
+goes_along site es mets waypoints (Ok s) long survey = record { site = site; events = es; mets = mets; walk = survey.walk; long = long }
+goes_along site es mets waypoints (Err e) long survey = tt
 
 -- the events of a way, one for each waypoint
-pub way_long : (site : Config) (requests : List Request) (waypoints : List Waypoint) (mets : List Met) (es : List Event) → IsWay site requests waypoints mets es → length waypoints ≡ length es
-way_long site requests waypoints mets es way =
+pub events_long : (requests : List Request) (waypoints : List Waypoint) (es : List Event) → AreEvents requests waypoints es → length waypoints ≡ length es
+events_long requests waypoints es events =
     let of : Waypoint → Option Event = λ (w : Waypoint). event_asked requests w.call in
-    sym (length-map waypoints of) ∙ ap length way.events ∙ length-map es some_event
+    sym (length-map waypoints of) ∙ ap length events ∙ length-map es some_event
+
+pub way_long : (site : Config) (requests : List Request) (waypoints : List Waypoint) (mets : List Met) (es : List Event) → IsWay site requests waypoints mets es → length waypoints ≡ length es
+way_long site requests waypoints mets es way = events_long requests waypoints es way.events
+
+-- the calls of a path's waypoints make its events
+pub path_events : (site : Config) (entries : List Entry) (requests : List Request) (told : Path) → IsPathOf site entries requests told → AreEvents requests told.waypoints (events_to site entries told)
+path_events site entries requests told is = same_events site entries requests told.waypoints is.calls ∙ is.path.waypoints.events
 
 -- each waypoint's call is one of the session's
 pub path_asked : (site : Config) (entries : List Entry) (requests : List Request) (told : Path) → IsPathOf site entries requests told
     → AllByRecursion (λ (w : Waypoint). IsSome (call_asked requests w.call)) told.waypoints
 path_asked site entries requests told is =
-    all_asked requests told.waypoints (path (history (made site entries)).nodes told.node) (same_events site entries requests told.waypoints is.calls ∙ is.path.waypoints.events)
+    all_asked requests told.waypoints (events_to site entries told) (path_events site entries requests told is)
 
 -- one more event of a way was made
-pub made_more : (site : Config) (requests : List Request) (waypoints : List Waypoint) (mets : List Met) (es : List Event) (told : List story.Met) (at : ℕ) (d : Waypoint) (e : Event) (w : Walked)
-    → IsWay site requests waypoints mets es → at < length waypoints → event_asked requests (get_or waypoints at d).call ≡ Some e → IsWalk site (take at es ++ e ∷ []) told w → IsWalk site (take (at + 1) es) told w
-made_more site requests waypoints mets es told at d e w way below asked walk =
-    let P : List Event → Type 0 = λ xs. IsWalk site xs told w in
-    subst P (one_more es at e (event_is requests waypoints es at d e way.events below asked)) walk
+pub made_more : (site : Config) (requests : List Request) (waypoints : List Waypoint) (mets : List Met) (es : List Event) (told : List story.Met) (at : ℕ) (d : Waypoint) (e : Event) (s : Surveyed)
+    → IsWay site requests waypoints mets es → at < length waypoints → event_asked requests (get_or waypoints at d).call ≡ Some e → IsSurvey site (take at es ++ e ∷ []) told s → IsSurvey site (take (at + 1) es) told s
+made_more site requests waypoints mets es told at d e s way below asked survey =
+    let P : List Event → Type 0 = λ xs. IsSurvey site xs told s in
+    subst P (one_more es at e (event_is requests waypoints es at d e way.events below asked)) survey

@@ -1,4 +1,5 @@
 pub use Rattle.esx_types.specs.Ranges
+pub use Rattle.esx_formulas.specs.Level
 pub use Rattle.esx_words.specs.Commands
 pub use Rattle.esx_session.specs.Sessions
 pub use Rattle.esx_check.specs.Again
@@ -6,9 +7,18 @@ pub use Rattle.esx_story.specs.Moments
 pub use Rattle.esx_story.specs.Order
 pub use Rattle.esx_story.specs.Waits
 pub use Rattle.esx_story.specs.Story
+pub use Rattle.esx_sums.specs.Losses
+pub use Rattle.esx_sums.specs.Mets
+pub use Rattle.esx_sums.specs.Rows
+pub use Rattle.esx_sums.specs.Site
 pub use Rattle.esx_walk.specs.Walks
+pub use Rattle.esx_survey.specs.Surveys
 pub use Rattle.esx_paths.specs.Paths
+pub use Rattle.esx_report.specs.Losses as ReportLosses
 pub mod Asking
-pub mod Walking
+pub mod Surveying
 pub mod Texts
 pub mod Lines
+pub mod Choosing
+pub mod Pages
+pub mod Account

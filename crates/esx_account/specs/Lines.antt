@@ -2,7 +2,6 @@
 use Rattle.std.specs.Prelude.{◌≡◌, ℕ, zero, suc, List, map, slice_get, Option, Some, None, option_map, IsSome, All}
 use Rattle.esx_session.specs.declared.session.Request.{Request}
 use Rattle.esx_story.specs.declared.story.Loss.{Loss}
-use Rattle.esx_story.specs.Order.{HasGoodRows}
 use Rattle.esx_report.specs.declared.losses.LossLine.{LossLine}
 use Rattle.esx_paths.specs.declared.way.Waypoint.{Waypoint}
 use Rattle.esx_account.specs.Asking.{call_asked}
@@ -23,10 +22,6 @@ told_line waypoints loss = option_map (line_at loss) (waypoint_numbered waypoint
 -- these are the lines of losses of a path, in their order
 abbrev pub AreLinesOf : List Waypoint → List Loss → List LossLine → Type 0
 AreLinesOf waypoints losses lines = map (λ (line : LossLine). Some line) lines ≡ map (told_line waypoints) losses
-
--- the rows that are told of each are in their ranges
-abbrev pub AreGoodLines : List LossLine → Type 0
-AreGoodLines lines = All (λ line. HasGoodRows line.loss.seen.order) lines
 
 -- the call of each is one of these
 abbrev pub AreAsked : List Request → List LossLine → Type 0

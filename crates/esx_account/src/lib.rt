@@ -1,12 +1,19 @@
-//! The second pass over a session for a report: the path to a node is walked, with the calls that made it and the refusals
-//! that were met on it, and each of its losses is told with its call.
+//! The second pass over a session for a report: the path to a node is surveyed, with the calls that made it and the refusals
+//! that were met on it, and all that a report tells of it is gathered, each of its losses with its call.
 #![tactic(auto)]
 
+pub mod account;
 mod asking;
+mod choosing;
 mod lines;
+mod pages;
+mod parts;
+mod surveying;
 mod text;
-mod walking;
 
+pub use account::{Account, account_of};
+pub use choosing::chosen;
 pub use lines::{loss_command, loss_lines};
-pub use text::walk_text;
-pub use walking::walk_script;
+pub use pages::most_pages;
+pub use surveying::survey_script;
+pub use text::survey_text;

@@ -11,8 +11,9 @@ ghost use Rattle.esx_story.specs.Waits.{Met};
 ghost use Rattle.esx_story.specs.Story.{told};
 ghost use Rattle.esx_walk.specs.Walks.{IsWalk};
 ghost use Rattle.esx_account.specs.Asking.{call_asked};
-ghost use Rattle.esx_account.specs.Lines.{waypoint_numbered, told_line, AreLinesOf, AreGoodLines, AreAsked};
-ghost use Rattle.esx_account.specs.Walking.{IsPathOf, IsAlong};
+ghost use Rattle.esx_report.specs.Losses.{AreGoodLines};
+ghost use Rattle.esx_account.specs.Lines.{waypoint_numbered, told_line, AreLinesOf, AreAsked};
+ghost use Rattle.esx_account.specs.Surveying.{IsPathOf, IsAlong};
 
 use crate::asking::call_asked;
 use esx_paths::{Path, Waypoint};
@@ -39,7 +40,7 @@ fn loss_line(waypoints: &[Waypoint], loss: &Loss) -> LossLine
 
 /// The losses of a path that was walked, the oldest first, each with the node and the call of its event, and who made the call.
 ///
-/// condition: the walk is of a path that has as many events, as that of `walk_script` is
+/// condition: the walk is of a path that has as many events, as that of a survey of `survey_script` is
 pub fn loss_lines(alloc: Global, walk: &Walk, path: &Path) -> Result<Vec<LossLine>, AllocError>
     requires along { IsAlong path.now.waypoints walk.now }
     ensures told { (site : Config) (es : List Event) (mets : List Met) → IsWalk site es mets walk.now → IfOk result (λ lines. AreLinesOf path.now.waypoints (told site (moments site es) mets) lines.items) }

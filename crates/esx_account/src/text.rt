@@ -1,17 +1,17 @@
-//! The path to a node of the session of a text, walked.
+//! The path to a node of the session of a text, surveyed.
 
 ghost use Rattle.std.specs.Prelude.{◌≡◌, List, map, IfOk};
 ghost use Rattle.esx_types.specs.declared.config.Config.{Config};
 ghost use Rattle.esx_session.specs.declared.session.Entry.{Entry};
 ghost use Rattle.esx_session.specs.Sessions.{Reads, request};
-ghost use Rattle.esx_account.specs.Walking.{IsPathOf, WalksPath, IsAlong};
+ghost use Rattle.esx_account.specs.Surveying.{IsPathOf, SurveysPath, IsAlong};
 ghost use Rattle.esx_account.specs.Texts.{IsPathIn};
 
-use crate::walking::walk_script;
+use crate::surveying::survey_script;
 use esx_paths::Path;
 use esx_reading::TextFault;
 use esx_session::{Script, parse_script};
-use esx_walk::Walk;
+use esx_survey::Survey;
 use std::alloc::{AllocError, Global};
 
 /// The only fault that the text of a session has.
@@ -36,18 +36,18 @@ fn script_of(alloc: Global, text: &str) -> Result<Script, AllocError>
     }
 }
 
-/// The second pass over the text of a session: its calls without their replies, and the walk of the path that the first pass
-/// told. It is refused for want of memory alone.
+/// The second pass over the text of a session: its calls without their replies, and the survey of the path that the first
+/// pass told. It is refused for want of memory alone.
 ///
 /// condition: the path is one of the session of that text
-pub fn walk_text(alloc: Global, text: &str, path: &Path) -> Result<(Script, Walk), AllocError>
+pub fn survey_text(alloc: Global, text: &str, path: &Path) -> Result<(Script, Survey), AllocError>
     requires { (site : Config) × (entries : List Entry) × IsPathIn text.now site entries path.now }
     ensures site { (site : Config) (entries : List Entry) → IsPathIn text.now site entries path.now → IfOk result (λ p. p.0.site ≡ site) }
     ensures calls { (site : Config) (entries : List Entry) → IsPathIn text.now site entries path.now → IfOk result (λ p. IsPathOf site entries p.0.requests path.now) }
-    ensures walks { (site : Config) (entries : List Entry) → IsPathIn text.now site entries path.now → IfOk result (λ p. WalksPath site entries path.now p.1) }
-    ensures along { IfOk result (λ p. IsAlong path.now.waypoints p.1) }
+    ensures surveys { (site : Config) (entries : List Entry) → IsPathIn text.now site entries path.now → IfOk result (λ p. SurveysPath site entries path.now p.1) }
+    ensures along { IfOk result (λ p. IsAlong path.now.waypoints p.1.walk) }
 {
     let script = script_of(alloc, text)?;
-    let walk = walk_script(alloc, &script, path)?;
-    Ok((script, walk))
+    let survey = survey_script(alloc, &script, path)?;
+    Ok((script, survey))
 }
