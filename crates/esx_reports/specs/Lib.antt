@@ -1,0 +1,4 @@
+pub mod Paths
+pub mod Reasons
+pub mod Answers
+pub mod Telling
