@@ -1,5 +1,5 @@
 -- What is done with a file and with streams, by the word that asks for it.
-use Rattle.std.proofs.Common.{◌≡◌, ◌⊎◌, ◌+◌, ℕ, List, [], Option, Some, None, Result, Ok, Err, refl, inl, inr, arith}
+use Rattle.std.proofs.Common.{◌≡◌, ◌⊎◌, ap, ◌+◌, ℕ, List, [], Option, Some, None, Result, Ok, Err, refl, inl, inr, arith}
 use Rattle.std.specs.Prelude.{codes, IsSome}
 use Rattle.std.specs.Result.{IfOk, IfErr, IsErrOf, OnOk}
 use Rattle.std.specs.IoError.{error_kind}
@@ -15,18 +15,23 @@ use Rattle.esx_text.specs.States.{SinkState, SourceState}
 use Rattle.esx_check.specs.Replays.{replay_text, write_faults}
 use Rattle.esx_check.specs.declared.fault.OutputFault.{OutputFault}
 use Rattle.esx_check.specs.declared.fault.OutputFault.TheVariants as output
+use Rattle.esx_reports.specs.declared.fault.ReportFault.TheVariants as report
+use Rattle.esx_reports.specs.declared.question.Question.{Question}
+use Rattle.esx_reports.specs.declared.question.What.{What}
+use Rattle.esx_reports.specs.declared.question.What.TheVariants as whats
 use Rattle.esx_program.specs.declared.words.Asked.{Asked}
-use Rattle.esx_program.specs.declared.words.Asked.TheVariants.{Console, Run as RunOf, Replay, Check, Diff, Migrate, Help}
+use Rattle.esx_program.specs.declared.words.Asked.TheVariants.{Console, Run as RunOf, Replay, Check, Diff, Migrate, Report as ReportOf, Help}
 use Rattle.esx_program.specs.declared.Done.{Done}
-use Rattle.esx_program.specs.declared.Done.TheVariants.{Served, Ran, Replayed, Checked, Compared, Migrated, Helped}
+use Rattle.esx_program.specs.declared.Done.TheVariants.{Served, Ran, Replayed, Checked, Compared, Migrated, Answered, Helped}
 use Rattle.esx_program.specs.declared.Failure.{Failure}
-use Rattle.esx_program.specs.declared.Failure.TheVariants.{Words, Text, Serve, Output, Run}
+use Rattle.esx_program.specs.declared.Failure.TheVariants.{Words, Text, Serve, Output, Run, Report}
 use Rattle.esx_program.specs.Doing.{Does, EndsCheck, EndsDiff, LacksSite}
+use Rattle.esx_program.specs.Reporting.{EndsReport, TellsAnswer, TellsNoAnswer}
 use Rattle.esx_program.specs.Failing.{MayFail, WantsSession}
-use Rattle.esx_program.specs.Files.{HasText, LacksCheck, LacksScenario, LacksSession, Opened}
+use Rattle.esx_program.specs.Files.{HasText, HasLongText, LacksCheck, LacksLongText, LacksScenario, LacksSession, Opened}
 use Rattle.esx_program.specs.Given.{open_fault}
 use Rattle.esx_program.specs.Sessions.{GivenOut, IsNotReplayed, IsReplayed, ReplayEnds}
-use Rattle.esx_program.specs.Status.{IsNotChecked, TellsCheck, TellsDiff, TellsNoCheck, TellsNoDiff, word_of_done}
+use Rattle.esx_program.specs.Status.{IsNotChecked, TellsCheck, TellsDiff, TellsNoCheck, TellsNoDiff, word_of_done, word_of_what}
 use Rattle.esx_program.specs.Words.{asked_of}
 use Rattle.esx_program.proofs.FileLemmas.{text_refused}
 use Rattle.esx_program.proofs.SessionLemmas.{faults_of}
@@ -73,6 +78,25 @@ module _ {A : Type 0} (asked : Word × Option A) (some : IsSome asked.1) where
   no_check_may_fail (Ok states) text.Write word n = absurd n
   no_check_may_fail (Ok states) text.OutOfMemory word n = some
 
+module _ {A : Type 0} (asked : Word × Option A) (some : IsSome asked.1) where
+  -- and a fault of a long text
+  no_long_text_may_fail : (read : Opened) (e : TextFault) → LacksLongText read e → MayFail asked (Text e)
+  no_long_text_may_fail (Err error) e n = rw n (unopened_may_fail asked some (error_kind error))
+  no_long_text_may_fail (Ok states) text.NotToml n = absurd n
+  no_long_text_may_fail (Ok states) (text.BadKey path) n = absurd n
+  no_long_text_may_fail (Ok states) (text.BadLine k) n = absurd n
+  no_long_text_may_fail (Ok states) text.NotText n = some
+  no_long_text_may_fail (Ok states) (text.Differs k) n = absurd n
+  no_long_text_may_fail (Ok states) text.Read n = some
+  no_long_text_may_fail (Ok states) text.Write n = absurd n
+  no_long_text_may_fail (Ok states) text.OutOfMemory n = some
+
+-- each question is asked by one of two words
+asks_question : (what : What) → (word_of_what what ≡ codes "report") ⊎ (word_of_what what ≡ codes "why")
+asks_question whats.Report = inl refl
+asks_question (whats.Table table) = inl refl
+asks_question (whats.Why vm page) = inr refl
+
 no_site_may_fail : (file : Option Opened) (e : TextFault) → LacksSite file e → MayFail {A = Opened} (codes "console", file) (Text e)
 no_site_may_fail None e n = absurd n
 no_site_may_fail (Some read) e n = no_scenario_may_fail (codes "console", Some read) refl read e (inl refl) n
@@ -87,6 +111,7 @@ module _ (unread left : SourceState) (errors errors' out out' : SinkState) where
   does_word (Console file) (Ok (Checked c)) d = absurd d.0
   does_word (Console file) (Ok (Compared c)) d = absurd d.0
   does_word (Console file) (Ok (Migrated c)) d = absurd d.0
+  does_word (Console file) (Ok (Answered what)) d = absurd d.0
   does_word (Console file) (Ok Helped) d = absurd d.0
   does_word (RunOf file) (Ok Served) d = absurd d.0
   does_word (RunOf file) (Ok Ran) d = refl
@@ -94,6 +119,7 @@ module _ (unread left : SourceState) (errors errors' out out' : SinkState) where
   does_word (RunOf file) (Ok (Checked c)) d = absurd d.0
   does_word (RunOf file) (Ok (Compared c)) d = absurd d.0
   does_word (RunOf file) (Ok (Migrated c)) d = absurd d.0
+  does_word (RunOf file) (Ok (Answered what)) d = absurd d.0
   does_word (RunOf file) (Ok Helped) d = absurd d.0
   does_word (Replay file) (Ok Served) d = absurd d.0
   does_word (Replay file) (Ok Ran) d = absurd d.0
@@ -101,6 +127,7 @@ module _ (unread left : SourceState) (errors errors' out out' : SinkState) where
   does_word (Replay file) (Ok (Checked c)) d = absurd d.0
   does_word (Replay file) (Ok (Compared c)) d = absurd d.0
   does_word (Replay file) (Ok (Migrated c)) d = absurd d.0
+  does_word (Replay file) (Ok (Answered what)) d = absurd d.0
   does_word (Replay file) (Ok Helped) d = absurd d.0
   does_word (Check file) (Ok Served) d = absurd d.0
   does_word (Check file) (Ok Ran) d = absurd d.0
@@ -108,6 +135,7 @@ module _ (unread left : SourceState) (errors errors' out out' : SinkState) where
   does_word (Check file) (Ok (Checked c)) d = refl
   does_word (Check file) (Ok (Compared c)) d = absurd d.0
   does_word (Check file) (Ok (Migrated c)) d = absurd d.0
+  does_word (Check file) (Ok (Answered what)) d = absurd d.0
   does_word (Check file) (Ok Helped) d = absurd d.0
   does_word (Diff file) (Ok Served) d = absurd d.0
   does_word (Diff file) (Ok Ran) d = absurd d.0
@@ -115,6 +143,7 @@ module _ (unread left : SourceState) (errors errors' out out' : SinkState) where
   does_word (Diff file) (Ok (Checked c)) d = absurd d.0
   does_word (Diff file) (Ok (Compared c)) d = refl
   does_word (Diff file) (Ok (Migrated c)) d = absurd d.0
+  does_word (Diff file) (Ok (Answered what)) d = absurd d.0
   does_word (Diff file) (Ok Helped) d = absurd d.0
   does_word (Migrate file) (Ok Served) d = absurd d.0
   does_word (Migrate file) (Ok Ran) d = absurd d.0
@@ -122,13 +151,23 @@ module _ (unread left : SourceState) (errors errors' out out' : SinkState) where
   does_word (Migrate file) (Ok (Checked c)) d = absurd d.0
   does_word (Migrate file) (Ok (Compared c)) d = absurd d.0
   does_word (Migrate file) (Ok (Migrated c)) d = refl
+  does_word (Migrate file) (Ok (Answered what)) d = absurd d.0
   does_word (Migrate file) (Ok Helped) d = absurd d.0
+  does_word (ReportOf file q) (Ok Served) d = absurd d.0
+  does_word (ReportOf file q) (Ok Ran) d = absurd d.0
+  does_word (ReportOf file q) (Ok Replayed) d = absurd d.0
+  does_word (ReportOf file q) (Ok (Checked c)) d = absurd d.0
+  does_word (ReportOf file q) (Ok (Compared c)) d = absurd d.0
+  does_word (ReportOf file q) (Ok (Migrated c)) d = absurd d.0
+  does_word (ReportOf file q) (Ok (Answered what)) d = ap word_of_what d.0.2.0
+  does_word (ReportOf file q) (Ok Helped) d = absurd d.0
   does_word Help (Ok Served) d = absurd d.0
   does_word Help (Ok Ran) d = absurd d.0
   does_word Help (Ok Replayed) d = absurd d.0
   does_word Help (Ok (Checked c)) d = absurd d.0
   does_word Help (Ok (Compared c)) d = absurd d.0
   does_word Help (Ok (Migrated c)) d = absurd d.0
+  does_word Help (Ok (Answered what)) d = absurd d.0
   does_word Help (Ok Helped) d = refl
   does_word asked (Err e) d = tt
 
@@ -141,36 +180,49 @@ module _ (unread left : SourceState) (errors errors' out out' : SinkState) where
   does_fail (Console file) (Err (Serve e)) d = refl
   does_fail (Console file) (Err (Output e)) d = absurd d.0
   does_fail (Console file) (Err (Run e)) d = absurd d.0
+  does_fail (Console file) (Err (Report e)) d = absurd d.0
   does_fail (RunOf file) (Err Words) d = absurd d.0
   does_fail (RunOf file) (Err (Text e)) d = no_scenario_may_fail (asked_of (RunOf file)) refl file e (inr refl) d.0.0
   does_fail (RunOf file) (Err (Serve e)) d = absurd d.0
   does_fail (RunOf file) (Err (Output e)) d = absurd d.0
   does_fail (RunOf file) (Err (Run e)) d = refl
+  does_fail (RunOf file) (Err (Report e)) d = absurd d.0
   does_fail (Replay file) (Err Words) d = absurd d.0
   does_fail (Replay file) (Err (Text e)) d = no_session_may_fail (asked_of (Replay file)) refl file e (inl refl) d.0.0
   does_fail (Replay file) (Err (Serve e)) d = absurd d.0
   does_fail (Replay file) (Err (Output e)) d = inl (inl refl)
   does_fail (Replay file) (Err (Run e)) d = absurd d.0
+  does_fail (Replay file) (Err (Report e)) d = absurd d.0
   does_fail (Check file) (Err Words) d = absurd d.0
   does_fail (Check file) (Err (Text e)) d = no_check_may_fail (asked_of (Check file)) refl file e (inr (inl refl)) d.0.0
   does_fail (Check file) (Err (Serve e)) d = absurd d.0
   does_fail (Check file) (Err (Output e)) d = inl (inr (inl refl))
   does_fail (Check file) (Err (Run e)) d = absurd d.0
+  does_fail (Check file) (Err (Report e)) d = absurd d.0
   does_fail (Diff file) (Err Words) d = absurd d.0
   does_fail (Diff file) (Err (Text e)) d = no_check_may_fail (asked_of (Diff file)) refl file e (inr (inr (inl refl))) d.0.0
   does_fail (Diff file) (Err (Serve e)) d = absurd d.0
   does_fail (Diff file) (Err (Output e)) d = inl (inr (inr (inl refl)))
   does_fail (Diff file) (Err (Run e)) d = absurd d.0
+  does_fail (Diff file) (Err (Report e)) d = absurd d.0
   does_fail (Migrate file) (Err Words) d = absurd d.0
   does_fail (Migrate file) (Err (Text e)) d = no_session_may_fail (asked_of (Migrate file)) refl file e (inr (inr (inr refl))) d.0.0
   does_fail (Migrate file) (Err (Serve e)) d = absurd d.0
   does_fail (Migrate file) (Err (Output e)) d = inl (inr (inr (inr refl)))
   does_fail (Migrate file) (Err (Run e)) d = absurd d.0
+  does_fail (Migrate file) (Err (Report e)) d = absurd d.0
+  does_fail (ReportOf file q) (Err Words) d = absurd d.0
+  does_fail (ReportOf file q) (Err (Text e)) d = no_long_text_may_fail (asked_of (ReportOf file q)) refl file e d.0.0
+  does_fail (ReportOf file q) (Err (Serve e)) d = absurd d.0
+  does_fail (ReportOf file q) (Err (Output e)) d = absurd d.0
+  does_fail (ReportOf file q) (Err (Run e)) d = absurd d.0
+  does_fail (ReportOf file q) (Err (Report e)) d = asks_question q.what
   does_fail Help (Err Words) d = absurd d.0
   does_fail Help (Err (Text e)) d = absurd d.0
   does_fail Help (Err (Serve e)) d = absurd d.0
   does_fail Help (Err (Output e)) d = inr refl
   does_fail Help (Err (Run e)) d = absurd d.0
+  does_fail Help (Err (Report e)) d = absurd d.0
 
 -- the text of a file was checked
 module _ (read : Opened) (out out' : SinkState) (bytes : List ℕ) (here : HasText read bytes) where
@@ -192,12 +244,14 @@ module _ (read : Opened) (out out' : SinkState) (bytes : List ℕ) (here : HasTe
   file_checked (Ok (Checked c)) ok fault = (bytes, here, ok.0, ok.1)
   file_checked (Ok (Compared c)) ok fault = absurd ok
   file_checked (Ok (Migrated c)) ok fault = absurd ok
+  file_checked (Ok (Answered what)) ok fault = absurd ok
   file_checked (Ok Helped) ok fault = absurd ok
   file_checked (Err Words) ok fault = absurd fault
   file_checked (Err (Text e)) ok fault = (not_checked e fault.0, fault.1)
   file_checked (Err (Serve e)) ok fault = absurd fault
   file_checked (Err (Output e)) ok fault = (bytes, here, fault.0, fault.1, fault.2)
   file_checked (Err (Run e)) ok fault = absurd fault
+  file_checked (Err (Report e)) ok fault = absurd fault
 
   pub file_compared : (ended : Result Done Failure) → IfOk ended (λ done. TellsDiff bytes done out out') → IfErr ended (λ e. TellsNoDiff bytes e out out')
       → EndsDiff read ended out out'
@@ -207,12 +261,33 @@ module _ (read : Opened) (out out' : SinkState) (bytes : List ℕ) (here : HasTe
   file_compared (Ok (Checked c)) ok fault = absurd ok
   file_compared (Ok (Compared c)) ok fault = (bytes, here, ok.0, ok.1, ok.2, ok.3)
   file_compared (Ok (Migrated c)) ok fault = absurd ok
+  file_compared (Ok (Answered what)) ok fault = absurd ok
   file_compared (Ok Helped) ok fault = absurd ok
   file_compared (Err Words) ok fault = absurd fault
   file_compared (Err (Text e)) ok fault = (not_checked e fault.0, fault.1)
   file_compared (Err (Serve e)) ok fault = absurd fault
   file_compared (Err (Output e)) ok fault = (bytes, here, fault.0, fault.1, fault.2)
   file_compared (Err (Run e)) ok fault = absurd fault
+  file_compared (Err (Report e)) ok fault = absurd fault
+
+-- a question was asked about the text of a file
+module _ (read : Opened) (q : Question) (out out' : SinkState) (bytes : List ℕ) (here : HasLongText read bytes) where
+  pub file_asked : (ended : Result Done Failure) → IfOk ended (λ done. TellsAnswer bytes q done out out') → IfErr ended (λ e. TellsNoAnswer bytes q e out out')
+      → EndsReport read q ended out out'
+  file_asked (Ok Served) ok fault = absurd ok
+  file_asked (Ok Ran) ok fault = absurd ok
+  file_asked (Ok Replayed) ok fault = absurd ok
+  file_asked (Ok (Checked c)) ok fault = absurd ok
+  file_asked (Ok (Compared c)) ok fault = absurd ok
+  file_asked (Ok (Migrated c)) ok fault = absurd ok
+  file_asked (Ok (Answered what)) ok fault = (bytes, here, ok)
+  file_asked (Ok Helped) ok fault = absurd ok
+  file_asked (Err Words) ok fault = absurd fault
+  file_asked (Err (Text e)) ok fault = absurd fault
+  file_asked (Err (Serve e)) ok fault = absurd fault
+  file_asked (Err (Output e)) ok fault = absurd fault
+  file_asked (Err (Run e)) ok fault = absurd fault
+  file_asked (Err (Report e)) ok fault = (bytes, here, fault)
 
 -- a session was gone through again, or not to its end
 pub replayed : (site : Config) (entries : List Entry) (out out' : SinkState) (r : Result (Unit {0}) OutputFault)

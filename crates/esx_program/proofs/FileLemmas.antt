@@ -6,19 +6,19 @@ use Rattle.std.specs.Result.{IfErr, IfOk, IsErrOf, OnOk}
 use Rattle.esx_reading.specs.declared.fault.TextFault.{TextFault}
 use Rattle.esx_reading.specs.declared.fault.TextFault.TheVariants.{NotToml, BadKey, BadLine, NotText, Differs, Read, Write, OutOfMemory}
 use Rattle.esx_reading.specs.declared.whole.TheConstants.{READS}
-use Rattle.esx_reading.specs.Whole.{GivesMore, GivesOn, GivesWhole, IsOfText}
+use Rattle.esx_reading.specs.Whole.{GivesMoreThan, GivesOnWithin, GivesWithin, IsOfText}
 use Rattle.esx_scenario.specs.Scenarios.{IsRefused as IsNoPlan}
 use Rattle.esx_session.specs.Reading.{GoesPastOpening}
 use Rattle.esx_session.specs.Sessions.{HasOpening, IsRefused}
 use Rattle.esx_text.specs.States.{SourceState}
-use Rattle.esx_program.specs.Files.{FailsToRead, HasText, IsNoCheck, IsNoScenario, IsNoSession, IsNoText, IsTextRead, LacksCheck, LacksText, Opened, ReadsPieces}
+use Rattle.esx_program.specs.Files.{FailsToReadWithin, HasText, IsNoCheck, IsNoScenario, IsNoSession, IsNoText, IsNoTextWithin, IsTextRead, IsTextReadWithin, LacksCheck, LacksText, Opened, ReadsPieces}
 
-module _ (old new : SourceState) (pieces : ReadsPieces old new) where
+module _ (most : ℕ) (old new : SourceState) (pieces : ReadsPieces old new) where
   no_text_of : (e : TextFault) → IsOfText e
-      → (e ≡ NotText → (bytes : List ℕ) × GivesWhole old.remaining new.remaining bytes × (IsUtf8 bytes → ⊥) × (new.calls ≤ old.calls + length bytes + 1))
+      → (e ≡ NotText → (bytes : List ℕ) × GivesWithin most old.remaining new.remaining bytes × (IsUtf8 bytes → ⊥) × (new.calls ≤ old.calls + length bytes + 1))
       → (e ≡ NotText → new.empty_reads ≡ old.empty_reads + 1)
-      → (e ≡ Read → FailsToRead old new) → (e ≡ OutOfMemory → GivesOn old.remaining new.remaining old.calls new.calls)
-      → (e ≡ OutOfMemory → new.empty_reads ≡ old.empty_reads) → ((e ≡ Read → ⊥) → new.failures ≡ old.failures) → IsNoText old new e
+      → (e ≡ Read → FailsToReadWithin most old new) → (e ≡ OutOfMemory → GivesOnWithin most old.remaining new.remaining old.calls new.calls)
+      → (e ≡ OutOfMemory → new.empty_reads ≡ old.empty_reads) → ((e ≡ Read → ⊥) → new.failures ≡ old.failures) → IsNoTextWithin most old new e
   no_text_of NotToml is none found fails memory unended same = is
   no_text_of (BadKey path) is none found fails memory unended same = is
   no_text_of (BadLine n) is none found fails memory unended same = is
@@ -39,15 +39,15 @@ module _ (old new : SourceState) (pieces : ReadsPieces old new) where
 
   -- a text that could not be read
   pub no_text : {T : Type 0} (r : Result T TextFault) → IfErr r IsOfText
-      → (IsErrOf r NotText → (bytes : List ℕ) × GivesWhole old.remaining new.remaining bytes × (IsUtf8 bytes → ⊥) × (new.calls ≤ old.calls + length bytes + 1))
+      → (IsErrOf r NotText → (bytes : List ℕ) × GivesWithin most old.remaining new.remaining bytes × (IsUtf8 bytes → ⊥) × (new.calls ≤ old.calls + length bytes + 1))
       → (IsErrOf r Read → (new.failures ≡ old.failures + 1)
-      ⊎ ((new.failures ≡ old.failures) × ((new.calls ≡ old.calls + READS) ⊎ GivesMore old.remaining new.remaining)))
+      ⊎ ((new.failures ≡ old.failures) × ((new.calls ≡ old.calls + READS) ⊎ GivesMoreThan most old.remaining new.remaining)))
       → (IsErrOf r Read → (bytes : List ℕ) × Consumes old.remaining new.remaining bytes × (new.calls ≤ old.calls + length bytes + 1))
-      → (IsErrOf r OutOfMemory → GivesOn old.remaining new.remaining old.calls new.calls)
+      → (IsErrOf r OutOfMemory → GivesOnWithin most old.remaining new.remaining old.calls new.calls)
       → ((IsErrOf r Read → ⊥) → new.failures ≡ old.failures)
       → (IsErrOf r NotText → new.empty_reads ≡ old.empty_reads + 1)
       → (IsErrOf r Read → new.empty_reads ≡ old.empty_reads)
-      → (IsErrOf r OutOfMemory → new.empty_reads ≡ old.empty_reads) → IfErr r (IsNoText old new)
+      → (IsErrOf r OutOfMemory → new.empty_reads ≡ old.empty_reads) → IfErr r (IsNoTextWithin most old new)
   no_text (Ok v) is none cause each memory same found not_found not_found_in_memory = tt
   no_text (Err e) is none cause each memory same found not_found not_found_in_memory =
       no_text_of e is (λ h. none (cc)) (λ h. found (cc))
@@ -56,9 +56,9 @@ module _ (old new : SourceState) (pieces : ReadsPieces old new) where
       (λ h. memory (cc)) (λ h. not_found_in_memory (cc)) (λ other. same (λ h. other (cc)))
 
   -- a text that was read
-  pub is_text : {T : Type 0} (r : Result T TextFault) (bytes : T → List ℕ) → IfOk r (λ v. GivesWhole old.remaining new.remaining (bytes v))
+  pub is_text : {T : Type 0} (r : Result T TextFault) (bytes : T → List ℕ) → IfOk r (λ v. GivesWithin most old.remaining new.remaining (bytes v))
       → IfOk r (λ v. new.calls ≤ old.calls + length (bytes v) + 1) → ((IsErrOf r Read → ⊥) → new.failures ≡ old.failures)
-      → OnOk r (new.empty_reads ≡ old.empty_reads + 1) → ((v : T) → IsUtf8 (bytes v)) → IfOk r (λ v. IsTextRead old new (bytes v))
+      → OnOk r (new.empty_reads ≡ old.empty_reads + 1) → ((v : T) → IsUtf8 (bytes v)) → IfOk r (λ v. IsTextReadWithin most old new (bytes v))
   is_text (Ok v) bytes given calls same found utf8 = (record { given = given; failures = same (λ h. cc); calls = calls; found = found; pieces = pieces }, utf8 v)
   is_text (Err e) bytes given calls same found utf8 = tt
 

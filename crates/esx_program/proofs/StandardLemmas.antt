@@ -9,7 +9,7 @@ use Rattle.esx_text.specs.States.{SinkState, SourceState}
 use Rattle.esx_program.specs.declared.words.Asked.{Asked}
 use Rattle.esx_program.specs.declared.Done.{Done}
 use Rattle.esx_program.specs.declared.Failure.{Failure}
-use Rattle.esx_program.specs.declared.Failure.TheVariants.{Words, Text, Serve, Output, Run}
+use Rattle.esx_program.specs.declared.Failure.TheVariants.{Words, Text, Serve, Output, Run, Report}
 use Rattle.esx_program.specs.Doing.{Does, DoesOver}
 use Rattle.esx_program.specs.Failing.{MayFail}
 use Rattle.esx_program.specs.Files.{AreLeft, IsFile, IsLeft, IsSame, MayBeLeft, Opened}
@@ -48,6 +48,7 @@ pub files_there : {F G : Type 0} (remaining : F → Option (List ℕ)) (given : 
 files_there remaining given state seen wanted other left read same so = record {
   word = so.word.1 ∙ same.word;
   file = file_may_be_there remaining given state seen (asked_of wanted).1 (asked_of other).1 (asked_of left).1 (asked_of read).1 same.file so.file;
+  question = so.question ∙ same.question;
 }
 
 -- the same is asked for, with a file where a file is named
@@ -71,6 +72,7 @@ may_fail_so asked other word named (Text text.OutOfMemory) m = named m
 may_fail_so asked other word named (Serve e) m = sym word ∙ m
 may_fail_so asked other word named (Output e) m = rw word at m
 may_fail_so asked other word named (Run e) m = sym word ∙ m
+may_fail_so asked other word named (Report e) m = rw word at m
 
 word_so : (r : Result Done Failure) (a b : Word) → a ≡ b → IfOk r (λ done. word_of_done done ≡ a) → IfOk r (λ done. word_of_done done ≡ b)
 word_so (Ok done) a b same w = w ∙ same

@@ -1,6 +1,6 @@
 -- A command line with several words.
 use Rattle.std.proofs.Common.{◌≡◌, Bool, true, false, List, Option, Some, None, Result, Ok, Err, ap, sym, ◌∙◌, refl, inr, ◌⊎◌, option_map}
-use Rattle.std.specs.Result.{IfOk, IfErr}
+use Rattle.std.specs.Result.{IfOk, IfErr, OnOk}
 use Rattle.std.specs.Borrow.{Bor}
 use Rattle.std.specs.Option.{ok_or}
 use Rattle.std.proofs.lemmas.Option.{same_Some}
@@ -11,7 +11,7 @@ use Rattle.clap.specs.declared.builder.command.Command.TheViews.{out-Command as 
 use Rattle.esx_program.specs.declared.words.Asked.{Asked}
 use Rattle.esx_program.specs.declared.words.WordsFault.{WordsFault}
 use Rattle.esx_program.specs.declared.words.WordsFault.TheVariants.{Wrong}
-use Rattle.esx_program.specs.Words.{without_help, word_and_file}
+use Rattle.esx_program.specs.Words.{InFull, without_help, named_in_full}
 
 pub no_help_of_its_own : (old new : Command) (a : App) → fields_of new ≡ record (fields_of old) { disable_help_subcommand = true } → app_of old ≡ a
     → app_of new ≡ without_help a
@@ -40,12 +40,28 @@ not_true true h = absurd (h refl)
 not_true false h = refl
 
 -- what is asked for, if it is anything
-pub asked_ok : (r : Result (Asked (Bor Text)) WordsFault) (o : Option (Asked (Bor Text))) (wanted : Option (Text × Option Text)) → r ≡ ok_or o Wrong → wanted ≡ option_map word_and_file o
-    → IfOk r (λ asked. wanted ≡ Some (word_and_file asked))
-asked_ok r None wanted e w = rw e tt
-asked_ok r (Some asked) wanted e w = rw e w
+module _ (r : Result (Asked (Bor Text)) WordsFault) where
+  pub asked_ok : (o : Option (Asked (Bor Text))) (wanted : Option InFull) → r ≡ ok_or o Wrong → wanted ≡ option_map named_in_full o
+      → IfOk r (λ asked. wanted ≡ Some (named_in_full asked))
+  asked_ok None wanted e w = rw e tt
+  asked_ok (Some asked) wanted e w = rw e w
 
-pub asked_not : (r : Result (Asked (Bor Text)) WordsFault) (o : Option (Asked (Bor Text))) (wanted : Option (Text × Option Text)) (P : Type 0) → r ≡ ok_or o Wrong → wanted ≡ option_map word_and_file o
-    → IfErr r (λ fault. fault ≡ Wrong → P ⊎ (wanted ≡ None))
-asked_not r None wanted P e w = rw e (λ _. inr w)
-asked_not r (Some asked) wanted P e w = rw e tt
+  pub asked_not : (o : Option (Asked (Bor Text))) (wanted : Option InFull) → r ≡ ok_or o Wrong → wanted ≡ option_map named_in_full o
+      → IfErr r (λ fault. fault ≡ Wrong → wanted ≡ None)
+  asked_not None wanted e w = rw e (λ _. w)
+  asked_not (Some asked) wanted e w = rw e tt
+
+-- the same is wanted
+pub asked_so : (r : Result (Asked (Bor Text)) WordsFault) (a b : Option InFull) → a ≡ b → IfOk r (λ asked. b ≡ Some (named_in_full asked))
+    → IfOk r (λ asked. a ≡ Some (named_in_full asked))
+asked_so (Ok asked) a b same ok = same ∙ ok
+asked_so (Err e) a b same ok = tt
+
+pub not_asked_so : (r : Result (Asked (Bor Text)) WordsFault) (P : Type 0) (a b : Option InFull) → a ≡ b → IfErr r (λ e. e ≡ Wrong → b ≡ None)
+    → IfErr r (λ e. e ≡ Wrong → P ⊎ (a ≡ None))
+not_asked_so (Ok asked) P a b same none = tt
+not_asked_so (Err e) P a b same none = λ wrong. inr (same ∙ none wrong)
+
+pub on_any : {A B : Type 0} (r : Result A B) (P : Type 0) → P → OnOk r P
+on_any (Ok a) P p = p
+on_any (Err e) P p = tt

@@ -26,10 +26,11 @@ use Rattle.esx_program.specs.Failing.{Asks}
 use Rattle.esx_program.specs.Files.{Opened, IsFile, HasScenario, HasSession, HasText, LacksCheck, LacksScenario, LacksSession}
 use Rattle.esx_program.specs.Given.{Args}
 use Rattle.esx_program.specs.Help.{help_text}
+use Rattle.esx_program.specs.Reporting.{EndsReport}
 use Rattle.esx_program.specs.Runs.{Plays, RunStops}
 use Rattle.esx_program.specs.Sessions.{IsTold, IsNotTold, IsReplayed, IsNotReplayed, IsMigrated, IsNotMigrated}
 use Rattle.esx_program.specs.Streams.{IsServed}
-use Rattle.esx_program.specs.Words.{AskAlike, asked_in, program_app, word_and_file}
+use Rattle.esx_program.specs.Words.{AskAlike, asked_in, named_in_full, program_app}
 
 -- the program's own site
 abbrev pub own_site : Config
@@ -104,6 +105,7 @@ Does (asked.Replay read) ended unread left errors errors' out out' = EndsReplay 
 Does (asked.Check read) ended unread left errors errors' out out' = EndsCheck read ended out out' × (left ≡ unread) × (errors' ≡ errors)
 Does (asked.Diff read) ended unread left errors errors' out out' = EndsDiff read ended out out' × (left ≡ unread) × (errors' ≡ errors)
 Does (asked.Migrate read) ended unread left errors errors' out out' = EndsMigrate read ended out out' × (left ≡ unread) × (errors' ≡ errors)
+Does (asked.Report read question) ended unread left errors errors' out out' = EndsReport read question ended out out' × (left ≡ unread) × (errors' ≡ errors)
 Does asked.Help ended unread left errors errors' out out' = EndsHelp ended out out' × (left ≡ unread) × (errors' ≡ errors)
 
 -- The same of a file and of ends of the standard library, of which only the bytes are known.
@@ -131,7 +133,7 @@ AskForNothing words ended = ⊥
 abbrev pub DoesWords : {F : Type 0} → (F → Option (List ℕ)) → List Word → Result Done Failure
     → Option (List ℕ) → Option (List ℕ) → Option (List ℕ) → Option (List ℕ) → Option (List ℕ) → Option (List ℕ) → Type 0
 DoesWords {F} remaining words ended unread left errors errors' out out' =
-    ((named : Asked (Bor Word)) × Asks words (word_and_file named) × (wanted : Asked (Result F Error)) × AskAlike (λ _ _. Unit {0}) named wanted
+    ((named : Asked (Bor Word)) × Asks words (named_in_full named) × (wanted : Asked (Result F Error)) × AskAlike (λ _ _. Unit {0}) named wanted
     × DoesOver remaining wanted ended unread left errors errors' out out')
     ⊎ (AskForNothing words ended × (left ≡ unread) × (errors' ≡ errors) × (out' ≡ out))
 

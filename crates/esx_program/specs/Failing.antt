@@ -5,14 +5,15 @@ use Rattle.std.specs.Vec.Iter.{into_iter_items}
 use Rattle.std.specs.declared.io.Error.{Error}
 use Rattle.clap.specs.Words.{Text as Word, takes}
 use Rattle.esx_reading.specs.declared.fault.TextFault.TheVariants as text
+use Rattle.esx_reports.specs.declared.question.Question.{Question}
 use Rattle.esx_program.specs.declared.words.WordsFault.{WordsFault}
 use Rattle.esx_program.specs.declared.words.WordsFault.TheVariants as words
 use Rattle.esx_program.specs.declared.Done.{Done}
 use Rattle.esx_program.specs.declared.Failure.{Failure}
-use Rattle.esx_program.specs.declared.Failure.TheVariants.{Words, Text, Serve, Output, Run}
+use Rattle.esx_program.specs.declared.Failure.TheVariants.{Words, Text, Serve, Output, Run, Report}
 use Rattle.esx_program.specs.Given.{Args, words_failure}
 use Rattle.esx_program.specs.Status.{word_of_done}
-use Rattle.esx_program.specs.Words.{HaveNoFault, asked_in, program_app}
+use Rattle.esx_program.specs.Words.{HaveNoFault, InFull, asked_in, program_app}
 
 -- a word and a file that is a scenario
 abbrev pub NamesScenario : {A : Type 0} → Word × Option A → Type 0
@@ -30,7 +31,11 @@ NamesSession asked = IsSome asked.1 × WantsSession asked
 abbrev pub WritesText : {A : Type 0} → Word × Option A → Type 0
 WritesText asked = WantsSession asked ⊎ (asked.0 ≡ codes "help")
 
--- how what is asked for may fail: at the file, if one is named, at the streams of a console, in a run, or where something else is written
+-- a word that asks a question about a session
+abbrev pub AsksQuestion : {A : Type 0} → Word × Option A → Type 0
+AsksQuestion asked = (asked.0 ≡ codes "report") ⊎ (asked.0 ≡ codes "why")
+
+-- how what is asked for may fail: at the file, if one is named, at the streams of a console, in a run, at a question, or where something else is written
 abbrev pub MayFail : {A : Type 0} → Word × Option A → Failure → Type 0
 MayFail asked Words = ⊥
 MayFail asked (Text text.NotToml) = NamesScenario asked
@@ -44,6 +49,7 @@ MayFail asked (Text text.OutOfMemory) = IsSome asked.1
 MayFail asked (Serve e) = asked.0 ≡ codes "console"
 MayFail asked (Output e) = WritesText asked
 MayFail asked (Run e) = asked.0 ≡ codes "run"
+MayFail asked (Report e) = AsksQuestion asked
 
 -- words that ask for nothing, as a failure
 abbrev pub refused_as : WordsFault → Failure
@@ -51,19 +57,19 @@ refused_as words.Wrong = Words
 refused_as words.OutOfMemory = Text text.OutOfMemory
 
 -- The words ask for this, and say no more.
-pub record Asks (words : List Word) (asked : Word × Option Word) : Type 0 where
+pub record Asks (words : List Word) (asked : InFull) : Type 0 where
   pub no_fault : HaveNoFault words
   pub asked_for : asked_in words ≡ Some asked
 
 -- what was done is what the words ask for
 abbrev pub DoesAsked : List Word → Done → Type 0
-DoesAsked words done = (file : Option Word) × Asks words (word_of_done done, file)
+DoesAsked words done = (file : Option Word) × (question : Option Question) × Asks words (word_of_done done, file, question)
 
 -- Wrong words are refused. Memory may always run out. Any other failure is one of what the words ask for.
 abbrev pub FailsAfter : List Word → Failure → Type 0
 FailsAfter words Words = (takes program_app words ≡ false) ⊎ (asked_in words ≡ None)
 FailsAfter words (Text text.OutOfMemory) = Unit {0}
-FailsAfter words failure = (asked : Word × Option Word) × Asks words asked × MayFail asked failure
+FailsAfter words failure = (asked : InFull) × Asks words asked × MayFail (asked.0, asked.1) failure
 
 -- how it ends with what it was given
 abbrev pub EndsWith : Result Args Error → Result Done Failure → Type 0

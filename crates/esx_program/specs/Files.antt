@@ -5,8 +5,8 @@ use Rattle.std.specs.declared.io.Error.{Error}
 use Rattle.esx_types.specs.declared.config.Config.{Config}
 use Rattle.esx_reading.specs.declared.fault.TextFault.{TextFault}
 use Rattle.esx_reading.specs.declared.fault.TextFault.TheVariants.{NotToml, BadKey, BadLine, NotText, Read, OutOfMemory}
-use Rattle.esx_reading.specs.declared.whole.TheConstants.{READS}
-use Rattle.esx_reading.specs.Whole.{AskForPieces, GivesMore, GivesOn, GivesWhole}
+use Rattle.esx_reading.specs.declared.whole.TheConstants.{MAX_FILE, MAX_SESSION, READS}
+use Rattle.esx_reading.specs.Whole.{AskForPieces, GivesMoreThan, GivesOnWithin, GivesWithin}
 use Rattle.esx_scenario.specs.Plans.{Plan}
 use Rattle.esx_scenario.specs.Scenarios.{IsScenario, IsRefused as IsNoPlan}
 use Rattle.esx_session.specs.declared.session.Entry.{Entry}
@@ -16,46 +16,63 @@ use Rattle.esx_session.specs.Sessions.{HasOpening, IsRefused, Reads, ReadsScript
 use Rattle.esx_text.specs.Answers.{ReadsOn}
 use Rattle.esx_text.specs.States.{SourceState}
 use Rattle.esx_program.specs.Given.{open_fault}
-use Rattle.esx_program.specs.Words.{asked_of}
+use Rattle.esx_program.specs.Words.{asked_of, question_of}
 use Rattle.esx_program.specs.declared.words.Asked.{Asked}
 
 -- there were at most `READS` reads, of `CHUNK` bytes each
 abbrev pub ReadsPieces : SourceState → SourceState → Type 0
 ReadsPieces old new = (new.calls ≤ old.calls + READS) × AskForPieces old.calls new.calls old.asked new.asked
 
--- All bytes of a file were read, and no read failed. There was at most one read more than bytes, and one alone found the end.
-pub record IsRead (old new : SourceState) (bytes : List ℕ) : Type 0 where
-  pub given : GivesWhole old.remaining new.remaining bytes
+-- All bytes of a file of at most so many were read, and no read failed. There was at most one read more than bytes, and one alone found the end.
+pub record IsReadWithin (most : ℕ) (old new : SourceState) (bytes : List ℕ) : Type 0 where
+  pub given : GivesWithin most old.remaining new.remaining bytes
   pub failures : new.failures ≡ old.failures
   pub calls : new.calls ≤ old.calls + length bytes + 1
   pub found : new.empty_reads ≡ old.empty_reads + 1
   pub pieces : ReadsPieces old new
 
 -- the same of bytes that are a text
-abbrev pub IsTextRead : SourceState → SourceState → List ℕ → Type 0
-IsTextRead old new text = IsRead old new text × IsUtf8 text
+abbrev pub IsTextReadWithin : ℕ → SourceState → SourceState → List ℕ → Type 0
+IsTextReadWithin most old new text = IsReadWithin most old new text × IsUtf8 text
 
--- A read failed, or none of `READS` found the end, or there were more bytes than a file may have. No read found the end.
-pub record FailsToRead (old new : SourceState) : Type 0 where
+-- A read failed, or none of `READS` found the end, or there were more bytes than so many. No read found the end.
+pub record FailsToReadWithin (most : ℕ) (old new : SourceState) : Type 0 where
   pub cause : (new.failures ≡ old.failures + 1)
-      ⊎ ((new.failures ≡ old.failures) × ((new.calls ≡ old.calls + READS) ⊎ GivesMore old.remaining new.remaining))
+      ⊎ ((new.failures ≡ old.failures) × ((new.calls ≡ old.calls + READS) ⊎ GivesMoreThan most old.remaining new.remaining))
   pub not_found : new.empty_reads ≡ old.empty_reads
   pub each : ReadsOn old.remaining new.remaining old.calls new.calls
   pub pieces : ReadsPieces old new
 
 -- The reads that there were, if any, each gave some bytes: none failed, and none found the end.
-pub record StopsWithin (old new : SourceState) : Type 0 where
-  pub given : GivesOn old.remaining new.remaining old.calls new.calls
+pub record StopsBefore (most : ℕ) (old new : SourceState) : Type 0 where
+  pub given : GivesOnWithin most old.remaining new.remaining old.calls new.calls
   pub failures : new.failures ≡ old.failures
   pub not_found : new.empty_reads ≡ old.empty_reads
   pub pieces : ReadsPieces old new
 
 -- What a fault tells of a file: all its bytes were read and are no text, or reading failed, or memory ran out on the way.
+abbrev pub IsNoTextWithin : ℕ → SourceState → SourceState → TextFault → Type 0
+IsNoTextWithin most old new NotText = (bytes : List ℕ) × IsReadWithin most old new bytes × (IsUtf8 bytes → ⊥)
+IsNoTextWithin most old new Read = FailsToReadWithin most old new
+IsNoTextWithin most old new OutOfMemory = StopsBefore most old new
+IsNoTextWithin most old new _ = ⊥
+
+-- The same of as many bytes as a file may have.
+
+abbrev pub IsRead : SourceState → SourceState → List ℕ → Type 0
+IsRead old new bytes = IsReadWithin MAX_FILE old new bytes
+
+abbrev pub IsTextRead : SourceState → SourceState → List ℕ → Type 0
+IsTextRead old new text = IsTextReadWithin MAX_FILE old new text
+
+abbrev pub FailsToRead : SourceState → SourceState → Type 0
+FailsToRead old new = FailsToReadWithin MAX_FILE old new
+
+abbrev pub StopsWithin : SourceState → SourceState → Type 0
+StopsWithin old new = StopsBefore MAX_FILE old new
+
 abbrev pub IsNoText : SourceState → SourceState → TextFault → Type 0
-IsNoText old new NotText = (bytes : List ℕ) × IsRead old new bytes × (IsUtf8 bytes → ⊥)
-IsNoText old new Read = FailsToRead old new
-IsNoText old new OutOfMemory = StopsWithin old new
-IsNoText old new _ = ⊥
+IsNoText old new e = IsNoTextWithin MAX_FILE old new e
 
 -- The same, or its bytes are a text that is refused so, where a scenario is wanted. Memory may also run out over a text.
 abbrev pub IsNoScenario : SourceState → SourceState → TextFault → Type 0
@@ -96,6 +113,7 @@ MayBeLeft state opened left read = ⊥
 pub record AreLeft {F : Type 0} (state : F → SourceState) (wanted left : Asked (Result F Error)) (read : Asked Opened) : Type 0 where
   pub word : ((asked_of left).0 ≡ (asked_of wanted).0) × ((asked_of read).0 ≡ (asked_of wanted).0)
   pub file : MayBeLeft state (asked_of wanted).1 (asked_of left).1 (asked_of read).1
+  pub question : question_of read ≡ question_of wanted
 
 -- it is this file, whose bytes alone are known
 abbrev pub IsFile : {F : Type 0} → (F → Option (List ℕ)) → Result F Error → Opened → Type 0
@@ -114,6 +132,11 @@ abbrev pub HasText : Opened → List ℕ → Type 0
 HasText (Ok states) text = IsTextRead states.0 states.1 text
 HasText (Err e) text = ⊥
 
+-- the same of a text of as many bytes as a session may have of which a report is made
+abbrev pub HasLongText : Opened → List ℕ → Type 0
+HasLongText (Ok states) text = IsTextReadWithin MAX_SESSION states.0 states.1 text
+HasLongText (Err e) text = ⊥
+
 -- its text is that scenario
 abbrev pub HasScenario : Opened → Plan → Type 0
 HasScenario read plan = (text : List ℕ) × HasText read text × IsScenario text plan
@@ -130,6 +153,10 @@ HasScript read site requests = (text : List ℕ) × HasText read text × ReadsSc
 abbrev pub LacksText : Opened → TextFault → Type 0
 LacksText (Ok states) e = IsNoText states.0 states.1 e
 LacksText (Err error) e = e ≡ open_fault (error_kind error)
+
+abbrev pub LacksLongText : Opened → TextFault → Type 0
+LacksLongText (Ok states) e = IsNoTextWithin MAX_SESSION states.0 states.1 e
+LacksLongText (Err error) e = e ≡ open_fault (error_kind error)
 
 abbrev pub LacksScenario : Opened → TextFault → Type 0
 LacksScenario (Ok states) e = IsNoScenario states.0 states.1 e

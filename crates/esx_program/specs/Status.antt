@@ -10,16 +10,26 @@ use Rattle.esx_check.specs.Differences.{ComparesText, checked_of, compared_text}
 use Rattle.esx_check.specs.declared.check.Checked.{Checked as Outcome}
 use Rattle.esx_check.specs.declared.difference.Compared.{Compared as Comparison}
 use Rattle.esx_check.specs.declared.fault.OutputFault.TheVariants as output
+use Rattle.esx_reports.specs.declared.fault.ReportFault.{ReportFault}
+use Rattle.esx_reports.specs.declared.fault.ReportFault.TheVariants as report
+use Rattle.esx_reports.specs.declared.question.What.{What}
+use Rattle.esx_reports.specs.declared.question.What.TheVariants as whats
 use Rattle.esx_program.specs.declared.running.RunFault.TheVariants as run
 use Rattle.esx_program.specs.declared.words.WordsFault.{WordsFault}
 use Rattle.esx_program.specs.declared.words.WordsFault.TheVariants as words
 use Rattle.esx_program.specs.declared.Done.{Done}
-use Rattle.esx_program.specs.declared.Done.TheVariants.{Served, Ran, Replayed, Checked, Compared, Migrated, Helped}
+use Rattle.esx_program.specs.declared.Done.TheVariants.{Served, Ran, Replayed, Checked, Compared, Migrated, Answered, Helped}
 use Rattle.esx_program.specs.declared.Failure.{Failure}
-use Rattle.esx_program.specs.declared.Failure.TheVariants.{Words, Text, Serve, Output, Run}
+use Rattle.esx_program.specs.declared.Failure.TheVariants.{Words, Text, Serve, Output, Run, Report}
 use Rattle.esx_program.specs.Sessions.{IsTold, IsNotTold, check_status}
 
--- 1 where a file or an opening was refused, or it could not read or write; 2 where it was given wrong words; 3 where memory ran out
+-- where a question about a session has no answer
+abbrev pub status_of_report : ReportFault → ℕ
+status_of_report (report.Text text.OutOfMemory) = 3
+status_of_report (report.Output output.OutOfMemory) = 3
+status_of_report _ = 1
+
+-- 1 where a file or an opening was refused, or a session differs, or it could not read or write; 2 where it was given wrong words; 3 where memory ran out
 abbrev pub status_of : Failure → ℕ
 status_of Words = 2
 status_of (Text text.OutOfMemory) = 3
@@ -32,6 +42,7 @@ status_of (Output output.OutOfMemory) = 3
 status_of (Run (run.Refused e)) = 1
 status_of (Run run.Write) = 1
 status_of (Run run.OutOfMemory) = 3
+status_of (Report e) = status_of_report e
 
 -- what a person at a terminal is told of it
 abbrev pub advice_of : Failure → Option (List ℕ)
@@ -43,6 +54,12 @@ abbrev pub status_of_words : WordsFault → ℕ
 status_of_words words.Wrong = 2
 status_of_words words.OutOfMemory = 3
 
+-- the word that asks a question
+abbrev pub word_of_what : What → List ℕ
+word_of_what whats.Report = codes "report"
+word_of_what (whats.Table table) = codes "report"
+word_of_what (whats.Why vm page) = codes "why"
+
 -- the word that asks for what was done
 abbrev pub word_of_done : Done → List ℕ
 word_of_done Served = codes "console"
@@ -51,6 +68,7 @@ word_of_done Replayed = codes "replay"
 word_of_done (Checked checked) = codes "check"
 word_of_done (Compared checked) = codes "diff"
 word_of_done (Migrated checked) = codes "migrate"
+word_of_done (Answered what) = word_of_what what
 word_of_done Helped = codes "help"
 
 -- it is a check of that text, and the line of what it comes to was written
@@ -87,6 +105,7 @@ status_of_done Replayed = 0
 status_of_done (Checked checked) = check_status checked
 status_of_done (Compared checked) = check_status checked
 status_of_done (Migrated checked) = check_status checked
+status_of_done (Answered what) = 0
 status_of_done Helped = 0
 
 -- well, or otherwise

@@ -12,6 +12,7 @@ use crate::files::{scenario_of_file, script_of_file, session_of_file, text_of_fi
 use crate::help::tell_help;
 use crate::migrating::migrate_to;
 use crate::outgoing::{Outgoing, Waiting};
+use crate::reporting::report_file;
 use crate::running::run_to;
 use crate::session::{check_watched, diff_watched, replay_watched, tell};
 use crate::site::serve_site;
@@ -19,15 +20,17 @@ use crate::streams::{Ended, Streams};
 use crate::words::Asked;
 use crate::{Done, Failure, SITE};
 use esx_check::OutputFault;
+use esx_paths::At;
 use esx_reading::TextFault;
+use esx_reports::Question;
 use esx_text::give_up;
 use esx_types::{Config, Sink, SinkFailed, Source};
 use std::alloc::{AllocGlobal, Global};
-use std::io;
 use std::marker::Brand;
 use std::sync::Wait;
 use std::sync::ledger::{Blank, Ledger};
 use std::thread::Threads;
+use std::{io, mem};
 
 /// The site of the scenario in a file, or the program's own where no file is named.
 fn site_asked<F: Source>(
@@ -309,6 +312,15 @@ fn help_to<W: Sink>(writer: &mut W) -> Result<Done, Failure>
     }
 }
 
+/// Takes a question out. What stays in its place is asked of the end.
+fn taken_out(question: &mut Question) -> Question
+    ensures value { result ≡ question.old }
+    ensures what { question.new.what ≡ question.old.what }
+{
+    let what = question.what;
+    mem::replace(question, Question { at: At::End, what })
+}
+
 /// Does what is asked for. How far a long work is, is told to `to`, where there is one.
 pub fn run_asked<
     R: AllocGlobal + Threads + Wait + Sync,
@@ -344,6 +356,11 @@ pub fn run_asked<
             Ended { ended, streams }
         }
         Asked::Migrate(opened) => migrate_file(rt.alloc(), opened, to, streams),
+        Asked::Report(opened, question) => {
+            let question = taken_out(question);
+            let ended = report_file(rt.alloc(), opened, question, to, &mut streams.writer);
+            Ended { ended, streams }
+        }
         Asked::Help => {
             let ended = help_to(&mut streams.writer);
             Ended { ended, streams }

@@ -5,10 +5,10 @@ ghost use Rattle.esx_types.specs.Ranges.{IsConfig};
 ghost use Rattle.esx_scenario.specs.Scenarios.{IsScenario};
 ghost use Rattle.esx_session.specs.Sessions.{Reads, ReadsScript};
 ghost use Rattle.esx_text.specs.States.{source_state};
-ghost use Rattle.esx_program.specs.Files.{Opened, IsLeft, IsNoScenario, IsNoSession, IsNoText, IsTextRead, HasScenario, HasScript, HasSession, HasText, LacksScenario, LacksSession, LacksText};
+ghost use Rattle.esx_program.specs.Files.{Opened, IsLeft, IsNoScenario, IsNoSession, IsNoText, IsNoTextWithin, IsTextRead, IsTextReadWithin, HasLongText, HasScenario, HasScript, HasSession, HasText, LacksLongText, LacksScenario, LacksSession, LacksText};
 ghost use Rattle.esx_program.specs.Given.{open_fault};
 
-use esx_reading::{TextFault, read_text};
+use esx_reading::{MAX_FILE, MAX_SESSION, TextFault, read_text_within};
 use esx_scenario::{Scenario, parse_scenario};
 use esx_session::{Script, Session, parse_script, parse_session};
 use esx_types::Source;
@@ -25,12 +25,20 @@ fn fault_of_kind(kind: ErrorKind) -> TextFault
     }
 }
 
+/// The text that a file of at most so many bytes gives.
+fn text_within<F: Source>(alloc: Global, file: &mut F, most: usize) -> Result<String, TextFault>
+    ensures text { IfOk result (λ s. IsTextReadWithin most (source_state F.remaining F.calls F.failures F.empty_reads F.asked file.old) (source_state F.remaining F.calls F.failures F.empty_reads F.asked file.new) (string_bytes s)) }
+    ensures fault { IfErr result (IsNoTextWithin most (source_state F.remaining F.calls F.failures F.empty_reads F.asked file.old) (source_state F.remaining F.calls F.failures F.empty_reads F.asked file.new)) }
+{
+    read_text_within(alloc, file, most)
+}
+
 /// The text that a file gives.
 fn text_of_source<F: Source>(alloc: Global, file: &mut F) -> Result<String, TextFault>
     ensures text { IfOk result (λ s. IsTextRead (source_state F.remaining F.calls F.failures F.empty_reads F.asked file.old) (source_state F.remaining F.calls F.failures F.empty_reads F.asked file.new) (string_bytes s)) }
     ensures fault { IfErr result (IsNoText (source_state F.remaining F.calls F.failures F.empty_reads F.asked file.old) (source_state F.remaining F.calls F.failures F.empty_reads F.asked file.new)) }
 {
-    read_text(alloc, file)
+    text_within(alloc, file, MAX_FILE)
 }
 
 /// The scenario that a file gives.
@@ -76,6 +84,20 @@ pub fn text_of_file<F: Source>(
 {
     match opened {
         Ok(file) => text_of_source(alloc, file),
+        Err(error) => Err(fault_of_kind(error.kind())),
+    }
+}
+
+/// The text in a file that may be as long as a session of which a report is made.
+pub fn long_text_of_file<F: Source>(
+    alloc: Global,
+    opened: &mut io::Result<F>,
+) -> Result<String, TextFault>
+    ensures { (read : Opened) × IsLeft (source_state F.remaining F.calls F.failures F.empty_reads F.asked) opened.old opened.new read
+        × IfOk result (λ s. HasLongText read (string_bytes s)) × IfErr result (LacksLongText read) }
+{
+    match opened {
+        Ok(file) => text_within(alloc, file, MAX_SESSION),
         Err(error) => Err(fault_of_kind(error.kind())),
     }
 }

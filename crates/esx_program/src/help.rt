@@ -13,16 +13,20 @@ console        reads commands, one a line, and answers each at once; so it does 
                    esxplan console <examples/sharing.txt
 console FILE   the same at the site of the scenario in FILE
                    esxplan console examples/small.toml <examples/paging.txt
-run FILE       lets the machines of a scenario play their traces, and prints the session that they made
+run FILE       lets the machines of a scenario play their traces, and prints their session
                    esxplan run examples/scenario.toml >run.session
-check FILE     makes the calls of a session again; prints same N, or differs K for the first with another reply
+check FILE     makes a session's calls again: same N, or differs K, the first with another reply
                    esxplan check run.session
-diff FILE      the same, and prints that call with both replies: the one that stands there, and the one that it has
+diff FILE      the same, and prints that call with both replies: the one told, and the one made
                    esxplan diff run.session
 replay FILE    makes them again and prints their replies, and then the table
                    esxplan replay run.session
-migrate FILE   prints a session of version 1 in version 2
+migrate FILE   prints a session in version 2, or differs K for the first call with another reply
                    esxplan migrate examples/old.session >new.session
+report FILE    tells which guest lost which page, and why [--at NODE] [--csv losses|guests|site]
+                   esxplan report examples/scarce.session
+why FILE V [P] tells in sentences why guest V lost its pages, or its page P [--at NODE]
+                   esxplan why examples/scarce.session 0
 help           prints these lines
                    esxplan help
 ";

@@ -7,7 +7,7 @@ ghost use Rattle.std.specs.Vec.Iter.{into_iter_items};
 ghost use Rattle.esx_program.specs.Doing.{DoesGiven, DoesWords};
 ghost use Rattle.esx_program.specs.Failing.{DoesAsked, EndsAsGiven, EndsWith, FailsAfter, refused_as};
 ghost use Rattle.esx_program.specs.Given.{GivesWords, words_failure};
-ghost use Rattle.esx_program.specs.Status.{status_of, status_of_words, status_of_end};
+ghost use Rattle.esx_program.specs.Status.{status_of, status_of_report, status_of_words, status_of_end};
 
 mod commands;
 mod ends;
@@ -17,6 +17,7 @@ mod help;
 mod migrating;
 mod outgoing;
 mod progress;
+mod reporting;
 mod running;
 mod session;
 mod site;
@@ -26,6 +27,7 @@ mod words;
 
 use esx_check::{Checked, OutputFault};
 use esx_reading::TextFault;
+use esx_reports::{ReportFault, What};
 use esx_text::ServeFault;
 use esx_types::{Config, MAX_NODES};
 pub use help::tell_help;
@@ -75,6 +77,8 @@ pub enum Failure {
     Output(OutputFault),
     #[error("{0}")]
     Run(RunFault),
+    #[error("{0}")]
+    Report(ReportFault),
 }
 
 impl Failure {
@@ -105,7 +109,19 @@ impl Failure {
             Failure::Output(OutputFault::OutOfMemory) => 3,
             Failure::Run(RunFault::Refused(_) | RunFault::Write) => 1,
             Failure::Run(RunFault::OutOfMemory) => 3,
+            Failure::Report(fault) => status_of_report(fault),
         }
+    }
+}
+
+/// The status that the program ends with where a question has no answer.
+fn status_of_report(fault: &ReportFault) -> u8
+    ensures { result ≡ status_of_report fault.now }
+{
+    match fault {
+        ReportFault::Text(TextFault::OutOfMemory) => 3,
+        ReportFault::Output(OutputFault::OutOfMemory) => 3,
+        _ => 1,
     }
 }
 
@@ -118,6 +134,7 @@ pub enum Done {
     Checked(Checked),
     Compared(Checked),
     Migrated(Checked),
+    Answered(What),
     Helped,
 }
 
@@ -130,7 +147,7 @@ impl Done {
         ensures { result ≡ status_of_done self }
     {
         match self {
-            Done::Served | Done::Ran | Done::Replayed | Done::Helped => 0,
+            Done::Served | Done::Ran | Done::Replayed | Done::Answered(_) | Done::Helped => 0,
             Done::Checked(checked) | Done::Compared(checked) | Done::Migrated(checked) => {
                 status_of_check(checked)
             }

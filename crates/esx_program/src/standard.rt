@@ -37,6 +37,7 @@ pub fn opened<R: Files>(rt: &R, asked: Asked<&str>) -> Asked<io::Result<R::File>
         Asked::Check(path) => Asked::Check(open_apart(rt, path)),
         Asked::Diff(path) => Asked::Diff(open_apart(rt, path)),
         Asked::Migrate(path) => Asked::Migrate(open_apart(rt, path)),
+        Asked::Report(path, question) => Asked::Report(open_apart(rt, path), question),
         Asked::Help => Asked::Help,
     }
 }
@@ -75,6 +76,7 @@ fn with_source<F: Read + Drop, L: Ledger>(
         Asked::Check(opened) => Asked::Check(source_of(opened, calls)),
         Asked::Diff(opened) => Asked::Diff(source_of(opened, calls)),
         Asked::Migrate(opened) => Asked::Migrate(source_of(opened, calls)),
+        Asked::Report(opened, question) => Asked::Report(source_of(opened, calls), question),
         Asked::Help => Asked::Help,
     }
 }

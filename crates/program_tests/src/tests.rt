@@ -7,6 +7,7 @@ mod ends;
 mod mechanisms;
 mod migrating;
 mod opening;
+mod reporting;
 mod running;
 
 ghost use Rattle.std.specs.Prelude.{◌≡◌, ◌≤◌};
@@ -16,6 +17,7 @@ use esx_check::OutputFault;
 use esx_events::Refusal;
 use esx_program::{Asked, Ended, Failure, RunFault, SITE, Streams, run_counted, serve_site};
 use esx_reading::TextFault;
+use esx_reports::ReportFault;
 use esx_text::{ServeFault, parse_command, print_command};
 use esx_types::{Config, MemorySink, MemorySource};
 use std::alloc::{AllocGlobal, Global};
@@ -222,6 +224,10 @@ fn full(rt: HostRuntime) -> Result<(), Fail> {
     Ok(())
 }
 
+fn asked(fault: ReportFault) -> Failure {
+    Failure::Report(fault)
+}
+
 /// What is told of each way to end otherwise than well, and the status of it.
 #[test]
 fn failures(rt: HostRuntime) -> Result<(), Fail> {
@@ -241,6 +247,28 @@ fn failures(rt: HostRuntime) -> Result<(), Fail> {
         (Failure::Run(refused), 1, "no 4 NoMemoryReserve"),
         (Failure::Run(RunFault::Write), 1, "write fault"),
         (Failure::Run(RunFault::OutOfMemory), 3, "no memory"),
+        (
+            asked(ReportFault::Text(TextFault::BadLine(7))),
+            1,
+            "bad line 7",
+        ),
+        (
+            asked(ReportFault::Text(TextFault::OutOfMemory)),
+            3,
+            "no memory",
+        ),
+        (asked(ReportFault::Differs(7)), 1, "differs 7"),
+        (asked(ReportFault::Refused(Refusal::NoVm)), 1, "no 1 NoVm"),
+        (
+            asked(ReportFault::Output(OutputFault::Write)),
+            1,
+            "write fault",
+        ),
+        (
+            asked(ReportFault::Output(OutputFault::OutOfMemory)),
+            3,
+            "no memory",
+        ),
     ];
     for (failure, status, text) in &rows {
         assert_eq!(rt; failure.status(), *status);

@@ -39,7 +39,11 @@ fn nothing_done(rt: HostRuntime) -> Result<(), Fail> {
         ("esxplan run none/a", 1),
         ("esxplan replay none/a", 1),
         ("esxplan check none/a", 1),
+        ("esxplan report none/a --csv site", 1),
+        ("esxplan why none/a 0", 1),
         ("esxplan run", 2),
+        ("esxplan report none/a --csv all", 2),
+        ("esxplan why none/a", 2),
         ("esxplan help a", 2),
     ];
     for (line, status) in &rows {

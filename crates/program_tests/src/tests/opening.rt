@@ -18,28 +18,47 @@ pub fn words_of(alloc: Global, line: &str) -> Result<Vec<String>, AllocError> {
     Ok(words)
 }
 
+/// What is asked for, `report` also where it is asked why, and the file.
+fn word_and_file<'a>(asked: Asked<&'a str>) -> (&'static str, Option<&'a str>) {
+    match asked {
+        Asked::Console(file) => ("console", file),
+        Asked::Run(file) => ("run", Some(file)),
+        Asked::Replay(file) => ("replay", Some(file)),
+        Asked::Check(file) => ("check", Some(file)),
+        Asked::Diff(file) => ("diff", Some(file)),
+        Asked::Migrate(file) => ("migrate", Some(file)),
+        Asked::Report(file, _) => ("report", Some(file)),
+        Asked::Help => ("help", None),
+    }
+}
+
 #[test]
 fn words(rt: HostRuntime) -> Result<(), Fail> {
     let alloc = rt.alloc();
     let rows = [
-        ("esxplan", Ok(Asked::Console(None))),
-        ("esxplan console", Ok(Asked::Console(None))),
-        ("esxplan console a.toml", Ok(Asked::Console(Some("a.toml")))),
-        ("esxplan console --", Ok(Asked::Console(None))),
-        ("esxplan console -- -a", Ok(Asked::Console(Some("-a")))),
-        ("esxplan run a", Ok(Asked::Run("a"))),
+        ("esxplan", Ok(("console", None))),
+        ("esxplan console", Ok(("console", None))),
+        ("esxplan console a.toml", Ok(("console", Some("a.toml")))),
+        ("esxplan console --", Ok(("console", None))),
+        ("esxplan console -- -a", Ok(("console", Some("-a")))),
+        ("esxplan run a", Ok(("run", Some("a")))),
         ("esxplan run", Err(WordsFault::Wrong)),
-        ("esxplan replay a", Ok(Asked::Replay("a"))),
-        ("esxplan check a", Ok(Asked::Check("a"))),
-        ("esxplan diff a", Ok(Asked::Diff("a"))),
-        ("esxplan migrate a", Ok(Asked::Migrate("a"))),
-        ("esxplan help", Ok(Asked::Help)),
-        ("esxplan console help", Ok(Asked::Console(Some("help")))),
-        ("esxplan check help", Ok(Asked::Check("help"))),
+        ("esxplan replay a", Ok(("replay", Some("a")))),
+        ("esxplan check a", Ok(("check", Some("a")))),
+        ("esxplan diff a", Ok(("diff", Some("a")))),
+        ("esxplan migrate a", Ok(("migrate", Some("a")))),
+        ("esxplan report a", Ok(("report", Some("a")))),
+        ("esxplan report help --at 0", Ok(("report", Some("help")))),
+        ("esxplan why a 0", Ok(("report", Some("a")))),
+        ("esxplan help", Ok(("help", None))),
+        ("esxplan console help", Ok(("console", Some("help")))),
+        ("esxplan check help", Ok(("check", Some("help")))),
         ("esxplan replay", Err(WordsFault::Wrong)),
         ("esxplan check", Err(WordsFault::Wrong)),
         ("esxplan diff", Err(WordsFault::Wrong)),
         ("esxplan migrate", Err(WordsFault::Wrong)),
+        ("esxplan report", Err(WordsFault::Wrong)),
+        ("esxplan why a", Err(WordsFault::Wrong)),
         ("esxplan check a b", Err(WordsFault::Wrong)),
         ("esxplan check --help", Err(WordsFault::Wrong)),
         ("esxplan console -a", Err(WordsFault::Wrong)),
@@ -55,10 +74,11 @@ fn words(rt: HostRuntime) -> Result<(), Fail> {
     ];
     for (line, wanted) in &rows {
         let words = words_of(alloc, *line)?;
-        assert!(rt;
-            asked_of_words(alloc, words.as_slice()) == *wanted,
-            "{line}"
-        );
+        let asked = match asked_of_words(alloc, words.as_slice()) {
+            Ok(asked) => Ok(word_and_file(asked)),
+            Err(fault) => Err(fault),
+        };
+        assert!(rt; asked == *wanted, "{line}");
     }
     Ok(())
 }

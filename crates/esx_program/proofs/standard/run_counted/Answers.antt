@@ -1,5 +1,5 @@
 use Rattle.std.proofs.Common.{refl}
-use Rattle.esx_program.proofs.StandardLemmas.{over_ends, over_fail}
+use Rattle.esx_program.proofs.StandardLemmas.{over_ends, over_fail, over_word}
 use Rattle.esx_program.proofs.standard.run_counted.Goals as goal
 
 pub returns-clause-does : goal.returns-clause-does
@@ -11,3 +11,6 @@ returns-clause-does g c =
 
 pub returns-clause-failure : goal.returns-clause-failure
 returns-clause-failure g c = over_fail g.F.Read.remaining c.args.asked c.run_asked-ended.result.ended _ _ _ _ _ _ (returns-clause-does g c)
+
+pub returns-clause-word : goal.returns-clause-word
+returns-clause-word g c = over_word g.F.Read.remaining c.args.asked c.run_asked-ended.result.ended _ _ _ _ _ _ (returns-clause-does g c)

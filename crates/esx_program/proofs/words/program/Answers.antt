@@ -14,7 +14,11 @@ returns c =
     c.in_ok-subcommand-4.ensures c.in_ok-word_with_file-4.ensures.local third c.in_ok-word_with_file-4.ensures.app in
     let fifth = one_more c.in_ok-subcommand-4.field-0 c.in_ok-word_with_file-5.field-0 c.in_ok-subcommand-5.field-0 _ _
     c.in_ok-subcommand-5.ensures c.in_ok-word_with_file-5.ensures.local fourth c.in_ok-word_with_file-5.ensures.app in
-    let sixth = one_more c.in_ok-subcommand-5.field-0 c.new-2.result c.in_ok-subcommand-6.field-0 _ _
-    c.in_ok-subcommand-6.ensures c.new-2.ensures.local fifth c.new-2.ensures.app in
-    last_one c.subcommand-7.result c.in_ok-subcommand-6.field-0 c.in_ok-word_with_file-6.field-0 _ _
-    c.subcommand-7.ensures c.in_ok-word_with_file-6.ensures.local sixth c.in_ok-word_with_file-6.ensures.app
+    let report = one_more c.in_ok-subcommand-5.field-0 c.in_ok-report_word.field-0 c.in_ok-subcommand-6.field-0 _ _
+    c.in_ok-subcommand-6.ensures c.in_ok-report_word.ensures.local fifth c.in_ok-report_word.ensures.app in
+    let why = one_more c.in_ok-subcommand-6.field-0 c.in_ok-why_word.field-0 c.in_ok-subcommand-7.field-0 _ _
+    c.in_ok-subcommand-7.ensures c.in_ok-why_word.ensures.local report c.in_ok-why_word.ensures.app in
+    let help = one_more c.in_ok-subcommand-7.field-0 c.new-2.result c.in_ok-subcommand-8.field-0 _ _
+    c.in_ok-subcommand-8.ensures c.new-2.ensures.local why c.new-2.ensures.app in
+    last_one c.subcommand-9.result c.in_ok-subcommand-8.field-0 c.in_ok-word_with_file-6.field-0 _ _
+    c.subcommand-9.ensures c.in_ok-word_with_file-6.ensures.local help c.in_ok-word_with_file-6.ensures.app
