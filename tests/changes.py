@@ -10,6 +10,7 @@ import tempfile
 
 import console
 import reader
+import story
 import words
 from console import Console
 from program import Told, Wrong, ask, expect, file_of
@@ -150,16 +151,18 @@ def check_sessions(program, draw, count, sessions):
             session = reader.session_of(text)
             out, status = console.told_of_check(session)
             wanted, replayed = Told(status, out, b""), Told(0, console.told_of_replay(session), b"")
+            reported = Told(1, b"", out) if status else Told(0, story.told_of_question(session, "report", [], {}), b"")
             compared = Told(status, console.told_of_diff(session)[0], b"")
             migrated = Told(status, console.told_of_migration(session)[0], b"")
             good, same = good + 1, same + (status == 0)
         else:
-            wanted = compared = replayed = migrated = Told(1, b"", refused.encode() + b"\n")
+            wanted = compared = replayed = migrated = reported = Told(1, b"", refused.encode() + b"\n")
         with file_of(text) as name:
             expect(f"check of {text!r}", wanted, ask(program, ["check", name]))
             expect(f"diff of {text!r}", compared, ask(program, ["diff", name]))
             expect(f"replay of {text!r}", replayed, ask(program, ["replay", name]))
             expect(f"migration of {text!r}", migrated, ask(program, ["migrate", name]))
+            expect(f"report of {text!r}", reported, ask(program, ["report", name]))
     return good, same
 
 
@@ -181,13 +184,25 @@ def check_scenarios(program, draw, count):
     return good
 
 
+def asked_of_session(draw, name):
+    """Words that ask about a session, some of which are wrong."""
+    drawn = [draw.choice([name, name, f"{name}.none"]), *draw.choice([[], ["0"], ["200", "7"], [draw.choice(EDGES)]])]
+    for _ in range(draw.choice([0, 1, 1, 2])):
+        value = draw.choice(["losses", "guests", "site", "changes", "base", "Top", "0", draw.choice(EDGES)])
+        at = draw.randrange(len(drawn) + 1)
+        drawn[at:at] = draw.choice([["--at", value], ["--at", value], ["--csv", value], ["--csv"], ["--to", value]])
+    return [draw.choice(["report", "why"]), *drawn]
+
+
 def check_words(program, draw, count):
     """The program's words, with a file that is no scenario and no session, and one that is not there."""
     with file_of(b"\n") as name, tempfile.TemporaryDirectory() as nowhere:
         for _ in range(count):
-            drawn = [draw.choice(["console", "run", "check", "diff", "replay", "migrate", "help", name, f"{name}.none", "", "Run",
-                                  "sum", "0"])
+            drawn = [draw.choice(["console", "run", "check", "diff", "replay", "migrate", "report", "why", "help", name, name,
+                                  f"{name}.none", "", "Run", "sum", "0"])
                      for _ in range(draw.choice([0, 1, 1, 2, 2, 2, 3]))]
+            if draw.random() < 0.4:
+                drawn = asked_of_session(draw, name)
             found = reader.file_of_words(drawn)
             if found is None:
                 wanted = Told(2, b"", b"wrong words\n")

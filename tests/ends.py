@@ -15,6 +15,7 @@ from contextlib import ExitStack
 import console
 import preloaded
 import reader
+import reports
 import rows
 import words
 from console import Console
@@ -83,6 +84,11 @@ def is_front_of_session(text):
     whole = console.bytes_of(plain.session())
     before_end = whole[:whole.rindex(b"end ")]
     return before_end.startswith(text) or text.startswith(before_end) and b"\n" not in text[len(before_end):]
+
+
+def report_of(name):
+    """What the plain report tells of the written session in a file."""
+    return reports.told(reader.session_of(words.SESSION), ["report", name]).out
 
 
 def check_run_calls(faults, program, scenario, step):
@@ -200,7 +206,8 @@ def closed(program, asked, shell, given=b""):
 
 def check_closed(program, session):
     """Standard streams that are closed when the program begins."""
-    for asked in ([], ["check", session], ["diff", session], ["replay", session], ["migrate", session], ["help"]):
+    for asked in ([], ["check", session], ["diff", session], ["replay", session], ["migrate", session], ["report", session],
+                  ["why", session, "200"], ["help"]):
         expect(f"{asked} with no output", WRITE_FAULT, closed(program, asked, ">&-", b"sum\n"))
         told = closed(program, asked, "2>&-", b"sum\n")
         expect(f"{asked} with nowhere to tell faults", ask(program, asked, b"sum\n"), told)
@@ -247,6 +254,7 @@ def check_failing_calls(program, tried, step):
                          Case("diff FILE", ["diff", session], b"", b"same 3\n", {0}),
                          Case("replay FILE", ["replay", session], b"", words.REPLAYED, {0}),
                          Case("migrate FILE", ["migrate", session], b"", words.SESSION, {0}),
+                         Case("report FILE", ["report", session], b"", report_of(session), {0}),
                          Case("console FILE", ["console", scenario], b"", b"", {0})):
                 count += check_file(faults, program, case, case.name == "check FILE" or step == 1)
             count += check_run_calls(faults, program, scenario, 60 * step)
@@ -258,7 +266,8 @@ def check(program, is_long):
     for row in rows.all_rows():
         check_person(program, row)
     other, difference = words.DIFFERENCES[0]
-    with file_of(words.SESSION) as session, file_of(words.SCENARIO) as scenario, file_of(other) as differs:
+    with (file_of(words.SESSION) as session, file_of(words.SCENARIO) as scenario, file_of(other) as differs,
+          file_of(reports.LIVES) as lives):
         for row in tried:
             check_cut(program, row, 1 if is_long else 5)
             check_nobody_reads(program, row)
@@ -268,11 +277,15 @@ def check(program, is_long):
         check_small_disk(program, ["migrate", session], b"", words.SESSION, range(len(words.SESSION) + 2))
         check_small_disk(program, ["check", session], b"", b"same 3\n", range(9))
         check_small_disk(program, ["diff", differs], b"", difference, range(len(difference) + 2), 1)
-        check_small_disk(program, ["help"], b"", ask(program, ["help"]).out, range(0, 2000, 99))
+        for asked, right in ((["report", lives, "--at", "new"], reports.REPORT), (["why", lives, "0", "2", "--at", "8"], reports.WHY)):
+            check_small_disk(program, asked, b"", right, range(0, len(right) + 2, 1 if is_long else 29))
+        check_small_disk(program, ["help"], b"", ask(program, ["help"]).out, range(0, 2500, 99))
         check_full(program, ["replay", session], b"")
         check_full(program, ["migrate", session], b"")
         check_full(program, ["check", session], b"")
         check_full(program, ["diff", differs], b"")
+        check_full(program, ["report", session], b"")
+        check_full(program, ["why", lives, "0", "--at", "8"], b"")
         check_full(program, ["help"], b"")
         check_no_input(program)
         check_closed(program, session)

@@ -10,6 +10,7 @@ from contextlib import ExitStack, contextmanager
 import console
 import preloaded
 import reader
+import reports
 import rows
 import streams
 import words
@@ -59,7 +60,7 @@ def sweep_case(faults, program, case):
 @contextmanager
 def cases_of_files():
     """Sessions and scenarios, good ones and such that are refused."""
-    texts = {"session": words.SESSION, "old": words.OLD_SESSION, "short": words.SHORT, "scenario": words.SCENARIO,
+    texts = {"lives": reports.LIVES, "session": words.SESSION, "old": words.OLD_SESSION, "short": words.SHORT, "scenario": words.SCENARIO,
              "other": words.changed(words.SHORT, b"3/20", b"3/21"), "cut": words.changed(words.SHORT, b"end 2\n", b""),
              "strange": words.changed(words.SCENARIO, b"slots = 3", b"slots = 3\ncolour = 1"), "no_toml": words.NO_TOML[0]}
     with ExitStack() as stack:
@@ -73,6 +74,12 @@ def cases_of_files():
             Case("check of a cut one", ["check", names["cut"]], b"", b"", {0}, 1, b"bad line 7\n"),
             Case("migration", ["migrate", names["old"]], b"", words.in_version_2(words.OLD_SESSION), {0}),
             Case("migration of another", ["migrate", names["other"]], b"", b"differs 1\n", {0}, 1),
+            Case("report", ["report", names["lives"], "--at", "new"], b"", reports.REPORT, {0}),
+            Case("table of losses", ["report", names["lives"], "--csv", "losses"], b"", reports.LOSSES, {0}),
+            Case("why", ["why", names["lives"], "0", "2", "--at", "8"], b"", reports.WHY, {0}),
+            Case("report of another", ["report", names["other"]], b"", b"", {0}, 1, b"differs 1\n"),
+            Case("report of no node", ["report", names["lives"], "--at", "older"], b"", b"", {0}, 1, b"no 23 NoSuchName\n"),
+            Case("why of no page", ["why", names["lives"], "0", "3"], b"", b"", {0}, 1, b"no 7 OutOfRange\n"),
             Case("replay", ["replay", names["session"]], b"", words.REPLAYED, lines_of(words.REPLAYED)),
             Case("replay of a short one", ["replay", names["short"]], b"", words.SHORT_REPLAYED, lines_of(words.SHORT_REPLAYED)),
             Case("console FILE", ["console", names["scenario"]], b"", b"", {0}),

@@ -326,11 +326,40 @@ def told_of_scenario(data):
         return f"bad key {key}", None
 
 
+OPTIONS = {"report": ["--at", "--csv"], "why": ["--at"]}  # of the words that ask about a session, each with a word behind it
+TABLES = ["losses", "guests", "site"]
+
+
+def is_option(name, field):
+    """Whether a field may stand behind an option: the number or the name of a node, or a table."""
+    return field in TABLES if name == "--csv" else is_field(NUMBER, field, NEW) or is_field("name", field, NEW)
+
+
+def question_of_words(word, words):
+    """The file that is asked about, what is asked of it and the options, as fields behind their names; none if the words are wrong."""
+    left, options, words = [], {}, list(words)
+    while words:
+        field = words.pop(0)
+        if not field.startswith("-"):
+            left.append(field)
+        elif field in OPTIONS[word] and field not in options and words and is_option(field, words[0]):
+            options[field] = words.pop(0)
+        else:
+            return None
+    file, *asked = left or [None]
+    is_good = file is not None and len(asked) in ((1, 2) if word == "why" else (0,))
+    return (file, asked, options) if is_good and all(is_field(NUMBER, one, NEW) for one in asked) else None
+
+
 def file_of_words(words):
-    """The command and the file, if any, that the program's words name; none if they are wrong. No word begins with `-`."""
+    """The command and the file, if any, that the program's words name; none if they are wrong."""
     if not words:
         return "console", None
+    if words[0] in OPTIONS:
+        asked = question_of_words(words[0], words[1:])
+        return asked and (words[0], asked[0])
     takes_none, takes_one = words[0] in ("console", "help"), words[0] in ("console", "run", "check", "diff", "replay", "migrate")
-    if len(words) == 1 and takes_none or len(words) == 2 and takes_one:
+    is_plain = not any(word.startswith("-") for word in words)
+    if is_plain and (len(words) == 1 and takes_none or len(words) == 2 and takes_one):
         return words[0], words[1] if len(words) == 2 else None
     return None

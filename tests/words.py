@@ -55,6 +55,17 @@ at 1 depth 1 jumps 0
  31 starting       3       4       4       0       0       0      40   65536
 overhead 0 private 0 shared 0 free 9 high
 """
+# Words that ask nothing of a session: `a` is not looked for.
+WRONG_QUESTIONS = [words.split(" ") for words in (
+    "report", "report --at 0", "report a b", "report a 0", "report a --at", "report a --csv", "report a --csv changes",
+    "report a --csv Losses", "report a --csv losses,site", "report a --csv 0", "report a --csv ", "report a --at 0 --at 0",
+    "report a --csv site --csv site", "report --at 0 a --at 1", "report a --at 01", "report a --at 4294967296", "report a --at +1",
+    "report a --at 1a", "report a --at Top", "report a --at _a", "report a --at a.b", "report a --at " + "z" * 33, "report a --at ",
+    "report a --at --csv site", "report a --csv --at 0", "report a --to 0", "report a -a 0", "report --help", "Report a", "reports a",
+    "why", "why a", "why 0", "why a --at 0", "why a 0 1 2", "why a x", "why a 00", "why a 01", "why a +1", "why a 4294967296",
+    "why a 0 x", "why a 0 01", "why a 0 4294967296", "why a 0 ", "why a  0", "why a 0 --csv losses", "why a 0 --at",
+    "why a 0 --at 0 --at 0", "why a 0 --at 01", "why a 0 --at Top", "why a 0 0 --at 4294967296", "why --help", "Why a 0",
+    "check a --at 0", "replay a --csv site", "console --at 0", "console a --at 0", "--at 0 report a", "--csv site report a")]
 RUN_SITE = "frames 9 page 32 slots 3 tau 75 levels 6 4 2 1 nodes 16777216"
 ENDS = b"guest 200 done\nsharer turns\nswapper turns\npolicy turns\n"
 SHORT = b"""esx session 2
@@ -296,11 +307,15 @@ def refuses(program, words, status, told):
 def check_words(program, folder):
     for words in (["serve"], ["run"], ["check"], ["diff"], ["replay"], ["migrate"], ["--help"], ["-h"], ["--version"],
                   ["console", "a", "b"], ["check", "a", "b"], ["diff", "a", "b"], ["migrate", "a", "b"], ["help", "a"], ["help", "help"],
-                  ["help", "check"], ["help", "--help"], ["sum"], ["Console"], ["Help"], [""], ["--", "--help"], ["--", "help"]):
+                  ["help", "check"], ["help", "--help"], ["sum"], ["Console"], ["Help"], [""], ["--", "--help"], ["--", "help"],
+                  *WRONG_QUESTIONS):
         expect(" ".join(words), WRONG_WORDS, ask(program, words))
-    for words in (["console"], ["run"], ["check"], ["diff"], ["replay"], ["migrate"]):
-        refuses(program, [*words, f"{folder}/none"], 1, b"read fault\n")
-        refuses(program, [*words, folder], 1, b"read fault\n")
+        if reader.file_of_words(words) is not None:
+            raise Wrong(f"the plain reader takes {words}")
+    for words in (["console"], ["run"], ["check"], ["diff"], ["replay"], ["migrate"], ["report"], ["why"]):
+        more = ["0"] if words == ["why"] else []
+        refuses(program, [*words, f"{folder}/none", *more], 1, b"read fault\n")
+        refuses(program, [*words, folder, *more], 1, b"read fault\n")
     nobody = Told(0, b"overhead 0 private 0 shared 0 free 20 high\n", b"")
     for words in ([], ["console"], ["--"], ["console", "--"]):
         expect(f"sum, with {words}", nobody, ask(program, words, b"sum\n"))
@@ -320,7 +335,9 @@ def check_help(program):
         if name != "esxplan" or line.split()[0] != found or not example.startswith(" ") or not is_there:
             raise Wrong(f"help says {line!r}, with {example!r}")
         written |= {*re.findall(">([^ ]+)", example)}
-    if {line.split()[0] for line in lines[::2]} != {"console", "run", "check", "diff", "replay", "migrate", "help"}:
+        if len(line) > 100:
+            raise Wrong(f"help has a line of {len(line)} columns")
+    if {line.split()[0] for line in lines[::2]} != {"console", "run", "check", "diff", "replay", "migrate", "report", "why", "help"}:
         raise Wrong(f"help has other words: {told!r}")
 
 
@@ -354,8 +371,8 @@ def check_sessions(program):
             expect(f"diff of {text!r}", Told(1, out, b""), ask(program, ["diff", name]))
     for text, line in BAD_LINES:
         with file_of(text) as name:
-            for word in ("check", "diff", "replay", "migrate"):
-                refuses(program, [word, name], 1, b"bad line %d\n" % line)
+            for words in (["check", name], ["diff", name], ["replay", name], ["migrate", name], ["report", name], ["why", name, "0"]):
+                refuses(program, words, 1, b"bad line %d\n" % line)
     for text in (SESSION, OLD_SESSION, SHORT):
         for end in range(len(text) - 1):
             with file_of(text[:end]) as name:
@@ -381,9 +398,10 @@ def check_scenarios(program):
     for text in NO_TOML:
         with file_of(text) as name:
             refuses(program, ["console", name], 1, b"bad toml\n")
-    for word in ("console", "run", "check", "diff", "replay", "migrate"):
-        with file_of(b"esx \xff\n") as name:
-            refuses(program, [word, name], 1, b"bad text\n")
+    with file_of(b"esx \xff\n") as name:
+        for words in (["console", name], ["run", name], ["check", name], ["diff", name], ["replay", name], ["migrate", name],
+                      ["report", name], ["why", name, "0"]):
+            refuses(program, words, 1, b"bad text\n")
     with file_of(changed(SCENARIO, b"min = 3", b"min = 8").replace(b"max = 4", b"max = 9")) as name:
         refuses(program, ["run", name], 1, b"no 4 NoMemoryReserve\n")
     with file_of(changed(SCENARIO, b"slots = 3", b"slots = 0")) as name:
