@@ -3,14 +3,14 @@
 ghost use Rattle.std.specs.Prelude.{◌≡◌, ◌≤◌};
 
 use esx_report::{
-    Extreme, Guest, LevelLosses, LevelSums, Opened, PathSums, SiteSums, put_end_values,
-    put_entered_value, put_events_value, put_extreme_values, put_first_level, put_free, put_guest,
-    put_guest_head, put_guest_heading, put_guest_line, put_guests_note, put_guests_title,
-    put_level, put_level_losses, put_level_losses_heading, put_losses_heading, put_opened,
-    put_pages, put_path, put_path_values, put_refused_value, put_report_end, put_report_head,
-    put_saved, put_site_head, put_site_heading, put_slots,
+    Opened, PathSums, put_end_values, put_entered_value, put_events_value, put_extreme_values,
+    put_first_level, put_free, put_guest, put_guest_head, put_guest_heading, put_guest_line,
+    put_guests_note, put_guests_title, put_level, put_level_losses, put_level_losses_heading,
+    put_losses_heading, put_opened, put_pages, put_path, put_path_values, put_refused_value,
+    put_report_end, put_report_head, put_saved, put_site_head, put_site_heading, put_slots,
 };
 use esx_story::Counts;
+use esx_sums::{Extreme, Guest, LevelLosses, LevelSums, SiteSums};
 use esx_types::{Level, MemorySink, Sink, SinkFailed, VmId};
 use esx_writing::{AnswerBuffer, write_held};
 use std::alloc::Global;
