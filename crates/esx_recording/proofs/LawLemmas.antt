@@ -1,0 +1,78 @@
+-- The lines of a text, one behind the other.
+use Rattle.std.proofs.Common.{◌≡◌, ℕ, Bool, true, false, List, [], ◌∷◌, ◌++◌, ◌<◌, ◌^◌, ◌==◌, if◌then◌else◌, refl, sym, ◌∙◌, ap, append_assoc, arith, codes, decimal}
+use Rattle.std.specs.List.{AllByRecursion, filter, flat_map}
+use Rattle.std.proofs.lemmas.List.Elements.{recursion_from_All}
+use Rattle.std.proofs.lemmas.Fmt.{decimal_by_steps}
+use Rattle.esx_text.specs.Answers.{unknown_text}
+use Rattle.esx_text.specs.Lines.{HasNoFeed}
+use Rattle.esx_recording.specs.declared.place.Place.{Place}
+use Rattle.esx_recording.specs.declared.place.Place.TheVariants.{Start}
+use Rattle.esx_recording.specs.Laws.{KeepsQuestions, asks}
+use Rattle.esx_recording.specs.Questions.{IsOfOneLine, kept_at, kept_in, line_begun, place_after, question_lines, question_lines_from}
+use Rattle.esx_recording.proofs.QuestionLemmas.{lines_joined, of_one_line, place_behind_more}
+
+-- no line feed stands in the bytes
+abbrev Lacks : List ℕ → Type 0
+Lacks = AllByRecursion (λ b. b ≡ 10 → ⊥)
+
+of_one : (bytes : List ℕ) → Lacks bytes → IsOfOneLine bytes
+of_one [] lacks = tt
+of_one (b ∷ []) lacks = tt
+of_one (b ∷ c ∷ bs) (no_feed, others) = (no_feed, of_one (c ∷ bs) others)
+
+-- a line and its feed
+of_one_ended : (bytes : List ℕ) → Lacks bytes → IsOfOneLine (bytes ++ 10 ∷ [])
+of_one_ended [] lacks = tt
+of_one_ended (b ∷ []) (no_feed, others) = (no_feed, tt)
+of_one_ended (b ∷ c ∷ bs) (no_feed, others) = (no_feed, of_one_ended (c ∷ bs) others)
+
+kept_begun : (begins : Bool) (bytes : List ℕ) → kept_in (line_begun begins) bytes ≡ (if begins then bytes else [])
+kept_begun true bytes = refl
+kept_begun false bytes = refl
+
+kept_rest : (bytes : List ℕ) → kept_at Start bytes ≡ (if asks bytes then bytes else [])
+kept_rest [] = refl
+kept_rest (b ∷ bs) = kept_begun (b == 63) (b ∷ bs)
+
+kept_ended : (bytes : List ℕ) → kept_at Start (bytes ++ 10 ∷ []) ≡ (if asks bytes then bytes ++ 10 ∷ [] else [])
+kept_ended [] = refl
+kept_ended (b ∷ bs) = kept_begun (b == 63) (b ∷ bs ++ 10 ∷ [])
+
+-- a first line, and a text behind it
+first_kept : (line more : List ℕ) → Lacks line → question_lines ((line ++ 10 ∷ []) ++ more) ≡ (if asks line then line ++ 10 ∷ [] else []) ++ question_lines more
+first_kept line more lacks =
+    lines_joined Start (line ++ 10 ∷ []) more
+    ∙ ap (λ (v : List ℕ). v ++ question_lines_from (place_after Start (line ++ 10 ∷ [])) more) (of_one_line Start (line ++ 10 ∷ []) (of_one_ended line lacks) ∙ kept_ended line)
+    ∙ ap (λ (p : Place). (if asks line then line ++ 10 ∷ [] else []) ++ question_lines_from p more) (place_behind_more line 10)
+
+filtered : (begins : Bool) (line rest : List ℕ) (others : List (List ℕ))
+    → (if begins then line ++ 10 ∷ [] else []) ++ (flat_map (λ line. line ++ 10 ∷ []) others ++ rest) ≡ flat_map (λ line. line ++ 10 ∷ []) (if begins then line ∷ others else others) ++ rest
+filtered true line rest others = sym (append_assoc (line ++ 10 ∷ []) (flat_map (λ line. line ++ 10 ∷ []) others) rest)
+filtered false line rest others = refl
+
+lines_kept : (ended : List (List ℕ)) (rest : List ℕ) → AllByRecursion HasNoFeed ended → HasNoFeed rest
+    → question_lines (flat_map (λ line. line ++ 10 ∷ []) ended ++ rest) ≡ flat_map (λ line. line ++ 10 ∷ []) (filter asks ended) ++ (if asks rest then rest else [])
+lines_kept [] rest each last = of_one_line Start rest (of_one rest (recursion_from_All (λ b. b ≡ 10 → ⊥) rest last)) ∙ kept_rest rest
+lines_kept (line ∷ ended) rest (here, each) last =
+    ap question_lines (append_assoc (line ++ 10 ∷ []) (flat_map (λ line. line ++ 10 ∷ []) ended) rest)
+    ∙ first_kept line (flat_map (λ line. line ++ 10 ∷ []) ended ++ rest) (recursion_from_All (λ b. b ≡ 10 → ⊥) line here)
+    ∙ ap (λ (v : List ℕ). (if asks line then line ++ 10 ∷ [] else []) ++ v) (lines_kept ended rest each last)
+    ∙ filtered (asks line) line (if asks rest then rest else []) (filter asks ended)
+
+pub keeps_questions : (text : List ℕ) → KeepsQuestions text
+keeps_questions text ended rest e = rw e.whole (lines_kept ended rest (recursion_from_All HasNoFeed ended e.each) e.last)
+
+lacks_more : (bytes more : List ℕ) → Lacks bytes → Lacks more → Lacks (bytes ++ more)
+lacks_more [] more lacks others = others
+lacks_more (b ∷ bs) more (no_feed, lacks) others = (no_feed, lacks_more bs more lacks others)
+
+number_lacks : (n : ℕ) → n < 2 ^ 64 → Lacks (decimal n)
+number_lacks = decimal_by_steps (λ n digits. Lacks digits) (λ n small. (λ e. omega (arith, e), tt)) (λ n digits large lacks. lacks_more digits _ lacks (λ e. omega (arith, e), tt))
+
+-- the words before the number
+words_lack : Lacks (codes "? line ")
+words_lack = (λ e. omega (arith, e), (λ e. omega (arith, e), (λ e. omega (arith, e), (λ e. omega (arith, e), (λ e. omega (arith, e), (λ e. omega (arith, e), (λ e. omega (arith, e), tt)))))))
+
+pub keeps_unknown : (number : ℕ) → number < 2 ^ 64 → question_lines (unknown_text number) ≡ unknown_text number
+keeps_unknown number small =
+    of_one_line Start (unknown_text number) (of_one_ended (codes "? line " ++ decimal number) (lacks_more (codes "? line ") (decimal number) words_lack (number_lacks number small)))

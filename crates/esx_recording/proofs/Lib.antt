@@ -1,0 +1,3 @@
+pub mod QuestionLemmas
+pub mod RecordingLemmas
+pub mod LawLemmas
