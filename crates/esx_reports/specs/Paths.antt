@@ -4,8 +4,9 @@ use Rattle.esx_types.specs.declared.config.Config.{Config}
 use Rattle.esx_events.specs.declared.event.Refusal.{Refusal}
 use Rattle.esx_events.specs.declared.event.Refusal.TheVariants.{OutOfMemory}
 use Rattle.esx_model.specs.Console.{Session, history}
+use Rattle.esx_reading.specs.declared.fault.TextFault.TheVariants as faults
 use Rattle.esx_session.specs.declared.session.Entry.{Entry}
-use Rattle.esx_session.specs.Sessions.{Reads, IsRefused}
+use Rattle.esx_session.specs.Sessions.{Reads, HasOpening, IsRefused}
 use Rattle.esx_check.specs.declared.check.Checked.TheVariants as checked
 use Rattle.esx_check.specs.declared.fault.OutputFault.TheVariants as output
 use Rattle.esx_check.specs.Again.{made}
@@ -44,8 +45,9 @@ HasNoNode s at (Refused refusal) = node_at at (history s) ≡ Err refusal
 HasNoNode s at (Output output.OutOfMemory) = IsOk (node_at at (history s))
 HasNoNode s at _ = ⊥
 
--- the text is no session, or not a true one, or no such node is meant of it, or memory ran out where one is
+-- the text is no session, or memory ran out as one was checked; or it is not a true one, or no such node is meant of it, or memory ran out where one is
 abbrev pub HasNoPath : List ℕ → At → ReportFault → Type 0
+HasNoPath text at (Text faults.OutOfMemory) = HasOpening text
 HasNoPath text at (Text e) = IsRefused e text
 HasNoPath text at (Differs number) = ChecksText text (checked.Differs number)
 HasNoPath text at (Refused refusal) = (site : Config) × (entries : List Entry) × IsTrueSession text site entries × (node_at at (history (made site entries)) ≡ Err refusal)

@@ -20,8 +20,8 @@ use std::alloc::Global;
 /// The answer to a question about the session of a text. The session is checked first; before each of its calls that is made
 /// again the gate is passed.
 ///
-/// The path to the node that is meant is told, whatever was pruned since. Two passes go over the text; beside it and the
-/// tables of the site there are 12 bytes for each node, and a row for each call that was refused and for each loss.
+/// The path to the node that is meant is told, whatever was pruned since. Two passes go over the text; beside it and the tables
+/// of the site there are 24 bytes for each node, a row for each call that was refused and each loss, and the calls themselves.
 pub fn answer_of<G: Gate>(
     alloc: Global,
     text: &str,
