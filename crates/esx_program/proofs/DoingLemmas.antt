@@ -1,6 +1,7 @@
 -- What is done with a file and with streams, by the word that asks for it.
-use Rattle.std.proofs.Common.{◌≡◌, ◌⊎◌, ap, ◌+◌, ℕ, List, [], Option, Some, None, Result, Ok, Err, refl, inl, inr, arith}
+use Rattle.std.proofs.Common.{◌≡◌, ◌⊎◌, ap, subst, cond, nat_le, length, Bool, true, false, ◌+◌, ℕ, List, [], Option, Some, None, Result, Ok, Err, refl, inl, inr, arith}
 use Rattle.std.specs.Prelude.{codes, IsSome}
+use Rattle.std.specs.Option.{ok_or}
 use Rattle.std.specs.Result.{IfOk, IfErr, IsErrOf, OnOk}
 use Rattle.std.specs.IoError.{error_kind}
 use Rattle.std.specs.Io.KnownBytes.{Appends}
@@ -15,6 +16,16 @@ use Rattle.esx_text.specs.States.{SinkState, SourceState}
 use Rattle.esx_check.specs.Replays.{replay_text, write_faults}
 use Rattle.esx_check.specs.declared.fault.OutputFault.{OutputFault}
 use Rattle.esx_check.specs.declared.fault.OutputFault.TheVariants as output
+use Rattle.esx_events.specs.declared.event.Refusal.{Refusal}
+use Rattle.esx_events.specs.declared.event.Refusal.TheVariants as refusals
+use Rattle.esx_model.specs.History.{History}
+use Rattle.esx_model.specs.Console.{history}
+use Rattle.esx_check.specs.Again.{made}
+use Rattle.esx_paths.specs.declared.at.At.{At}
+use Rattle.esx_paths.specs.declared.at.At.TheVariants.{End, Node, Name}
+use Rattle.esx_paths.specs.declared.path.Path.{Path}
+use Rattle.esx_paths.specs.Ats.{node_at}
+use Rattle.esx_reports.specs.declared.fault.ReportFault.{ReportFault}
 use Rattle.esx_reports.specs.declared.fault.ReportFault.TheVariants as report
 use Rattle.esx_reports.specs.declared.question.Question.{Question}
 use Rattle.esx_reports.specs.declared.question.What.{What}
@@ -26,13 +37,15 @@ use Rattle.esx_program.specs.declared.Done.TheVariants.{Served, Ran, Replayed, C
 use Rattle.esx_program.specs.declared.Failure.{Failure}
 use Rattle.esx_program.specs.declared.Failure.TheVariants.{Words, Text, Serve, Output, Run, Report}
 use Rattle.esx_program.specs.Doing.{Does, EndsCheck, EndsDiff, LacksSite}
+use Rattle.esx_reports.specs.Answers.{HasNoAnswer, LacksPage}
+use Rattle.esx_reports.specs.Telling.{IsUnanswered}
 use Rattle.esx_program.specs.Reporting.{EndsReport, TellsAnswer, TellsNoAnswer}
-use Rattle.esx_program.specs.Failing.{MayFail, WantsSession}
+use Rattle.esx_program.specs.Failing.{AnswersQuestion, LacksAnswer, MayFail, WantsSession}
 use Rattle.esx_program.specs.Files.{HasText, HasLongText, LacksCheck, LacksLongText, LacksScenario, LacksSession, Opened}
 use Rattle.esx_program.specs.Given.{open_fault}
 use Rattle.esx_program.specs.Sessions.{GivenOut, IsNotReplayed, IsReplayed, ReplayEnds}
 use Rattle.esx_program.specs.Status.{IsNotChecked, TellsCheck, TellsDiff, TellsNoCheck, TellsNoDiff, word_of_done, word_of_what}
-use Rattle.esx_program.specs.Words.{asked_of}
+use Rattle.esx_program.specs.Words.{asked_of, question_of}
 use Rattle.esx_program.proofs.FileLemmas.{text_refused}
 use Rattle.esx_program.proofs.SessionLemmas.{faults_of}
 
@@ -96,6 +109,86 @@ asks_question : (what : What) → (word_of_what what ≡ codes "report") ⊎ (wo
 asks_question whats.Report = inl refl
 asks_question (whats.Table table) = inl refl
 asks_question (whats.Why vm page) = inr refl
+
+-- Why a question has no answer.
+
+no_name : (o : Option ℕ) (r : Refusal) (word : Word) → ok_or o refusals.NoSuchName ≡ Err r → LacksAnswer word (report.Refused r)
+no_name None r word is = (let same : refusals.NoSuchName ≡ r = cc in subst (λ (e : Refusal). LacksAnswer word (report.Refused e)) same tt)
+no_name (Some n) r word is = cc
+
+no_node : (at : At) (h : History) (r : Refusal) (word : Word) → node_at at h ≡ Err r → LacksAnswer word (report.Refused r)
+no_node End h r word is = cc
+no_node (Node n) h r word is = of (nat_le n (length h.nodes)) is
+  where
+    of : (b : Bool) → cond b (Ok n) (Err refusals.NoSuchNode) ≡ Err r → LacksAnswer word (report.Refused r)
+    of true is = cc
+    of false is = (let same : refusals.NoSuchNode ≡ r = cc in subst (λ (e : Refusal). LacksAnswer word (report.Refused e)) same tt)
+no_node (Name name) h r word is = no_name _ r word is
+
+no_page : (site : Config) (entries : List Entry) (way : Path) (vm : ℕ) (page : Option ℕ) (r : Refusal) → LacksPage site entries way vm page r → LacksAnswer (codes "why") (report.Refused r)
+no_page site entries way vm page refusals.NoVm is = refl
+no_page site entries way vm page refusals.VmThere is = absurd is
+no_page site entries way vm page refusals.BadSpec is = absurd is
+no_page site entries way vm page refusals.NoMemoryReserve is = absurd is
+no_page site entries way vm page refusals.NoSwapReserve is = absurd is
+no_page site entries way vm page refusals.NotRunning is = absurd is
+no_page site entries way vm page refusals.OutOfRange is = refl
+no_page site entries way vm page refusals.Held is = absurd is
+no_page site entries way vm page refusals.Short is = absurd is
+no_page site entries way vm page refusals.OverGoal is = absurd is
+no_page site entries way vm page refusals.NotLent is = absurd is
+no_page site entries way vm page refusals.LentAlready is = absurd is
+no_page site entries way vm page (refusals.NotNow level) is = absurd is
+no_page site entries way vm page refusals.AtTarget is = absurd is
+no_page site entries way vm page refusals.NotResident is = absurd is
+no_page site entries way vm page refusals.BadWords is = absurd is
+no_page site entries way vm page refusals.NotNeeded is = absurd is
+no_page site entries way vm page refusals.PagesLeft is = absurd is
+no_page site entries way vm page refusals.NothingToUndo is = absurd is
+no_page site entries way vm page refusals.NothingToRedo is = absurd is
+no_page site entries way vm page refusals.NoSuchNode is = tt
+no_page site entries way vm page refusals.NameTaken is = absurd is
+no_page site entries way vm page refusals.NoSuchName is = tt
+no_page site entries way vm page refusals.OnPath is = absurd is
+no_page site entries way vm page refusals.Full is = absurd is
+no_page site entries way vm page refusals.OutOfMemory is = absurd is
+no_page site entries way vm page refusals.SampleOpen is = absurd is
+
+no_answer : (what : What) (site : Config) (entries : List Entry) (way : Path) (r : Refusal) → HasNoAnswer what site entries way (report.Refused r) → LacksAnswer (word_of_what what) (report.Refused r)
+no_answer whats.Report site entries way r is = cc
+no_answer (whats.Table table) site entries way r is = cc
+no_answer (whats.Why vm page) site entries way r is = no_page site entries way vm page r is
+
+no_text_lacked : (what : What) (site : Config) (entries : List Entry) (way : Path) (e : TextFault) → HasNoAnswer what site entries way (report.Text e) → ⊥
+no_text_lacked whats.Report site entries way e is = cc
+no_text_lacked (whats.Table table) site entries way e is = cc
+no_text_lacked (whats.Why vm page) site entries way e is = cc
+
+text_may_lack : (q : Question) (bytes : List ℕ) (e : TextFault) → IsUnanswered bytes q (report.Text e) → LacksAnswer (word_of_what q.what) (report.Text e)
+text_may_lack q bytes text.NotToml (inl none) = absurd none
+text_may_lack q bytes text.NotToml (inr lacks) = absurd (no_text_lacked q.what lacks.meant.site lacks.meant.entries lacks.way text.NotToml lacks.none)
+text_may_lack q bytes (text.BadKey path) (inl none) = absurd none
+text_may_lack q bytes (text.BadKey path) (inr lacks) = absurd (no_text_lacked q.what lacks.meant.site lacks.meant.entries lacks.way (text.BadKey path) lacks.none)
+text_may_lack q bytes text.NotText (inl none) = absurd none
+text_may_lack q bytes text.NotText (inr lacks) = absurd (no_text_lacked q.what lacks.meant.site lacks.meant.entries lacks.way text.NotText lacks.none)
+text_may_lack q bytes (text.Differs k) (inl none) = absurd none
+text_may_lack q bytes (text.Differs k) (inr lacks) = absurd (no_text_lacked q.what lacks.meant.site lacks.meant.entries lacks.way (text.Differs k) lacks.none)
+text_may_lack q bytes text.Read (inl none) = absurd none
+text_may_lack q bytes text.Read (inr lacks) = absurd (no_text_lacked q.what lacks.meant.site lacks.meant.entries lacks.way text.Read lacks.none)
+text_may_lack q bytes text.Write (inl none) = absurd none
+text_may_lack q bytes text.Write (inr lacks) = absurd (no_text_lacked q.what lacks.meant.site lacks.meant.entries lacks.way text.Write lacks.none)
+text_may_lack q bytes (text.BadLine n) none = tt
+text_may_lack q bytes text.OutOfMemory none = tt
+
+refusal_may_lack : (q : Question) (bytes : List ℕ) (r : Refusal) → IsUnanswered bytes q (report.Refused r) → LacksAnswer (word_of_what q.what) (report.Refused r)
+refusal_may_lack q bytes r (inl none) = no_node q.at (history (made none.0 none.1)) r (word_of_what q.what) none.3
+refusal_may_lack q bytes r (inr lacks) = no_answer q.what lacks.meant.site lacks.meant.entries lacks.way r lacks.none
+
+may_lack : (q : Question) (bytes : List ℕ) (e : ReportFault) (out out' : SinkState) → TellsNoAnswer bytes q (Report e) out out' → LacksAnswer (word_of_what q.what) e
+may_lack q bytes (report.Text e) out out' none = text_may_lack q bytes e none.0
+may_lack q bytes (report.Differs number) out out' none = tt
+may_lack q bytes (report.Refused r) out out' none = refusal_may_lack q bytes r none.0
+may_lack q bytes (report.Output e) out out' none = tt
 
 no_site_may_fail : (file : Option Opened) (e : TextFault) → LacksSite file e → MayFail {A = Opened} (codes "console", file) (Text e)
 no_site_may_fail None e n = absurd n
@@ -171,6 +264,26 @@ module _ (unread left : SourceState) (errors errors' out out' : SinkState) where
   does_word Help (Ok Helped) d = refl
   does_word asked (Err e) d = tt
 
+  -- and a question that was answered is the one that was asked
+  pub does_question : (asked : Asked Opened) (ended : Result Done Failure) → Does asked ended unread left errors errors' out out'
+      → IfOk ended (λ done. AnswersQuestion done (question_of asked))
+  does_question asked (Ok Served) d = tt
+  does_question asked (Ok Ran) d = tt
+  does_question asked (Ok Replayed) d = tt
+  does_question asked (Ok (Checked c)) d = tt
+  does_question asked (Ok (Compared c)) d = tt
+  does_question asked (Ok (Migrated c)) d = tt
+  does_question asked (Ok Helped) d = tt
+  does_question (Console file) (Ok (Answered what)) d = absurd d.0
+  does_question (RunOf file) (Ok (Answered what)) d = absurd d.0
+  does_question (Replay file) (Ok (Answered what)) d = absurd d.0
+  does_question (Check file) (Ok (Answered what)) d = absurd d.0
+  does_question (Diff file) (Ok (Answered what)) d = absurd d.0
+  does_question (Migrate file) (Ok (Answered what)) d = absurd d.0
+  does_question Help (Ok (Answered what)) d = absurd d.0
+  does_question (ReportOf file q) (Ok (Answered what)) d = d.0.2.0
+  does_question asked (Err e) d = tt
+
   -- it fails only as that may fail
   pub does_fail : (asked : Asked Opened) (ended : Result Done Failure) → Does asked ended unread left errors errors' out out'
       → IfErr ended (MayFail (asked_of asked))
@@ -216,7 +329,7 @@ module _ (unread left : SourceState) (errors errors' out out' : SinkState) where
   does_fail (ReportOf file q) (Err (Serve e)) d = absurd d.0
   does_fail (ReportOf file q) (Err (Output e)) d = absurd d.0
   does_fail (ReportOf file q) (Err (Run e)) d = absurd d.0
-  does_fail (ReportOf file q) (Err (Report e)) d = asks_question q.what
+  does_fail (ReportOf file q) (Err (Report e)) d = (asks_question q.what, may_lack q d.0.0 e out out' d.0.2)
   does_fail Help (Err Words) d = absurd d.0
   does_fail Help (Err (Text e)) d = absurd d.0
   does_fail Help (Err (Serve e)) d = absurd d.0

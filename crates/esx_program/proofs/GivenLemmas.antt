@@ -1,5 +1,5 @@
 -- What is done where the program is given words.
-use Rattle.std.proofs.Common.{◌≡◌, ◌∙◌, ◌⊎◌, ℕ, List, Option, None, Result, Ok, Err, refl, subst, inr, false, map, string_bytes}
+use Rattle.std.proofs.Common.{◌≡◌, ◌∙◌, ◌⊎◌, ℕ, List, Option, None, Result, Ok, Err, refl, subst, sym, inr, false, map, string_bytes}
 use Rattle.std.specs.Prelude.{String, Vec}
 use Rattle.std.specs.Result.{IfOk, IfErr}
 use Rattle.std.specs.IoError.{error_kind}
@@ -11,15 +11,24 @@ use Rattle.esx_program.specs.declared.words.WordsFault.TheVariants.{Wrong, OutOf
 use Rattle.esx_program.specs.declared.Done.{Done}
 use Rattle.esx_program.specs.declared.Failure.{Failure}
 use Rattle.esx_program.specs.Doing.{AskForNothing, DoesGiven, DoesWords}
-use Rattle.esx_program.specs.Failing.{DoesAsked, EndsWith, FailsAfter, refused_as}
+use Rattle.esx_program.specs.Failing.{AnswersQuestion, Asks, DoesAsked, EndsWith, FailsAfter, refused_as}
 use Rattle.esx_program.specs.Given.{Args, GivesWords, words_failure}
-use Rattle.esx_program.specs.Words.{asked_in, program_app}
+use Rattle.esx_program.specs.Status.{word_of_done}
+use Rattle.esx_program.specs.Words.{InFull, asked_in, program_app}
 
 -- words that were refused
 pub ask_for_nothing : (words : List Word) (fault : WordsFault) → (fault ≡ Wrong → (takes program_app words ≡ false) ⊎ (asked_in words ≡ None))
     → AskForNothing words (Err (refused_as fault))
 ask_for_nothing words Wrong why = why refl
 ask_for_nothing words OutOfMemory why = tt
+
+-- what was done is what the words ask for
+pub does_asked : (r : Result Done Failure) (words : List Word) (asked : InFull) (word : Word) → Asks words asked → word ≡ asked.0 → IfOk r (λ done. word_of_done done ≡ word)
+    → IfOk r (λ done. AnswersQuestion done asked.2) → IfOk r (DoesAsked words)
+does_asked (Ok done) words asked word asks same is answers =
+    let P : Word → Type 0 = λ w. Asks words (w, asked.1, asked.2) in
+    (asked.1, asked.2, subst P (sym (is ∙ same)) asks, answers)
+does_asked (Err e) words asked word asks same is answers = tt
 
 -- the words that were given are those that are held
 module _ (words : Vec (String Global) Global) (slice : List (String Global)) (same : slice ≡ words.items) where

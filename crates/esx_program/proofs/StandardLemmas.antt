@@ -1,21 +1,22 @@
 -- Files and streams of the standard library, as sources and sinks.
-use Rattle.std.proofs.Common.{◌≡◌, ◌∙◌, List, Option, Some, None, Result, Ok, Err, refl, sym}
+use Rattle.std.proofs.Common.{◌≡◌, ◌∙◌, List, Option, Some, None, Result, Ok, Err, refl, subst, sym}
 use Rattle.std.specs.Prelude.{ℕ, IsSome}
 use Rattle.std.specs.Result.{IfErr, IfOk}
 use Rattle.std.specs.declared.io.Error.{Error}
 use Rattle.clap.specs.Words.{Text as Word}
 use Rattle.esx_reading.specs.declared.fault.TextFault.TheVariants as text
 use Rattle.esx_text.specs.States.{SinkState, SourceState}
+use Rattle.esx_reports.specs.declared.question.Question.{Question}
 use Rattle.esx_program.specs.declared.words.Asked.{Asked}
 use Rattle.esx_program.specs.declared.Done.{Done}
 use Rattle.esx_program.specs.declared.Failure.{Failure}
 use Rattle.esx_program.specs.declared.Failure.TheVariants.{Words, Text, Serve, Output, Run, Report}
 use Rattle.esx_program.specs.Doing.{Does, DoesOver}
-use Rattle.esx_program.specs.Failing.{MayFail}
+use Rattle.esx_program.specs.Failing.{AnswersQuestion, MayFail}
 use Rattle.esx_program.specs.Files.{AreLeft, IsFile, IsLeft, IsSame, MayBeLeft, Opened}
 use Rattle.esx_program.specs.Status.{word_of_done}
-use Rattle.esx_program.specs.Words.{AskAlike, MayBe, asked_of}
-use Rattle.esx_program.proofs.DoingLemmas.{does_fail, does_word}
+use Rattle.esx_program.specs.Words.{AskAlike, MayBe, asked_of, question_of}
+use Rattle.esx_program.proofs.DoingLemmas.{does_fail, does_question, does_word}
 
 -- a source of a file's bytes that was left so
 file_there : {F G : Type 0} (remaining : F → Option (List ℕ)) (given : G → Option (List ℕ)) (state : G → SourceState) → ((g : G) → (state g).remaining ≡ given g)
@@ -72,11 +73,15 @@ may_fail_so asked other word named (Text text.OutOfMemory) m = named m
 may_fail_so asked other word named (Serve e) m = sym word ∙ m
 may_fail_so asked other word named (Output e) m = rw word at m
 may_fail_so asked other word named (Run e) m = sym word ∙ m
-may_fail_so asked other word named (Report e) m = rw word at m
+may_fail_so asked other word named (Report e) m = (rw word at m.0, rw word at m.1)
 
 word_so : (r : Result Done Failure) (a b : Word) → a ≡ b → IfOk r (λ done. word_of_done done ≡ a) → IfOk r (λ done. word_of_done done ≡ b)
 word_so (Ok done) a b same w = w ∙ same
 word_so (Err e) a b same w = tt
+
+question_so : (r : Result Done Failure) (a b : Option Question) → a ≡ b → IfOk r (λ done. AnswersQuestion done a) → IfOk r (λ done. AnswersQuestion done b)
+question_so (Ok done) a b same answers = subst (AnswersQuestion done) same answers
+question_so (Err e) a b same answers = tt
 
 pub may_fail_alike : {F G : Type 0} (R : F → G → Type 0) (a : Asked F) (b : Asked G) → AskAlike R a b → (r : Result Done Failure)
     → IfErr r (MayFail (asked_of b)) → IfErr r (MayFail (asked_of a))
@@ -109,6 +114,10 @@ module _ {F : Type 0} (remaining : F → Option (List ℕ)) (wanted : Asked (Res
   -- what was done is what is asked for
   pub over_word : IfOk ended (λ done. word_of_done done ≡ (asked_of wanted).0)
   over_word = word_so ended (asked_of d.read).0 (asked_of wanted).0 d.file.word (does_word d.source d.source' d.told d.told' d.written d.written' d.read ended d.does)
+
+  -- and a question that was answered is the one that was asked
+  pub over_question : IfOk ended (λ done. AnswersQuestion done (question_of wanted))
+  over_question = question_so ended (question_of d.read) (question_of wanted) d.file.question (does_question d.source d.source' d.told d.told' d.written d.written' d.read ended d.does)
 
   -- it fails only as that may fail
   pub over_fail : IfErr ended (MayFail (asked_of wanted))

@@ -5,10 +5,14 @@ use Rattle.std.specs.Vec.Iter.{into_iter_items}
 use Rattle.std.specs.declared.io.Error.{Error}
 use Rattle.clap.specs.Words.{Text as Word, takes}
 use Rattle.esx_reading.specs.declared.fault.TextFault.TheVariants as text
+use Rattle.esx_events.specs.declared.event.Refusal.TheVariants.{NoVm, OutOfRange, NoSuchNode, NoSuchName}
+use Rattle.esx_reports.specs.declared.fault.ReportFault.{ReportFault}
+use Rattle.esx_reports.specs.declared.fault.ReportFault.TheVariants as report
 use Rattle.esx_reports.specs.declared.question.Question.{Question}
 use Rattle.esx_program.specs.declared.words.WordsFault.{WordsFault}
 use Rattle.esx_program.specs.declared.words.WordsFault.TheVariants as words
 use Rattle.esx_program.specs.declared.Done.{Done}
+use Rattle.esx_program.specs.declared.Done.TheVariants.{Answered}
 use Rattle.esx_program.specs.declared.Failure.{Failure}
 use Rattle.esx_program.specs.declared.Failure.TheVariants.{Words, Text, Serve, Output, Run, Report}
 use Rattle.esx_program.specs.Given.{Args, words_failure}
@@ -35,6 +39,18 @@ WritesText asked = WantsSession asked ⊎ (asked.0 ≡ codes "help")
 abbrev pub AsksQuestion : {A : Type 0} → Word × Option A → Type 0
 AsksQuestion asked = (asked.0 ≡ codes "report") ⊎ (asked.0 ≡ codes "why")
 
+-- how a question may have no answer: the text is no session or not a true one, no such node is meant, and where it is asked why no such guest or page
+abbrev pub LacksAnswer : Word → ReportFault → Type 0
+LacksAnswer word (report.Text (text.BadLine n)) = Unit {0}
+LacksAnswer word (report.Text text.OutOfMemory) = Unit {0}
+LacksAnswer word (report.Differs number) = Unit {0}
+LacksAnswer word (report.Refused NoSuchNode) = Unit {0}
+LacksAnswer word (report.Refused NoSuchName) = Unit {0}
+LacksAnswer word (report.Refused NoVm) = word ≡ codes "why"
+LacksAnswer word (report.Refused OutOfRange) = word ≡ codes "why"
+LacksAnswer word (report.Output e) = Unit {0}
+LacksAnswer word _ = ⊥
+
 -- how what is asked for may fail: at the file, if one is named, at the streams of a console, in a run, at a question, or where something else is written
 abbrev pub MayFail : {A : Type 0} → Word × Option A → Failure → Type 0
 MayFail asked Words = ⊥
@@ -49,7 +65,7 @@ MayFail asked (Text text.OutOfMemory) = IsSome asked.1
 MayFail asked (Serve e) = asked.0 ≡ codes "console"
 MayFail asked (Output e) = WritesText asked
 MayFail asked (Run e) = asked.0 ≡ codes "run"
-MayFail asked (Report e) = AsksQuestion asked
+MayFail asked (Report e) = AsksQuestion asked × LacksAnswer asked.0 e
 
 -- words that ask for nothing, as a failure
 abbrev pub refused_as : WordsFault → Failure
@@ -61,9 +77,15 @@ pub record Asks (words : List Word) (asked : InFull) : Type 0 where
   pub no_fault : HaveNoFault words
   pub asked_for : asked_in words ≡ Some asked
 
+-- a question that was answered is the one that was asked
+abbrev pub AnswersQuestion : Done → Option Question → Type 0
+AnswersQuestion (Answered what) None = ⊥
+AnswersQuestion (Answered what) (Some q) = what ≡ q.what
+AnswersQuestion _ question = Unit {0}
+
 -- what was done is what the words ask for
 abbrev pub DoesAsked : List Word → Done → Type 0
-DoesAsked words done = (file : Option Word) × (question : Option Question) × Asks words (word_of_done done, file, question)
+DoesAsked words done = (file : Option Word) × (question : Option Question) × Asks words (word_of_done done, file, question) × AnswersQuestion done question
 
 -- Wrong words are refused. Memory may always run out. Any other failure is one of what the words ask for.
 abbrev pub FailsAfter : List Word → Failure → Type 0

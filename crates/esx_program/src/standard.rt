@@ -2,10 +2,10 @@
 
 ghost use Rattle.std.specs.Prelude.{◌≡◌, ◌≤◌, IfOk, IfErr};
 ghost use Rattle.esx_program.specs.Doing.{DoesOver};
-ghost use Rattle.esx_program.specs.Failing.{MayFail};
+ghost use Rattle.esx_program.specs.Failing.{AnswersQuestion, MayFail};
 ghost use Rattle.esx_program.specs.Files.{IsSame};
 ghost use Rattle.esx_program.specs.Status.{word_of_done};
-ghost use Rattle.esx_program.specs.Words.{asked_of, AskAlike};
+ghost use Rattle.esx_program.specs.Words.{asked_of, question_of, AskAlike};
 
 use crate::commands::run_asked;
 use crate::streams::{Ended, Streams};
@@ -116,6 +116,7 @@ pub fn run_counted<
     requires parts_out { calls_out.parts ≡ Out.parts }
     requires four_out { 4 ≤ calls_out.parts }
     ensures word { IfOk result.ended (λ done. word_of_done done ≡ (asked_of asked).0) }
+    ensures question { IfOk result.ended (λ done. AnswersQuestion done (question_of asked)) }
     ensures failure { IfErr result.ended (MayFail (asked_of asked)) }
     ensures does { DoesOver F.remaining asked result.ended (I.remaining streams.reader) (I.remaining result.streams.reader)
         (E.contents streams.errors) (E.contents result.streams.errors) (W.contents streams.writer) (W.contents result.streams.writer) }

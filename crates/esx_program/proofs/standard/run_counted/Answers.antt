@@ -1,5 +1,5 @@
 use Rattle.std.proofs.Common.{refl}
-use Rattle.esx_program.proofs.StandardLemmas.{over_ends, over_fail, over_word}
+use Rattle.esx_program.proofs.StandardLemmas.{over_ends, over_fail, over_question, over_word}
 use Rattle.esx_program.proofs.standard.run_counted.Goals as goal
 
 pub returns-clause-does : goal.returns-clause-does
@@ -14,3 +14,6 @@ returns-clause-failure g c = over_fail g.F.Read.remaining c.args.asked c.run_ask
 
 pub returns-clause-word : goal.returns-clause-word
 returns-clause-word g c = over_word g.F.Read.remaining c.args.asked c.run_asked-ended.result.ended _ _ _ _ _ _ (returns-clause-does g c)
+
+pub returns-clause-question : goal.returns-clause-question
+returns-clause-question g c = over_question g.F.Read.remaining c.args.asked c.run_asked-ended.result.ended _ _ _ _ _ _ (returns-clause-does g c)
