@@ -8,11 +8,14 @@ use Rattle.esx_model.specs.Console.{Session, next_reply}
 use Rattle.esx_replies.specs.Replies.{reply_text}
 use Rattle.esx_text.specs.declared.answer.TheConstants.{LONGEST}
 use Rattle.esx_text.specs.Lines.{IsSilent, Keeps}
+use Rattle.esx_text.specs.declared.echo.Manner.{Manner}
 use Rattle.esx_text.specs.declared.fault.ServeFault.{ServeFault}
 use Rattle.esx_text.specs.declared.fault.ServeFault.TheVariants.{Read, Write, OutOfMemory}
+use Rattle.esx_text.specs.Echo.{echo_in}
 use Rattle.esx_text.specs.PageOut.{AsksOut, pageout_call, pageout_text, pageout_after, word_after}
 use Rattle.esx_text.specs.Answers.{IsAsked, IsAnswered, IsMade, IsServed, MayWantMemory}
 use Rattle.esx_text.specs.Answers.IsAnswered.{asked, pageout}
+use Rattle.esx_text.proofs.EchoLemmas.{long_echo}
 use Rattle.esx_text.proofs.PageOutLemmas.{pageout_is_short}
 use Rattle.esx_words.proofs.CommandLemmas.{ascii_command}
 
@@ -29,12 +32,12 @@ last_is_some (y ∷ xs) x e = cc
 
 -- A call that was made for a line serves it.
 
-pub asked_served : (n caller : ℕ) (before after : Session) (line : List ℕ) (call : Call) (old new : Option (List ℕ)) (result : Result Unit ServeFault)
-    → IsAsked line call → IsMade caller call before after old new result → IsServed n caller before line after old new result
-asked_served n caller before after line call old new (Ok done) is made = (reply_text (next_reply before call), rw made.0 (asked call is), made.1)
-asked_served n caller before after line call old new (Err Read) is made = made
-asked_served n caller before after line call old new (Err Write) is made = (reply_text (next_reply before call), rw made.0 (asked call is), made.1)
-asked_served n caller before after line call old new (Err OutOfMemory) is made = (made.0, asked_may_want line call is, made.1)
+pub asked_served : (echo : List ℕ) (n caller : ℕ) (before after : Session) (line : List ℕ) (call : Call) (old new : Option (List ℕ)) (result : Result Unit ServeFault)
+    → IsAsked line call → IsMade echo caller call before after old new result → IsServed echo n caller before line after old new result
+asked_served echo n caller before after line call old new (Ok done) is made = (reply_text (next_reply before call), rw made.0 (asked call is), made.1)
+asked_served echo n caller before after line call old new (Err Read) is made = made
+asked_served echo n caller before after line call old new (Err Write) is made = (reply_text (next_reply before call), rw made.0 (asked call is), made.1)
+asked_served echo n caller before after line call old new (Err OutOfMemory) is made = (made.0, asked_may_want line call is, made.1)
 
 pageout_may_want : (line : List ℕ) (m page : ℕ) → AsksOut line m page → MayWantMemory line
 pageout_may_want line m page asks = record { short = pageout_is_short line m page asks; wants = inr (inr (inr (m, page, asks))) }
@@ -44,15 +47,15 @@ pub pageout_answered : (n caller : ℕ) (before : Session) (line : List ℕ) (m 
 pageout_answered n caller before line m page word asks is =
     subst (λ (w : Result ℕ Refusal). IsAnswered n caller before line (pageout_text before m w) (pageout_after before caller m w)) (sym is) (pageout m page asks)
 
-pub pageout_served : (n caller : ℕ) (before after : Session) (line : List ℕ) (m page word : ℕ) (old new : Option (List ℕ)) (result : Result Unit ServeFault)
-    → AsksOut line m page → Ok word ≡ word_after before m page → IsMade caller (pageout_call m word) before after old new result
-    → IsServed n caller before line after old new result
-pageout_served n caller before after line m page word old new (Ok done) asks is made =
+pub pageout_served : (echo : List ℕ) (n caller : ℕ) (before after : Session) (line : List ℕ) (m page word : ℕ) (old new : Option (List ℕ)) (result : Result Unit ServeFault)
+    → AsksOut line m page → Ok word ≡ word_after before m page → IsMade echo caller (pageout_call m word) before after old new result
+    → IsServed echo n caller before line after old new result
+pageout_served echo n caller before after line m page word old new (Ok done) asks is made =
     (pageout_text before m (Ok word), rw made.0 (pageout_answered n caller before line m page (Ok word) asks is), made.1)
-pageout_served n caller before after line m page word old new (Err Read) asks is made = made
-pageout_served n caller before after line m page word old new (Err Write) asks is made =
+pageout_served echo n caller before after line m page word old new (Err Read) asks is made = made
+pageout_served echo n caller before after line m page word old new (Err Write) asks is made =
     (pageout_text before m (Ok word), rw made.0 (pageout_answered n caller before line m page (Ok word) asks is), made.1)
-pageout_served n caller before after line m page word old new (Err OutOfMemory) asks is made = (made.0, pageout_may_want line m page asks, made.1)
+pageout_served echo n caller before after line m page word old new (Err OutOfMemory) asks is made = (made.0, pageout_may_want line m page asks, made.1)
 
 -- the line is silent exactly where what is kept of it is
 pub silent_as_kept : (kept : List ℕ) (long : Bool) (line : List ℕ) → Keeps kept long line → IsSilent line ↔ IsSilent kept
@@ -67,3 +70,9 @@ long_unasked kept long line call is k a = let k' = rw is at k in omega (arith, k
 
 pub kept_whole : (kept : List ℕ) (long : Bool) (line : List ℕ) → long ≡ false → Keeps kept long line → line ≡ kept
 kept_whole kept long line is k = rw is at k
+
+-- nothing is echoed of a line that is too long
+pub long_served : (manner : Manner) (n caller : ℕ) (before after : Session) (line : List ℕ) (old new : Option (List ℕ)) (result : Result Unit ServeFault)
+    → LONGEST < length line → IsServed [] n caller before line after old new result → IsServed (echo_in manner line) n caller before line after old new result
+long_served manner n caller before after line old new result long s =
+    subst (λ echo. IsServed echo n caller before line after old new result) (sym (long_echo manner line long)) s

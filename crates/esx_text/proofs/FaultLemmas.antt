@@ -10,6 +10,8 @@ use Rattle.esx_model.specs.Console.{Session}
 use Rattle.esx_text.specs.declared.fault.ServeFault.{ServeFault}
 use Rattle.esx_text.specs.declared.fault.ServeFault.TheVariants.{Read, Write, OutOfMemory}
 use Rattle.esx_text.specs.Lines.{HasNoFeed, EndsIn, line_of, Keeps, Held}
+use Rattle.esx_text.specs.declared.echo.Manner.{Manner}
+use Rattle.esx_text.specs.Echo.{echo_in}
 use Rattle.esx_text.specs.Answers.{IsAnswered, IsServed, Progress, Stops, StopsLast}
 use Rattle.esx_writing.proofs.WritingLemmas.{appends_more}
 use Rattle.esx_text.proofs.LineLemmas.{ended_keeps, last_keeps}
@@ -77,9 +79,9 @@ lines_then ended rest ended' = map-append line_of ended (rest ∷ ended')
 numbered : (m n caller : ℕ) (log : Session) (line text : List ℕ) (after : Session) → m ≡ n → IsAnswered m caller log line text after → IsAnswered n caller log line text after
 numbered m n caller log line text after e a = rw e at a
 
-pub stops_line : (fault : ServeFault) (caller : ℕ) (before : Session) (known : Option (List ℕ)) (input : List ℕ) (count : ℕ) (line : Held) (now after : Session) (new new' : Option (List ℕ)) (later : List ℕ)
-    → ((full : List ℕ) → Keeps (line_of line.front) line.long full → IsServed (count + 1) caller now full after new new' (Err fault))
-    → Progress caller before known input count line now new → Stops fault caller before after (input ++ 10 ∷ later) known new'
+pub stops_line : {manner : Manner} (fault : ServeFault) (caller : ℕ) (before : Session) (known : Option (List ℕ)) (input : List ℕ) (count : ℕ) (line : Held) (now after : Session) (new new' : Option (List ℕ)) (later : List ℕ)
+    → ((full : List ℕ) → Keeps (line_of line.front) line.long full → IsServed (echo_in manner full) (count + 1) caller now full after new new' (Err fault))
+    → Progress manner caller before known input count line now new → Stops manner fault caller before after (input ++ 10 ∷ later) known new'
 stops_line Read caller before known input count line now after new new' later served p =
     absurd (served (line_of p.rest) (ended_keeps line.front line.long p.rest p.holds))
 stops_line Write caller before known input count line now after new new' later served p =
@@ -124,10 +126,10 @@ stops_line OutOfMemory caller before known input count line now after new new' l
       };
     }
 
-pub stops_last : (fault : ServeFault) (caller : ℕ) (before : Session) (known : Option (List ℕ)) (input : List ℕ) (count : ℕ) (line : Held) (now after : Session) (new new' : Option (List ℕ))
+pub stops_last : {manner : Manner} (fault : ServeFault) (caller : ℕ) (before : Session) (known : Option (List ℕ)) (input : List ℕ) (count : ℕ) (line : Held) (now after : Session) (new new' : Option (List ℕ))
     → (length line.front ≡ 0 → ⊥)
-    → ((full : List ℕ) → Keeps line.front line.long full → IsServed (count + 1) caller now full after new new' (Err fault))
-    → Progress caller before known input count line now new → StopsLast fault caller before after input known new'
+    → ((full : List ℕ) → Keeps line.front line.long full → IsServed (echo_in manner full) (count + 1) caller now full after new new' (Err fault))
+    → Progress manner caller before known input count line now new → StopsLast manner fault caller before after input known new'
 stops_last Read caller before known input count line now after new new' some served p =
     absurd (served p.rest (last_keeps line.front line.long p.rest p.holds))
 stops_last Write caller before known input count line now after new new' some served p =
@@ -173,8 +175,8 @@ stops_last OutOfMemory caller before known input count line now after new new' s
     }
 
 -- the same over an equal input
-pub stops_of : (fault : ServeFault) (caller : ℕ) (before after : Session) (input input' : List ℕ) (old new : Option (List ℕ))
-    → input ≡ input' → Stops fault caller before after input old new → Stops fault caller before after input' old new
+pub stops_of : {manner : Manner} (fault : ServeFault) (caller : ℕ) (before after : Session) (input input' : List ℕ) (old new : Option (List ℕ))
+    → input ≡ input' → Stops manner fault caller before after input old new → Stops manner fault caller before after input' old new
 stops_of fault caller before after input input' old new e s = rw e at s
 
 -- the exit of a `?` that hands on the error as it is

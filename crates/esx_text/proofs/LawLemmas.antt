@@ -8,7 +8,9 @@ use Rattle.esx_words.specs.Commands.{Spells}
 use Rattle.esx_words.proofs.CommandLemmas.{one_call}
 use Rattle.esx_words.proofs.LetterLemmas.{lower_command}
 use Rattle.esx_text.specs.Lines.{IsSilent, lines}
-use Rattle.esx_text.specs.Answers.{IsAnswered, AreAnswered, Serves}
+use Rattle.esx_text.specs.declared.echo.Manner.{Manner}
+use Rattle.esx_text.specs.Echo.{echo_in}
+use Rattle.esx_text.specs.Answers.{IsAnswered, AreAnswered, ServesIn}
 use Rattle.esx_text.specs.Answers.IsAnswered.{silent, asked, own, pageout, unknown}
 use Rattle.esx_text.specs.PageOut.{pageout_text, pageout_after, word_after}
 use Rattle.esx_text.proofs.OwnLemmas.{own_is_loud, own_spells_none, one_own_text}
@@ -65,19 +67,19 @@ one_line n caller before line text others after last (unknown l m p none) (own w
 one_line n caller before line text others after last (unknown l w p none) (pageout m page asks) = absurd (p m page asks)
 one_line n caller before line text others after last (unknown l m p none) (unknown k j q nothing) = (refl, refl)
 
-one_way : (n caller : ℕ) (before : Session) (ls : List (List ℕ)) (text others : List ℕ) (after last : Session)
-    → AreAnswered n caller before ls text after → AreAnswered n caller before ls others last → (text ≡ others) × (after ≡ last)
-one_way n caller before [] text others after last (t, a) (u, b) = (t ∙ sym u, a ∙ sym b)
-one_way n caller before (line ∷ ls) text others after last (first, rest, middle, i, more, t) (first', rest', middle', i', more', t') =
+one_way : (manner : Manner) (n caller : ℕ) (before : Session) (ls : List (List ℕ)) (text others : List ℕ) (after last : Session)
+    → AreAnswered manner n caller before ls text after → AreAnswered manner n caller before ls others last → (text ≡ others) × (after ≡ last)
+one_way manner n caller before [] text others after last (t, a) (u, b) = (t ∙ sym u, a ∙ sym b)
+one_way manner n caller before (line ∷ ls) text others after last (first, rest, middle, i, more, t) (first', rest', middle', i', more', t') =
     let here = one_line n caller before line first first' middle middle' i i' in
-    let later = one_way (n + 1) caller middle ls rest rest' after last more (rw (← here.1) at more') in
-    (t ∙ ap (λ v. v ++ rest) here.0 ∙ ap (λ v. first' ++ v) later.0 ∙ sym t', later.1)
+    let later = one_way manner (n + 1) caller middle ls rest rest' after last more (rw (← here.1) at more') in
+    (t ∙ ap (λ v. (echo_in manner line ++ v) ++ rest) here.0 ∙ ap (λ v. (echo_in manner line ++ first') ++ v) later.0 ∙ sym t', later.1)
 
-pub one_answer : (input : List ℕ) (caller count other : ℕ) (before after last : Session) (text others : List ℕ)
-    → Serves caller count before input text after → Serves caller other before input others last
+pub one_answer : {manner : Manner} (input : List ℕ) (caller count other : ℕ) (before after last : Session) (text others : List ℕ)
+    → ServesIn manner caller count before input text after → ServesIn manner caller other before input others last
     → (count ≡ other) × (text ≡ others) × (after ≡ last)
-one_answer input caller count other before after last text others a b =
+one_answer {manner} input caller count other before after last text others a b =
     let same = one_split input a.ended b.ended a.rest b.rest a.split b.split in
     let ls : lines a.ended a.rest ≡ lines b.ended b.rest = ap (λ v. lines v a.rest) same.0 ∙ ap (λ v. lines b.ended v) same.1 in
-    let way = one_way 1 caller before (lines b.ended b.rest) text others after last (rw ls at a.answered) b.answered in
+    let way = one_way manner 1 caller before (lines b.ended b.rest) text others after last (rw ls at a.answered) b.answered in
     (a.count_is ∙ ap length ls ∙ sym b.count_is, way.0, way.1)

@@ -1,5 +1,6 @@
 pub mod LineLemmas
 pub mod EndsLemmas
+pub mod EchoLemmas
 pub mod AnswerLemmas
 pub mod ProgressLemmas
 pub mod FaultLemmas

@@ -8,7 +8,8 @@ use Rattle.esx_model.specs.Console.{Session}
 use Rattle.esx_text.specs.declared.fault.ServeFault.{ServeFault}
 use Rattle.esx_text.specs.declared.fault.ServeFault.TheVariants.{Read, Write, OutOfMemory}
 use Rattle.esx_text.specs.Lines.{HasNoFeed, line_of, lines, Held}
-use Rattle.esx_text.specs.Answers.{Progress, Answers, WantsMemory, Stops, Faults, EndsEarly, Ends, Reaches, ends_found, fault_writes, read_faults}
+use Rattle.esx_text.specs.declared.echo.Manner.{Manner}
+use Rattle.esx_text.specs.Answers.{Progress, AnswersIn, WantsMemory, Stops, FaultsIn, EndsEarlyIn, Ends, Reaches, ends_found, fault_writes, read_faults}
 use Rattle.esx_text.specs.States.{LeavesStreams, SinkState, SourceState}
 use Rattle.esx_writing.proofs.WritingLemmas.{appends_nothing}
 use Rattle.esx_text.proofs.ProgressLemmas.{consumes_nothing}
@@ -19,8 +20,8 @@ appends_kept (Some xs) None c x p k = absurd p
 appends_kept (Some xs) (Some ys) None x p k = absurd k
 appends_kept (Some xs) (Some ys) (Some zs) x p k = k ∙ p
 
-pub progress_kept : (caller : ℕ) (before : Session) (known : Option (List ℕ)) (input : List ℕ) (count : ℕ) (line : Held) (now : Session) (new new' : Option (List ℕ))
-    → Keeps new new' → Progress caller before known input count line now new → Progress caller before known input count line now new'
+pub progress_kept : {manner : Manner} (caller : ℕ) (before : Session) (known : Option (List ℕ)) (input : List ℕ) (count : ℕ) (line : Held) (now : Session) (new new' : Option (List ℕ))
+    → Keeps new new' → Progress manner caller before known input count line now new → Progress manner caller before known input count line now new'
 progress_kept caller before known input count line now new new' k p = record {
   ended = p.ended;
   rest = p.rest;
@@ -32,8 +33,8 @@ progress_kept caller before known input count line now new new' k p = record {
   written = appends_kept known new new' p.text p.written k;
 }
 
-pub answers_kept : (caller count : ℕ) (before after : Session) (unread left old new new' : Option (List ℕ))
-    → Keeps new new' → Answers caller count before after unread left old new → Answers caller count before after unread left old new'
+pub answers_kept : {manner : Manner} (caller count : ℕ) (before after : Session) (unread left old new new' : Option (List ℕ))
+    → Keeps new new' → AnswersIn manner caller count before after unread left old new → AnswersIn manner caller count before after unread left old new'
 answers_kept caller count before after unread left old new new' k a = record {
   input = a.input;
   text = a.text;
@@ -43,8 +44,8 @@ answers_kept caller count before after unread left old new new' k a = record {
   written = appends_kept old new new' a.text a.written k;
 }
 
-wants_kept : (caller : ℕ) (before after : Session) (all : List (List ℕ)) (old new new' : Option (List ℕ))
-    → Keeps new new' → WantsMemory caller before after all old new → WantsMemory caller before after all old new'
+wants_kept : {manner : Manner} (caller : ℕ) (before after : Session) (all : List (List ℕ)) (old new new' : Option (List ℕ))
+    → Keeps new new' → WantsMemory manner caller before after all old new → WantsMemory manner caller before after all old new'
 wants_kept caller before after all old new new' k w = record {
   done = w.done;
   line = w.line;
@@ -56,8 +57,8 @@ wants_kept caller before after all old new new' k w = record {
   written = appends_kept old new new' w.text w.written k;
 }
 
-pub read_kept : (caller : ℕ) (before after : Session) (unread left old new new' : Option (List ℕ))
-    → Keeps new new' → Faults Read caller before after unread left old new → Faults Read caller before after unread left old new'
+pub read_kept : {manner : Manner} (caller : ℕ) (before after : Session) (unread left old new new' : Option (List ℕ))
+    → Keeps new new' → FaultsIn manner Read caller before after unread left old new → FaultsIn manner Read caller before after unread left old new'
 read_kept caller before after unread left old new new' k f = record {
   input = f.input;
   read = f.read;
@@ -67,8 +68,8 @@ read_kept caller before after unread left old new new' k f = record {
   ];
 }
 
-pub memory_kept : (caller : ℕ) (before after : Session) (unread left old new new' : Option (List ℕ))
-    → Keeps new new' → Faults OutOfMemory caller before after unread left old new → Faults OutOfMemory caller before after unread left old new'
+pub memory_kept : {manner : Manner} (caller : ℕ) (before after : Session) (unread left old new new' : Option (List ℕ))
+    → Keeps new new' → FaultsIn manner OutOfMemory caller before after unread left old new → FaultsIn manner OutOfMemory caller before after unread left old new'
 memory_kept caller before after unread left old new new' k f = record {
   input = f.input;
   read = f.read;
@@ -94,8 +95,8 @@ consumes_kept (Some xs) (Some ys) None x p k = absurd k
 consumes_kept (Some xs) (Some ys) (Some zs) x p k = rw k p
 
 -- reading is at fault, and all that ended before was answered
-pub progress_unread : (caller : ℕ) (before : Session) (known : Option (List ℕ)) (input : List ℕ) (count : ℕ) (line : Held) (now : Session) (new : Option (List ℕ))
-    → Progress caller before known input count line now new → Stops Read caller before now input known new
+pub progress_unread : {manner : Manner} (caller : ℕ) (before : Session) (known : Option (List ℕ)) (input : List ℕ) (count : ℕ) (line : Held) (now : Session) (new : Option (List ℕ))
+    → Progress manner caller before known input count line now new → Stops manner Read caller before now input known new
 progress_unread caller before known input count line now new p = record {
   ended = p.ended;
   rest = p.rest;
@@ -104,8 +105,8 @@ progress_unread caller before known input count line now new p = record {
 }
 
 -- the answers so far were not all handed on
-pub progress_unsent : (caller : ℕ) (before : Session) (known : Option (List ℕ)) (input : List ℕ) (count : ℕ) (line : Held) (now : Session) (new new' : Option (List ℕ))
-    → Keeps new new' → Progress caller before known input count line now new → Stops Write caller before now input known new'
+pub progress_unsent : {manner : Manner} (caller : ℕ) (before : Session) (known : Option (List ℕ)) (input : List ℕ) (count : ℕ) (line : Held) (now : Session) (new new' : Option (List ℕ))
+    → Keeps new new' → Progress manner caller before known input count line now new → Stops manner Write caller before now input known new'
 progress_unsent caller before known input count line now new new' k p = record {
   ended = p.ended;
   rest = p.rest;
@@ -113,8 +114,8 @@ progress_unsent caller before known input count line now new new' k p = record {
   stop = inr (inl (p.text, p.answered, appends_kept known new new' p.text p.written k));
 }
 
-pub answers_unsent : (caller count : ℕ) (before after : Session) (unread left old new new' : Option (List ℕ))
-    → Keeps new new' → Answers caller count before after unread left old new → Faults Write caller before after unread left old new'
+pub answers_unsent : {manner : Manner} (caller count : ℕ) (before after : Session) (unread left old new new' : Option (List ℕ))
+    → Keeps new new' → AnswersIn manner caller count before after unread left old new → FaultsIn manner Write caller before after unread left old new'
 answers_unsent caller count before after unread left old new new' k a =
     let s = a.serves in
     record {
@@ -132,8 +133,8 @@ answers_unsent caller count before after unread left old new new' k a =
       );
     }
 
-pub read_unsent : (caller : ℕ) (before after : Session) (unread left old new new' : Option (List ℕ))
-    → Keeps new new' → Faults Read caller before after unread left old new → Faults Write caller before after unread left old new'
+pub read_unsent : {manner : Manner} (caller : ℕ) (before after : Session) (unread left old new new' : Option (List ℕ))
+    → Keeps new new' → FaultsIn manner Read caller before after unread left old new → FaultsIn manner Write caller before after unread left old new'
 read_unsent caller before after unread left old new new' k f = record {
   input = f.input;
   read = f.read;
@@ -148,8 +149,8 @@ read_unsent caller before after unread left old new new' k f = record {
   ];
 }
 
-pub memory_unsent : (caller : ℕ) (before after : Session) (unread left old new new' : Option (List ℕ))
-    → Keeps new new' → Faults OutOfMemory caller before after unread left old new → Faults Write caller before after unread left old new'
+pub memory_unsent : {manner : Manner} (caller : ℕ) (before after : Session) (unread left old new new' : Option (List ℕ))
+    → Keeps new new' → FaultsIn manner OutOfMemory caller before after unread left old new → FaultsIn manner Write caller before after unread left old new'
 memory_unsent caller before after unread left old new new' k f = record {
   input = f.input;
   read = f.read;
@@ -174,8 +175,8 @@ memory_unsent caller before after unread left old new new' k f = record {
 }
 
 -- nothing was read
-pub at_once : (caller : ℕ) (before : Session) (unread : Option (List ℕ)) (calls : ℕ) (known new : Option (List ℕ))
-    → Keeps known new → EndsEarly OutOfMemory caller before before unread unread calls calls known new
+pub at_once : {manner : Manner} (caller : ℕ) (before : Session) (unread : Option (List ℕ)) (calls : ℕ) (known new : Option (List ℕ))
+    → Keeps known new → EndsEarlyIn manner OutOfMemory caller before before unread unread calls calls known new
 at_once caller before unread calls known new k = inl (record {
   memory = refl;
   session = refl;
@@ -185,8 +186,8 @@ at_once caller before unread calls known new k = inl (record {
 })
 
 -- nor handed on
-pub unsent_at_once : (caller : ℕ) (before : Session) (unread : Option (List ℕ)) (calls : ℕ) (known new : Option (List ℕ))
-    → Keeps known new → EndsEarly Write caller before before unread unread calls calls known new
+pub unsent_at_once : {manner : Manner} (caller : ℕ) (before : Session) (unread : Option (List ℕ)) (calls : ℕ) (known new : Option (List ℕ))
+    → Keeps known new → EndsEarlyIn manner Write caller before before unread unread calls calls known new
 unsent_at_once caller before unread calls known new k = inr (record {
   input = [];
   read = consumes_nothing unread;
@@ -199,37 +200,37 @@ unsent_at_once caller before unread calls known new k = inr (record {
 })
 
 -- the exit of a `?` that hands on the fault as it is
-pub reaches_err : (r : Result (Option ℕ) ServeFault) (e : ServeFault) (caller : ℕ) (before after : Session) (unread left old new : Option (List ℕ))
-    → IsErrAnd r (λ f. f ≡ e) → Faults e caller before after unread left old new → Reaches r caller before after unread left old new
+pub reaches_err : {manner : Manner} (r : Result (Option ℕ) ServeFault) (e : ServeFault) (caller : ℕ) (before after : Session) (unread left old new : Option (List ℕ))
+    → IsErrAnd r (λ f. f ≡ e) → FaultsIn manner e caller before after unread left old new → Reaches manner r caller before after unread left old new
 reaches_err (Ok v) e caller before after unread left old new h f = absurd h
 reaches_err (Err d) e caller before after unread left old new h f = rw h f
 
-pub ends_err : (r : Result ℕ ServeFault) (e : ServeFault) (caller : ℕ) (before after : Session) (unread left old new : Option (List ℕ))
-    → IsErrAnd r (λ f. f ≡ e) → Faults e caller before after unread left old new → Ends r caller before after unread left old new
+pub ends_err : {manner : Manner} (r : Result ℕ ServeFault) (e : ServeFault) (caller : ℕ) (before after : Session) (unread left old new : Option (List ℕ))
+    → IsErrAnd r (λ f. f ≡ e) → FaultsIn manner e caller before after unread left old new → Ends manner r caller before after unread left old new
 ends_err (Ok n) e caller before after unread left old new h f = absurd h
 ends_err (Err d) e caller before after unread left old new h f = rw h f
 
 -- the last answers were not all handed on
-pub reaches_unsent : (served : Result (Option ℕ) ServeFault) (found : Option ℕ) (caller : ℕ) (before after : Session) (unread left old new new' : Option (List ℕ))
-    → served ≡ Ok found → Keeps new new' → Reaches served caller before after unread left old new → Faults Write caller before after unread left old new'
+pub reaches_unsent : {manner : Manner} (served : Result (Option ℕ) ServeFault) (found : Option ℕ) (caller : ℕ) (before after : Session) (unread left old new new' : Option (List ℕ))
+    → served ≡ Ok found → Keeps new new' → Reaches manner served caller before after unread left old new → FaultsIn manner Write caller before after unread left old new'
 reaches_unsent served None caller before after unread left old new new' is k r = read_unsent caller before after unread left old new new' k (rw is at r)
 reaches_unsent served (Some n) caller before after unread left old new new' is k r = answers_unsent caller n before after unread left old new new' k (rw is at r)
 
 -- they were
-pub reaches_sent : (served : Result (Option ℕ) ServeFault) (found : Option ℕ) (result : Result ℕ ServeFault) (caller : ℕ) (before after : Session) (unread left old new new' : Option (List ℕ))
-    → served ≡ Ok found → result ≡ ok_or found Read → Keeps new new' → Reaches served caller before after unread left old new → Ends result caller before after unread left old new'
-reaches_sent served None result caller before after unread left old new new' is was k r = rw was (read_kept caller before after unread left old new new' k (rw is at r))
-reaches_sent served (Some n) result caller before after unread left old new new' is was k r = rw was (answers_kept caller n before after unread left old new new' k (rw is at r))
+pub reaches_sent : (manner : Manner) (served : Result (Option ℕ) ServeFault) (found : Option ℕ) (result : Result ℕ ServeFault) (caller : ℕ) (before after : Session) (unread left old new new' : Option (List ℕ))
+    → served ≡ Ok found → result ≡ ok_or found Read → Keeps new new' → Reaches manner served caller before after unread left old new → Ends manner result caller before after unread left old new'
+reaches_sent manner served None result caller before after unread left old new new' is was k r = rw was (read_kept caller before after unread left old new new' k (rw is at r))
+reaches_sent manner served (Some n) result caller before after unread left old new new' is was k r = rw was (answers_kept caller n before after unread left old new new' k (rw is at r))
 
-pub ends_ok : (r : Result ℕ ServeFault) (caller : ℕ) (before after : Session) (unread left old new : Option (List ℕ))
-    → Ends r caller before after unread left old new → IfOk r (λ n. Answers caller n before after unread left old new)
-ends_ok (Ok n) caller before after unread left old new f = f
-ends_ok (Err e) caller before after unread left old new f = tt
+pub ends_ok : (manner : Manner) (r : Result ℕ ServeFault) (caller : ℕ) (before after : Session) (unread left old new : Option (List ℕ))
+    → Ends manner r caller before after unread left old new → IfOk r (λ n. AnswersIn manner caller n before after unread left old new)
+ends_ok manner (Ok n) caller before after unread left old new f = f
+ends_ok manner (Err e) caller before after unread left old new f = tt
 
-pub ends_fault : (r : Result ℕ ServeFault) (caller : ℕ) (before after : Session) (unread left : Option (List ℕ)) (calls calls' : ℕ) (old new : Option (List ℕ))
-    → Ends r caller before after unread left old new → IfErr r (λ e. EndsEarly e caller before after unread left calls calls' old new)
-ends_fault (Ok n) caller before after unread left calls calls' old new f = tt
-ends_fault (Err e) caller before after unread left calls calls' old new f = inr f
+pub ends_fault : (manner : Manner) (r : Result ℕ ServeFault) (caller : ℕ) (before after : Session) (unread left : Option (List ℕ)) (calls calls' : ℕ) (old new : Option (List ℕ))
+    → Ends manner r caller before after unread left old new → IfErr r (λ e. EndsEarlyIn manner e caller before after unread left calls calls' old new)
+ends_fault manner (Ok n) caller before after unread left calls calls' old new f = tt
+ends_fault manner (Err e) caller before after unread left calls calls' old new f = inr f
 
 -- reading is at fault once, or the input had no end
 pub unread_once : (r : Result (Option ℕ) ServeFault) (failures failures' calls calls' : ℕ)

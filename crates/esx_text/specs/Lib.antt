@@ -15,6 +15,7 @@ pub use Rattle.esx_pageout.specs.Draws
 pub mod Lines
 pub mod Own
 pub mod PageOut
+pub mod Echo
 pub mod Answers
 pub mod States
 pub mod Laws

@@ -8,8 +8,10 @@ ghost use Rattle.esx_text.specs.declared.own.OwnWord.{OwnWord};
 ghost use Rattle.esx_text.specs.Own.{own_line};
 ghost use Rattle.esx_text.specs.PageOut.{AsksOut};
 ghost use Rattle.esx_text.specs.Answers.{IsAsked, IsServed, MayWantMemory, write_faults};
+ghost use Rattle.esx_text.specs.Echo.{echo_in, echo_of};
 
 use crate::calling::make_call;
+use crate::echo::{Echo, Manner, write_echo};
 use crate::fault::ServeFault;
 use crate::line::Input;
 use crate::own::{answer_own, own_word};
@@ -39,41 +41,45 @@ fn call_of_line(alloc: Global, line: Input) -> Result<Option<Call>, AllocError>
     parse_command(alloc, text)
 }
 
-/// Makes the call that a line asks for, and writes its reply.
+/// Makes the call that a line asks for, and writes its echo and the reply.
 fn answer_call<L: Tells, W: Sink>(
     console: &mut Console<L>,
     caller: u16,
     writer: &mut W,
     held: &mut AnswerBuffer,
     call: Call,
-    line: &[u8],
+    echo: &Echo,
 ) -> Result<(), ServeFault>
     requires empty { held.old ≡ [] }
-    requires asked { IsAsked line.now call }
-    ensures served { (n : ℕ) → IsServed n caller console.old line.now console.new (W.contents writer.old) (W.contents writer.new) result }
+    requires asked { IsAsked echo.now.line.now call }
+    ensures served { (n : ℕ) → IsServed (echo_of echo.now) n caller console.old echo.now.line.now console.new (W.contents writer.old) (W.contents writer.new) result }
     ensures empty { OnOk result (held.new ≡ []) }
     ensures failures { W.failures writer.new ≡ W.failures writer.old + write_faults result }
     ensures flushes { W.flushes writer.new ≡ W.flushes writer.old }
     ensures reads { IsErrOf result ServeFault.Read → ⊥ }
 {
-    make_call(console, caller, writer, held, call, line)
+    make_call(console, caller, writer, held, call, echo.line, echo)
 }
 
-/// Answers a line that is no command.
+/// Writes the echo of a line that is no command, and its answer.
 fn answer_unknown<W: Sink>(
     writer: &mut W,
     held: &mut AnswerBuffer,
     number: u64,
+    echo: &Echo,
 ) -> Result<(), ServeFault>
     requires { held.old ≡ [] }
     ensures served { (caller : ℕ) (session : Session) (line : List ℕ) → (IsSilent line → ⊥) → ((word : OwnWord) → line ≡ own_line word → ⊥)
         → ((m page : ℕ) → AsksOut line m page → ⊥) → ((call : Call) → IsAsked line call → ⊥)
-        → IsServed number caller session line session (W.contents writer.old) (W.contents writer.new) result }
+        → IsServed (echo_of echo.now) number caller session line session (W.contents writer.old) (W.contents writer.new) result }
     ensures empty { OnOk result (held.new ≡ []) }
     ensures failures { W.failures writer.new ≡ W.failures writer.old + write_faults result }
     ensures flushes { W.flushes writer.new ≡ W.flushes writer.old }
     ensures reads { IsErrOf result ServeFault.Read → ⊥ }
 {
+    let Ok(()) = write_echo(writer, echo) else {
+        return Err(ServeFault::Write);
+    };
     match write_pieces(
         writer,
         held,
@@ -89,7 +95,7 @@ fn answer_unknown<W: Sink>(
 }
 
 /// Whether a line is answered by nothing.
-fn is_silent(line: &[u8]) -> bool
+pub fn is_silent(line: &[u8]) -> bool
     ensures { IsTrue result ↔ IsSilent line.now }
 {
     match line {
@@ -98,15 +104,17 @@ fn is_silent(line: &[u8]) -> bool
     }
 }
 
-/// A line by its number from 1 on: all its bytes, or where it is too long a front of them.
+/// A line by its number from 1 on, and the manner in which it is served: all its bytes, or where it is too long a front
+/// of them.
 #[derive(Clone, Copy)]
 pub struct Asked<'a> {
     pub number: u64,
     pub kept: Input<'a>,
     pub long: bool,
+    pub manner: Manner,
 }
 
-/// Answers a line.
+/// Answers a line, and writes its echo before the answer.
 pub fn answer_line<L: Tells, W: Sink>(
     alloc: Global,
     console: &mut Console<L>,
@@ -117,7 +125,7 @@ pub fn answer_line<L: Tells, W: Sink>(
 ) -> Result<(), ServeFault>
     requires { held.old ≡ [] }
     ensures served { (line : List ℕ) → Keeps (input_bytes asked.now.kept) asked.now.long line
-        → IsServed asked.now.number caller console.old line console.new (W.contents writer.old) (W.contents writer.new) result }
+        → IsServed (echo_in asked.now.manner line) asked.now.number caller console.old line console.new (W.contents writer.old) (W.contents writer.new) result }
     ensures empty { OnOk result (held.new ≡ []) }
     ensures failures { W.failures writer.new ≡ W.failures writer.old + write_faults result }
     ensures flushes { W.flushes writer.new ≡ W.flushes writer.old }
@@ -128,19 +136,31 @@ pub fn answer_line<L: Tells, W: Sink>(
         return Ok(());
     }
     if asked.long {
-        return answer_unknown(writer, held, asked.number);
+        return answer_unknown(
+            writer,
+            held,
+            asked.number,
+            &Echo {
+                manner: Manner::Plain,
+                line: kept,
+            },
+        );
     }
+    let echo = Echo {
+        manner: asked.manner,
+        line: kept,
+    };
     if let Some(word) = own_word(kept) {
-        return answer_own(alloc, console, writer, held, word);
+        return answer_own(alloc, console, writer, held, word, &echo);
     }
     let Ok(found) = call_of_line(alloc, asked.kept) else {
         return Err(ServeFault::OutOfMemory);
     };
     if let Some(call) = found {
-        return answer_call(console, caller, writer, held, call, kept);
+        return answer_call(console, caller, writer, held, call, &echo);
     }
     match asked_out(asked.kept) {
-        Some((vm, page)) => answer_pageout(console, caller, writer, held, vm, page),
-        None => answer_unknown(writer, held, asked.number),
+        Some((vm, page)) => answer_pageout(console, caller, writer, held, vm, page, &echo),
+        None => answer_unknown(writer, held, asked.number, &echo),
     }
 }

@@ -4,6 +4,7 @@
 mod ahead;
 mod answer;
 mod calling;
+mod echo;
 mod ends;
 mod fault;
 pub mod laws;
@@ -14,9 +15,10 @@ mod service;
 mod telling;
 
 pub use answer::LONGEST;
+pub use echo::Manner;
 pub use esx_reading::TextFault;
 pub use esx_replies::print_reply;
 pub use esx_words::{parse_command, print_command};
 pub use fault::ServeFault;
-pub use service::{give_up, serve};
+pub use service::{give_up, serve, serve_in_manner};
 pub use telling::print_session;

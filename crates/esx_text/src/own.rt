@@ -2,9 +2,11 @@
 
 ghost use Rattle.std.specs.Prelude.{◌≡◌, [], ℕ, List, OnOk, MatchOption, IsErrOf, ◌+◌};
 ghost use Rattle.esx_text.specs.Answers.{IsServed, write_faults};
+ghost use Rattle.esx_text.specs.Echo.{echo_of};
 ghost use Rattle.esx_text.specs.Own.{own_line};
 ghost use Rattle.esx_text.specs.declared.own.OwnWord.TheVariants.{Session, Order};
 
+use crate::echo::{Echo, write_echo};
 use crate::fault::ServeFault;
 use esx_console::Console;
 use esx_order::{order_of, write_order};
@@ -35,36 +37,41 @@ pub fn own_word(line: &[u8]) -> Option<OwnWord>
     None
 }
 
-/// Writes the session so far. No memory is taken.
+/// Writes the echo of a line and the session so far. No memory is taken.
 fn answer_session<L: Tells, W: Sink>(
     console: &Console<L>,
     writer: &mut W,
     held: &mut AnswerBuffer,
+    echo: &Echo,
 ) -> Result<(), ServeFault>
     requires { held.old ≡ [] }
     ensures served { (n caller : ℕ) (line : List ℕ) → line ≡ own_line Session
-        → IsServed n caller console.now line console.now (W.contents writer.old) (W.contents writer.new) result }
+        → IsServed (echo_of echo.now) n caller console.now line console.now (W.contents writer.old) (W.contents writer.new) result }
     ensures empty { OnOk result (held.new ≡ []) }
     ensures failures { W.failures writer.new ≡ W.failures writer.old + write_faults result }
     ensures flushes { W.flushes writer.new ≡ W.flushes writer.old }
     ensures reads { IsErrOf result ServeFault.Read → ⊥ }
 {
+    let Ok(()) = write_echo(writer, echo) else {
+        return Err(ServeFault::Write);
+    };
     match console.kept().tell_session(writer, held, &console.site()) {
         Ok(()) => Ok(()),
         Err(_) => Err(ServeFault::Write),
     }
 }
 
-/// Writes the order of the machines above their targets, for which it takes memory first.
+/// Takes memory for the order of the machines above their targets, and writes the echo of a line and the order.
 fn answer_order<L: Tells, W: Sink>(
     alloc: Global,
     console: &Console<L>,
     writer: &mut W,
     held: &mut AnswerBuffer,
+    echo: &Echo,
 ) -> Result<(), ServeFault>
     requires { held.old ≡ [] }
     ensures served { (n caller : ℕ) (line : List ℕ) → line ≡ own_line Order
-        → IsServed n caller console.now line console.now (W.contents writer.old) (W.contents writer.new) result }
+        → IsServed (echo_of echo.now) n caller console.now line console.now (W.contents writer.old) (W.contents writer.new) result }
     ensures empty { OnOk result (held.new ≡ []) }
     ensures failures { W.failures writer.new ≡ W.failures writer.old + write_faults result }
     ensures flushes { W.flushes writer.new ≡ W.flushes writer.old }
@@ -72,6 +79,9 @@ fn answer_order<L: Tells, W: Sink>(
 {
     let Ok(order) = order_of(alloc, console.machine()) else {
         return Err(ServeFault::OutOfMemory);
+    };
+    let Ok(()) = write_echo(writer, echo) else {
+        return Err(ServeFault::Write);
     };
     match write_order(writer, held, order.as_slice()) {
         Ok(()) => Ok(()),
@@ -86,17 +96,18 @@ pub fn answer_own<L: Tells, W: Sink>(
     writer: &mut W,
     held: &mut AnswerBuffer,
     word: OwnWord,
+    echo: &Echo,
 ) -> Result<(), ServeFault>
     requires { held.old ≡ [] }
     ensures served { (n caller : ℕ) (line : List ℕ) → line ≡ own_line word
-        → IsServed n caller console.now line console.now (W.contents writer.old) (W.contents writer.new) result }
+        → IsServed (echo_of echo.now) n caller console.now line console.now (W.contents writer.old) (W.contents writer.new) result }
     ensures empty { OnOk result (held.new ≡ []) }
     ensures failures { W.failures writer.new ≡ W.failures writer.old + write_faults result }
     ensures flushes { W.flushes writer.new ≡ W.flushes writer.old }
     ensures reads { IsErrOf result ServeFault.Read → ⊥ }
 {
     match word {
-        OwnWord::Session => answer_session(console, writer, held),
-        OwnWord::Order => answer_order(alloc, console, writer, held),
+        OwnWord::Session => answer_session(console, writer, held, echo),
+        OwnWord::Order => answer_order(alloc, console, writer, held, echo),
     }
 }

@@ -1,14 +1,16 @@
 //! The line by which a page goes out by its number. It is no call: it makes a swap-out by the page's word.
 
-ghost use Rattle.std.specs.Prelude.{◌≡◌, ◌+◌, ◌<◌, ◌^◌, ◌∷◌, [], ℕ, List, MatchOption, IfSome, IfNone, OnOk, IsErrOf, decimal};
+ghost use Rattle.std.specs.Prelude.{◌≡◌, ◌+◌, ◌<◌, ◌^◌, ◌∷◌, ◌++◌, [], ℕ, List, MatchOption, IfSome, IfNone, OnOk, IsErrOf, decimal};
 ghost use Rattle.esx_types.specs.declared.config.TheConstants.{VM_NUMBERS};
 ghost use Rattle.esx_replies.specs.Texts.{refusal_text};
 ghost use Rattle.esx_writing.specs.Writing.{Writes, sink_faults};
 ghost use Rattle.esx_text.specs.Lines.{input_bytes};
 ghost use Rattle.esx_text.specs.PageOut.{AsksOut, pageout_words};
 ghost use Rattle.esx_text.specs.Answers.{IsServed, write_faults};
+ghost use Rattle.esx_text.specs.Echo.{echo_of};
 
 use crate::calling::make_call;
+use crate::echo::{Echo, write_echo};
 use crate::fault::ServeFault;
 use crate::line::Input;
 use esx_console::Console;
@@ -58,18 +60,20 @@ pub fn asked_out(line: Input) -> Option<(VmId, u32)>
     asked_of(&mut Fields::of(text))
 }
 
-/// Writes why a page has no word.
+/// Writes the echo of a line, and why a page has no word.
 fn write_refusal<W: Sink>(
     writer: &mut W,
     held: &mut AnswerBuffer,
     refusal: Refusal,
+    echo: &Echo,
 ) -> Result<(), SinkFailed>
     requires { held.old ≡ [] }
-    ensures bytes { Writes (W.contents writer.old) (W.contents writer.new) (refusal_text refusal) result }
+    ensures bytes { Writes (W.contents writer.old) (W.contents writer.new) (echo_of echo.now ++ refusal_text refusal) result }
     ensures empty { held.new ≡ [] }
     ensures failures { W.failures writer.new ≡ W.failures writer.old + sink_faults result }
     ensures flushes { W.flushes writer.new ≡ W.flushes writer.old }
 {
+    write_echo(writer, echo)?;
     // No refusal tells the jumps.
     let reply = Reply {
         jumps: 0,
@@ -78,7 +82,8 @@ fn write_refusal<W: Sink>(
     write_reply(writer, held, &reply)
 }
 
-/// Makes the swap-out by which a page goes out, and writes its reply; or writes why the page has no word.
+/// Makes the swap-out by which a page goes out, and writes the echo of the line and the reply; or writes the echo and why
+/// the page has no word.
 pub fn answer_pageout<L: Tells, W: Sink>(
     console: &mut Console<L>,
     caller: u16,
@@ -86,10 +91,11 @@ pub fn answer_pageout<L: Tells, W: Sink>(
     held: &mut AnswerBuffer,
     vm: VmId,
     page: u32,
+    echo: &Echo,
 ) -> Result<(), ServeFault>
     requires { held.old ≡ [] }
     ensures served { (n : ℕ) (line : List ℕ) → AsksOut line vm page
-        → IsServed n caller console.old line console.new (W.contents writer.old) (W.contents writer.new) result }
+        → IsServed (echo_of echo.now) n caller console.old line console.new (W.contents writer.old) (W.contents writer.new) result }
     ensures empty { OnOk result (held.new ≡ []) }
     ensures failures { W.failures writer.new ≡ W.failures writer.old + write_faults result }
     ensures flushes { W.flushes writer.new ≡ W.flushes writer.old }
@@ -98,9 +104,9 @@ pub fn answer_pageout<L: Tells, W: Sink>(
     match word_of(console.machine(), vm, page) {
         Ok(word) => {
             let event = Event::SwapOut { vm, word };
-            make_call(console, caller, writer, held, Call::Do { event }, &[])
+            make_call(console, caller, writer, held, Call::Do { event }, &[], echo)
         }
-        Err(refusal) => match write_refusal(writer, held, refusal) {
+        Err(refusal) => match write_refusal(writer, held, refusal, echo) {
             Ok(()) => Ok(()),
             Err(_) => Err(ServeFault::Write),
         },

@@ -6,11 +6,13 @@ ghost use Rattle.esx_types.specs.Ends.{call_successes};
 ghost use Rattle.esx_model.specs.Console.{Session};
 ghost use Rattle.esx_reading.specs.Whole.{AskForPieces};
 ghost use Rattle.esx_text.specs.Lines.{HasLines, HasNoFeed, Holds, input_bytes};
-ghost use Rattle.esx_text.specs.Answers.{Progress, Answers, Stops, StopsLast, Faults, EndsEarly, Reaches, ReadsOn, Ends, ends_found, fault_writes, read_faults, write_faults};
+ghost use Rattle.esx_text.specs.Answers.{Progress, Answers, AnswersIn, Stops, StopsLast, Faults, FaultsIn, EndsEarly, EndsEarlyIn, Reaches, ReadsOn, Ends, ends_found, fault_writes, read_faults, write_faults};
+ghost use Rattle.esx_text.specs.declared.echo.Manner.{Manner};
 ghost use Rattle.esx_text.specs.States.{LeavesStreams, SourceState, sink_state, source_state};
 
 use crate::ahead::Ahead;
 use crate::answer::{Asked, answer_line};
+use crate::echo::Manner;
 use crate::ends::LineEnds;
 use crate::fault::ServeFault;
 use crate::line::{Input, LineBuffer, either};
@@ -53,17 +55,18 @@ fn serve_line<L: Tells, W: Sink>(
     caller: u16,
     writer: &mut W,
     work: &mut Work,
+    manner: Manner,
     piece: Input,
 ) -> Result<(), ServeFault>
     requires empty { work.old.answer ≡ [] }
     requires room { work.old.count < 2 ^ 63 }
     requires clean { HasNoFeed (input_bytes piece) }
     ensures ok { OnOk result ((before : Session) (known : Option (List ℕ)) (input : List ℕ)
-        → Progress caller before known input work.old.count work.old.line console.old (W.contents writer.old)
-        → Progress caller before known (input ++ (input_bytes piece.entry ++ 10 ∷ [])) work.new.count work.new.line console.new (W.contents writer.new)) }
+        → Progress manner caller before known input work.old.count work.old.line console.old (W.contents writer.old)
+        → Progress manner caller before known (input ++ (input_bytes piece.entry ++ 10 ∷ [])) work.new.count work.new.line console.new (W.contents writer.new)) }
     ensures fault { IfErr result (λ e. (before : Session) (known : Option (List ℕ)) (input later : List ℕ)
-        → Progress caller before known input work.old.count work.old.line console.old (W.contents writer.old)
-        → Stops e caller before console.new (input ++ (input_bytes piece.entry ++ 10 ∷ later)) known (W.contents writer.new)) }
+        → Progress manner caller before known input work.old.count work.old.line console.old (W.contents writer.old)
+        → Stops manner e caller before console.new (input ++ (input_bytes piece.entry ++ 10 ∷ later)) known (W.contents writer.new)) }
     ensures empty { OnOk result (work.new.answer ≡ []) }
     ensures count { work.new.count ≡ work.old.count + 1 }
     ensures failures { W.failures writer.new ≡ W.failures writer.old + write_faults result }
@@ -82,6 +85,7 @@ fn serve_line<L: Tells, W: Sink>(
             number: work.count,
             kept: either(whole, piece, Input::Bytes(work.line.bytes())).without_return(),
             long: work.line.is_long(),
+            manner,
         },
     )?;
     work.line.clear();
@@ -113,16 +117,17 @@ fn serve_bytes<L: Tells, W: Sink>(
     caller: u16,
     writer: &mut W,
     work: &mut Work,
+    manner: Manner,
     bytes: &[u8],
 ) -> Result<(), ServeFault>
     requires empty { work.old.answer ≡ [] }
     requires room { work.old.count + length bytes.now < 2 ^ 63 }
     ensures ok { OnOk result ((before : Session) (known : Option (List ℕ)) (input : List ℕ)
-        → Progress caller before known input work.old.count work.old.line console.old (W.contents writer.old)
-        → Progress caller before known (input ++ bytes.now) work.new.count work.new.line console.new (W.contents writer.new)) }
+        → Progress manner caller before known input work.old.count work.old.line console.old (W.contents writer.old)
+        → Progress manner caller before known (input ++ bytes.now) work.new.count work.new.line console.new (W.contents writer.new)) }
     ensures fault { IfErr result (λ e. (before : Session) (known : Option (List ℕ)) (input : List ℕ)
-        → Progress caller before known input work.old.count work.old.line console.old (W.contents writer.old)
-        → Stops e caller before console.new (input ++ bytes.now) known (W.contents writer.new)) }
+        → Progress manner caller before known input work.old.count work.old.line console.old (W.contents writer.old)
+        → Stops manner e caller before console.new (input ++ bytes.now) known (W.contents writer.new)) }
     ensures empty { OnOk result (work.new.answer ≡ []) }
     ensures count { work.new.count ≤ work.old.count + length bytes.now }
     ensures failures { W.failures writer.new ≡ W.failures writer.old + write_faults result }
@@ -132,7 +137,7 @@ fn serve_bytes<L: Tells, W: Sink>(
     let mut rest = Input::of(bytes);
     let mut ends = LineEnds::new();
     while let Some((piece, later)) = next_line(console, &mut work.ahead, &mut ends, rest) {
-        serve_line(alloc, console, caller, writer, work, piece)?;
+        serve_line(alloc, console, caller, writer, work, manner, piece)?;
         rest = later;
     }
     work.line.extend(rest.bytes());
@@ -146,16 +151,17 @@ fn serve_end<L: Tells, W: Sink>(
     caller: u16,
     writer: &mut W,
     work: &mut Work,
+    manner: Manner,
 ) -> Result<u64, ServeFault>
     requires empty { work.old.answer ≡ [] }
     requires room { work.old.count < 2 ^ 63 }
     ensures ok { IfOk result (λ n. (before : Session) (known unread left : Option (List ℕ)) (input : List ℕ)
-        → Progress caller before known input work.old.count work.old.line console.old (W.contents writer.old)
+        → Progress manner caller before known input work.old.count work.old.line console.old (W.contents writer.old)
         → Consumes unread left input → IsAtEnd left
-        → Answers caller n before console.new unread left known (W.contents writer.new)) }
+        → AnswersIn manner caller n before console.new unread left known (W.contents writer.new)) }
     ensures fault { IfErr result (λ e. (before : Session) (known : Option (List ℕ)) (input : List ℕ)
-        → Progress caller before known input work.old.count work.old.line console.old (W.contents writer.old)
-        → StopsLast e caller before console.new input known (W.contents writer.new)) }
+        → Progress manner caller before known input work.old.count work.old.line console.old (W.contents writer.old)
+        → StopsLast manner e caller before console.new input known (W.contents writer.new)) }
     ensures failures { W.failures writer.new ≡ W.failures writer.old + write_faults result }
     ensures flushes { W.flushes writer.new ≡ W.flushes writer.old }
     ensures reads { IsErrOf result ServeFault.Read → ⊥ }
@@ -174,6 +180,7 @@ fn serve_end<L: Tells, W: Sink>(
             number: work.count,
             kept: Input::Bytes(work.line.bytes()),
             long: work.line.is_long(),
+            manner,
         },
     )?;
     Ok(work.count)
@@ -201,6 +208,11 @@ pub fn give_up<W: Sink>(writer: &mut W) -> ServeFault
         → Faults result caller before after unread left old (W.contents writer.new) }
     ensures at_once { (caller : ℕ) (session : Session) (unread : Option (List ℕ)) (calls : ℕ)
         → EndsEarly result caller session session unread unread calls calls (W.contents writer.old) (W.contents writer.new) }
+    ensures fault_in { (manner : Manner) (caller : ℕ) (before after : Session) (unread left old : Option (List ℕ))
+        → FaultsIn manner ServeFault.OutOfMemory caller before after unread left old (W.contents writer.old)
+        → FaultsIn manner result caller before after unread left old (W.contents writer.new) }
+    ensures at_once_in { (manner : Manner) (caller : ℕ) (session : Session) (unread : Option (List ℕ)) (calls : ℕ)
+        → EndsEarlyIn manner result caller session session unread unread calls calls (W.contents writer.old) (W.contents writer.new) }
     ensures read { result ≡ ServeFault.Read → ⊥ }
     ensures write { W.failures writer.new ≡ W.failures writer.old + fault_writes result }
     ensures flushes { W.flushes writer.new + fault_writes result ≡ W.flushes writer.old + 1 }
@@ -223,13 +235,14 @@ fn serve_reads<L: Tells, R: Source, W: Sink>(
     reader: &mut R,
     writer: &mut W,
     work: &mut Work,
+    manner: Manner,
     chunk: &mut [u8],
 ) -> Result<Option<u64>, ServeFault>
     requires empty { work.old.answer ≡ [] }
     requires none { work.old.count ≡ 0 }
     requires start { Holds work.old.line [] }
     requires room { length chunk.old ≡ CHUNK }
-    ensures served { Reaches result caller console.old console.new
+    ensures served { Reaches manner result caller console.old console.new
         (R.remaining reader.old) (R.remaining reader.new) (W.contents writer.old) (W.contents writer.new) }
     ensures reads { R.calls reader.new ≤ R.calls reader.old + READS }
     ensures pieces { AskForPieces (R.calls reader.old) (R.calls reader.new) (R.asked reader.old) (R.asked reader.new) }
@@ -249,11 +262,11 @@ fn serve_reads<L: Tells, R: Source, W: Sink>(
             return Err(ServeFault::Read);
         };
         if given == 0 {
-            let count = serve_end(alloc, console, caller, writer, work)?;
+            let count = serve_end(alloc, console, caller, writer, work, manner)?;
             return Ok(Some(count));
         }
         let (bytes, _) = chunk.split_at(given);
-        serve_bytes(alloc, console, caller, writer, work, bytes)?;
+        serve_bytes(alloc, console, caller, writer, work, manner, bytes)?;
     }
     Ok(None)
 }
@@ -263,9 +276,9 @@ fn finish<W: Sink>(
     writer: &mut W,
     served: Result<Option<u64>, ServeFault>,
 ) -> Result<u64, ServeFault>
-    ensures served { (caller : ℕ) (before after : Session) (unread left old : Option (List ℕ))
-        → Reaches served caller before after unread left old (W.contents writer.old)
-        → Ends result caller before after unread left old (W.contents writer.new) }
+    ensures served { (manner : Manner) (caller : ℕ) (before after : Session) (unread left old : Option (List ℕ))
+        → Reaches manner served caller before after unread left old (W.contents writer.old)
+        → Ends manner result caller before after unread left old (W.contents writer.new) }
     ensures read { IsErrOf result ServeFault.Read → IsErrOf served ServeFault.Read ⊎ (served ≡ Ok None) }
     ensures no_read_fault { (IsErrOf result ServeFault.Read → ⊥) → read_faults served ≡ 0 }
     ensures counted { IfOk result (λ count. served ≡ Ok (Some count)) }
@@ -314,6 +327,36 @@ pub fn serve<L: Tells, R: Source, W: Sink>(
         (source_state R.remaining R.calls R.failures R.empty_reads R.asked reader.old) (source_state R.remaining R.calls R.failures R.empty_reads R.asked reader.new)
         (sink_state W.contents W.waiting W.failures W.flushes writer.old) (sink_state W.contents W.waiting W.failures W.flushes writer.new) }
 {
+    serve_in_manner(alloc, console, caller, reader, writer, Manner::Plain)
+}
+
+/// The same in a manner of serving.
+///
+/// In the echoed one each line is written before its answer, behind `> ` and with a line feed: as it was read, but
+/// without a carriage return that stands directly before its line feed. Nothing is echoed of a line that is answered by
+/// nothing, nor of one that has more than `LONGEST` bytes. The call of a line is made before its echo is written, and where
+/// memory was wanting for a line nothing of it is written, its echo neither.
+pub fn serve_in_manner<L: Tells, R: Source, W: Sink>(
+    alloc: Global,
+    console: &mut Console<L>,
+    caller: u16,
+    reader: &mut R,
+    writer: &mut W,
+    manner: Manner,
+) -> Result<u64, ServeFault>
+    ensures ok { IfOk result (λ n. AnswersIn manner caller n console.old console.new
+        (R.remaining reader.old) (R.remaining reader.new) (W.contents writer.old) (W.contents writer.new)) }
+
+    // Where memory was wanting nothing was read, or it was wanting for a line for which memory may be taken, and
+    // those before it are answered.
+    ensures fault { IfErr result (λ e. EndsEarlyIn manner e caller console.old console.new
+        (R.remaining reader.old) (R.remaining reader.new) (R.calls reader.old) (R.calls reader.new) (W.contents writer.old) (W.contents writer.new)) }
+
+    // How many reads and flushes there are, and when either end fails.
+    ensures streams { LeavesStreams result
+        (source_state R.remaining R.calls R.failures R.empty_reads R.asked reader.old) (source_state R.remaining R.calls R.failures R.empty_reads R.asked reader.new)
+        (sink_state W.contents W.waiting W.failures W.flushes writer.old) (sink_state W.contents W.waiting W.failures W.flushes writer.new) }
+{
     let Ok(mut work) = Work::new(alloc) else {
         return Err(give_up(writer));
     };
@@ -321,7 +364,7 @@ pub fn serve<L: Tells, R: Source, W: Sink>(
         return Err(give_up(writer));
     };
     let served = serve_reads(
-        alloc, console, caller, reader, writer, &mut work, &mut chunk,
+        alloc, console, caller, reader, writer, &mut work, manner, &mut chunk,
     );
     finish(writer, served)
 }

@@ -7,7 +7,7 @@ use Rattle.esx_text.proofs.pageout.answer_pageout.Goals as goal
 pub returns-in-Ok-clause-served : goal.returns-in-Ok-clause-served
 returns-in-Ok-clause-served g c = λ n line asks.
     let scene = scene_at (history c.args.console.now) in
-    pageout_served n c.args.caller _ _ line c.args.vm c.args.page c.in-Ok.word _ _ c.make_call.result asks
+    pageout_served _ n c.args.caller _ _ line c.args.vm c.args.page c.in-Ok.word _ _ c.make_call.result asks
     (c.in-Ok.ensures scene c.machine.ensures.shows) c.make_call.ensures.made
 
 pub returns-in-Ok-write_refusal-clause-served : goal.returns-in-Ok-write_refusal-clause-served

@@ -24,3 +24,17 @@ pub returns-in-Err-clause-streams : goal.returns-in-Err-clause-streams
 returns-in-Err-clause-streams g c = λ unread.
     let failures = rw c.in-Err.ensures.fault at c.in-Err.ensures.failures in
     rw c.in-Err.ensures.fault (streams_at_once Write unread _ _ (λ h. cc) failures (omega (arith, c.in-Err.ensures.flushes)) (λ h. absurd (h refl)))
+
+pub returns-in-Ok-clause-fault_in : goal.returns-in-Ok-clause-fault_in
+returns-in-Ok-clause-fault_in g c = λ manner caller before after unread left old f. memory_kept caller before after unread left old _ _ c.in-Ok.ensures.bytes f
+
+pub returns-in-Ok-clause-at_once_in : goal.returns-in-Ok-clause-at_once_in
+returns-in-Ok-clause-at_once_in g c = λ manner caller session unread calls. at_once caller session unread calls _ _ c.in-Ok.ensures.bytes
+
+pub returns-in-Err-clause-fault_in : goal.returns-in-Err-clause-fault_in
+returns-in-Err-clause-fault_in g c = λ manner caller before after unread left old f.
+    rw c.in-Err.ensures.fault (memory_unsent caller before after unread left old _ _ c.in-Err.ensures.bytes f)
+
+pub returns-in-Err-clause-at_once_in : goal.returns-in-Err-clause-at_once_in
+returns-in-Err-clause-at_once_in g c = λ manner caller session unread calls.
+    rw c.in-Err.ensures.fault (unsent_at_once caller session unread calls _ _ c.in-Err.ensures.bytes)

@@ -7,8 +7,8 @@ use Rattle.esx_text.proofs.service.serve_bytes.Given as goal
 abbrev pub invariant-loop-piece : goal.invariant-loop-piece
 invariant-loop-piece g l = record {
   progress : (front : List ℕ) × (l.bytes ≡ front ++ input_bytes l.rest) × ((before : Session) (known : Option (List ℕ)) (input : List ℕ)
-      → Progress l.caller before known input l.initial.work.count l.initial.work.line l.initial.console (g.W.Sink.contents l.initial.writer)
-      → Progress l.caller before known (input ++ front) l.work.count l.work.line l.console (g.W.Sink.contents l.writer));
+      → Progress l.manner l.caller before known input l.initial.work.count l.initial.work.line l.initial.console (g.W.Sink.contents l.initial.writer)
+      → Progress l.manner l.caller before known (input ++ front) l.work.count l.work.line l.console (g.W.Sink.contents l.writer));
   failures : g.W.Sink.failures l.writer ≡ g.W.Sink.failures l.initial.writer;
   flushes : g.W.Sink.flushes l.writer ≡ g.W.Sink.flushes l.initial.writer;
   empty : l.work.answer ≡ [];

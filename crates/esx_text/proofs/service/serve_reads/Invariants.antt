@@ -7,7 +7,7 @@ use Rattle.esx_reading.specs.declared.whole.TheConstants.{CHUNK}
 abbrev pub invariant-loop : goal.invariant-loop
 invariant-loop g l = record {
   progress : (input : List ℕ) × Consumes (g.R.Source.remaining l.initial.reader) (g.R.Source.remaining l.reader) input
-      × Progress l.caller l.initial.console (g.W.Sink.contents l.initial.writer) input l.work.count l.work.line l.console (g.W.Sink.contents l.writer)
+      × Progress l.manner l.caller l.initial.console (g.W.Sink.contents l.initial.writer) input l.work.count l.work.line l.console (g.W.Sink.contents l.writer)
       × (l.counter ≤ length input);
   failures : g.W.Sink.failures l.writer ≡ g.W.Sink.failures l.initial.writer;
   ends : g.R.Source.empty_reads l.reader ≡ g.R.Source.empty_reads l.initial.reader;
