@@ -1,0 +1,4 @@
+pub mod WordLemmas
+pub mod ValueLemmas
+pub mod NearLemmas
+pub mod LineLemmas

@@ -1,0 +1,10 @@
+pub use Rattle.esx_words.specs.Kinds
+pub use Rattle.esx_words.specs.Verbs
+pub use Rattle.esx_words.specs.Commands
+pub use Rattle.esx_reading.specs.Fields
+pub mod Words
+pub mod Operands
+pub mod Near
+pub mod Known
+pub mod Reasons
+pub mod Telling

@@ -1,0 +1,147 @@
+//! A source that explains the lines that it gives.
+
+ghost use Rattle.std.specs.Prelude.{◌≡◌};
+
+use crate::known::LONGEST;
+use crate::line::explained;
+use esx_types::{Source, SourceFailed};
+use std::alloc::{AllocError, Global};
+
+/// How many bytes are held of a line: those of the longest line, and a carriage return.
+const ROOM: usize = LONGEST + 1;
+
+/// The lines of an input, as they are put together from its parts.
+#[derive(Drop)]
+struct Lines {
+    alloc: Global,
+    held: Vec<u8>,
+    long: bool,
+    count: u64,
+}
+
+impl Lines {
+    /// It takes the room for the longest line.
+    fn new(alloc: Global) -> Result<Lines, AllocError> {
+        let held = Vec::with_capacity(alloc, ROOM)?;
+        Ok(Lines {
+            alloc,
+            held,
+            long: false,
+            count: 0,
+        })
+    }
+
+    /// A part of a line. Of a line that is too long the bytes behind the longest are left out.
+    fn add(&mut self, part: &[u8]) {
+        let room = ROOM.saturating_sub(self.held.len());
+        if part.len() > room {
+            self.long = true;
+        }
+        let (kept, _) = part.split_at(part.len().min(room));
+        // There is room for it.
+        let _ = self.held.extend_from_slice(kept);
+    }
+
+    /// What is held of the line, without a carriage return at its end where a line feed stands behind it.
+    fn line(&self, is_ended: bool) -> &[u8] {
+        let held = self.held.as_slice();
+        match held.split_last() {
+            Some((last, line)) => {
+                if is_ended && !self.long && *last == b'\r' {
+                    line
+                } else {
+                    held
+                }
+            }
+            None => held,
+        }
+    }
+
+    /// The line is over: tells why it is no command, where it is none, and begins the next.
+    fn end<P: Print>(&mut self, to: &P, is_ended: bool) {
+        self.count = self.count.saturating_add(1);
+        let line = self.line(is_ended);
+        let number = self.count;
+        // What cannot be told is left out, and so is what memory is wanting for.
+        if let Ok(Some(explanation)) = explained(self.alloc, line) {
+            let _ = println!(to; "line {number}: {explanation}");
+        }
+        self.held.clear();
+        self.long = false;
+    }
+
+    /// The bytes that were read.
+    fn look<P: Print>(&mut self, to: &P, bytes: &[u8]) {
+        let mut rest = bytes;
+        while let Some(at) = rest.iter().position(|byte| *byte == b'\n') {
+            let (part, later) = rest.split_at(at);
+            self.add(part);
+            self.end(to, true);
+            rest = &later[1..];
+        }
+        self.add(rest);
+    }
+
+    /// The input is over: what is left of it is a line, unless it is empty.
+    fn finish<P: Print>(&mut self, to: &P) {
+        if !self.held.is_empty() {
+            self.end(to, false);
+        }
+    }
+}
+
+/// A source that gives what another gives, and tells why a line of it is no command, a line each: `line 3: ..`. Lines
+/// are counted from 1 on, and a carriage return before the line feed is no part of one.
+#[derive(Drop)]
+pub struct Explained<'a, R: Source + Drop, P> {
+    reader: R,
+    to: Option<&'a P>,
+    lines: Option<Lines>,
+}
+
+impl<'a, R: Source + Drop, P: Print> Explained<'a, R, P> {
+    ghost use Rattle.std.specs.Prelude.{◌≡◌};
+
+    /// Takes the room for a line, where there is somebody to tell. Without `to`, or without memory for that room, nothing
+    /// is told.
+    pub fn new(alloc: Global, reader: R, to: Option<&'a P>) -> Explained<'a, R, P>
+        ensures { result.reader ≡ reader }
+    {
+        let lines = match to {
+            Some(_) => Lines::new(alloc).ok(),
+            None => None,
+        };
+        Explained { reader, to, lines }
+    }
+
+    /// Gives the source back.
+    pub fn into_reader(self) -> R
+        ensures { result ≡ self.entry.reader }
+    {
+        self.reader
+    }
+}
+
+impl<'a, R: Source + Drop, P: Print> Source for Explained<'a, R, P> {
+    ghost remaining = { λ s. R.remaining s.reader };
+
+    ghost calls = { λ s. R.calls s.reader };
+
+    ghost failures = { λ s. R.failures s.reader };
+
+    ghost empty_reads = { λ s. R.empty_reads s.reader };
+
+    ghost asked = { λ s. R.asked s.reader };
+
+    fn read(&mut self, buffer: &mut [u8]) -> Result<usize, SourceFailed> {
+        let read = self.reader.read(buffer);
+        if let (Ok(count), Some(to), Some(lines)) = (&read, self.to, &mut self.lines) {
+            if *count == 0 {
+                lines.finish(to);
+            } else {
+                lines.look(to, &buffer[..*count]);
+            }
+        }
+        read
+    }
+}

@@ -1,0 +1,7 @@
+//! Which machine of a scenario is the first that is refused as the site is opened, what is wanted with it, and what there is.
+#![tactic(auto)]
+
+mod coming;
+mod telling;
+
+pub use coming::{Lack, RefusedOpening, refused_opening};

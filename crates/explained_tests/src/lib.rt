@@ -1,0 +1,5 @@
+//! What is run of the explanations of lines.
+#![tactic(auto)]
+
+#[cfg(test)]
+mod tests;
