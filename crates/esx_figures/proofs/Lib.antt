@@ -1,0 +1,5 @@
+pub mod Marks
+pub mod event
+pub mod Every
+pub mod Alike
+pub mod Tells

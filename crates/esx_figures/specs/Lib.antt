@@ -1,0 +1,4 @@
+pub mod Figures
+pub mod Steps
+pub mod Sharing
+pub mod Laws

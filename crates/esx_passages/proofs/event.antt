@@ -1,0 +1,4 @@
+pub mod Access
+pub mod Balloon
+pub mod Sharing
+pub mod Others

@@ -1,0 +1,3 @@
+pub mod Passages
+pub mod Readings
+pub mod Laws

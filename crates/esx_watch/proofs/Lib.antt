@@ -1,0 +1,6 @@
+mod Shifts
+mod Tellings
+mod Listed
+mod Going
+mod Looks
+mod Watching

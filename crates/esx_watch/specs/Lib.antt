@@ -1,0 +1,4 @@
+pub mod Shifting
+pub mod Telling
+pub mod Logs
+pub mod Watches
