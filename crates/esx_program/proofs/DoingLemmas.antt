@@ -31,16 +31,16 @@ use Rattle.esx_reports.specs.declared.question.Question.{Question}
 use Rattle.esx_reports.specs.declared.question.What.{What}
 use Rattle.esx_reports.specs.declared.question.What.TheVariants as whats
 use Rattle.esx_program.specs.declared.words.Asked.{Asked}
-use Rattle.esx_program.specs.declared.words.Asked.TheVariants.{Console, Run as RunOf, Replay, Check, Diff, Migrate, Report as ReportOf, Help}
+use Rattle.esx_program.specs.declared.words.Asked.TheVariants.{Console, Record, Run as RunOf, Replay, Check, Diff, Migrate, Report as ReportOf, Help}
 use Rattle.esx_program.specs.declared.Done.{Done}
-use Rattle.esx_program.specs.declared.Done.TheVariants.{Served, Ran, Replayed, Checked, Compared, Migrated, Answered, Helped}
+use Rattle.esx_program.specs.declared.Done.TheVariants.{Served, Recorded, Ran, Replayed, Checked, Compared, Migrated, Answered, Helped}
 use Rattle.esx_program.specs.declared.Failure.{Failure}
 use Rattle.esx_program.specs.declared.Failure.TheVariants.{Words, Text, Serve, Output, Run, Report}
 use Rattle.esx_program.specs.Doing.{Does, EndsCheck, EndsDiff, LacksSite}
 use Rattle.esx_reports.specs.Answers.{HasNoAnswer, LacksPage}
 use Rattle.esx_reports.specs.Telling.{IsUnanswered}
 use Rattle.esx_program.specs.Reporting.{EndsReport, TellsAnswer, TellsNoAnswer}
-use Rattle.esx_program.specs.Failing.{AnswersQuestion, LacksAnswer, MayFail, WantsSession}
+use Rattle.esx_program.specs.Failing.{AnswersQuestion, LacksAnswer, MayFail, WantsScenario, WantsSession}
 use Rattle.esx_program.specs.Files.{HasText, HasLongText, LacksCheck, LacksLongText, LacksScenario, LacksSession, Opened}
 use Rattle.esx_program.specs.Given.{open_fault}
 use Rattle.esx_program.specs.Sessions.{GivenOut, IsNotReplayed, IsReplayed, ReplayEnds}
@@ -56,7 +56,7 @@ module _ {A : Type 0} (asked : Word × Option A) (some : IsSome asked.1) where
   unopened_may_fail _ = some
 
   -- a fault of a scenario that is named
-  no_scenario_may_fail : (read : Opened) (e : TextFault) → (asked.0 ≡ codes "console") ⊎ (asked.0 ≡ codes "run") → LacksScenario read e → MayFail asked (Text e)
+  no_scenario_may_fail : (read : Opened) (e : TextFault) → WantsScenario asked → LacksScenario read e → MayFail asked (Text e)
   no_scenario_may_fail (Err error) e word n = rw n (unopened_may_fail (error_kind error))
   no_scenario_may_fail (Ok states) text.NotToml word n = (some, word)
   no_scenario_may_fail (Ok states) (text.BadKey path) word n = (some, word)
@@ -190,23 +190,35 @@ may_lack q bytes (report.Differs number) out out' none = tt
 may_lack q bytes (report.Refused r) out out' none = refusal_may_lack q bytes r none.0
 may_lack q bytes (report.Output e) out out' none = tt
 
-no_site_may_fail : (file : Option Opened) (e : TextFault) → LacksSite file e → MayFail {A = Opened} (codes "console", file) (Text e)
-no_site_may_fail None e n = absurd n
-no_site_may_fail (Some read) e n = no_scenario_may_fail (codes "console", Some read) refl read e (inl refl) n
+no_site_may_fail : (word : Word) → (word ≡ codes "console") ⊎ ((word ≡ codes "record") ⊎ (word ≡ codes "run")) → (file : Option Opened) (e : TextFault) → LacksSite file e
+    → MayFail {A = Opened} (word, file) (Text e)
+no_site_may_fail word is None e n = absurd n
+no_site_may_fail word is (Some read) e n = no_scenario_may_fail (word, Some read) refl read e is n
 
 module _ (unread left : SourceState) (errors errors' out out' : SinkState) where
   -- what was done is what is asked for
   pub does_word : (asked : Asked Opened) (ended : Result Done Failure) → Does asked ended unread left errors errors' out out'
       → IfOk ended (λ done. word_of_done done ≡ (asked_of asked).0)
-  does_word (Console file) (Ok Served) d = refl
-  does_word (Console file) (Ok Ran) d = absurd d.0
-  does_word (Console file) (Ok Replayed) d = absurd d.0
-  does_word (Console file) (Ok (Checked c)) d = absurd d.0
-  does_word (Console file) (Ok (Compared c)) d = absurd d.0
-  does_word (Console file) (Ok (Migrated c)) d = absurd d.0
-  does_word (Console file) (Ok (Answered what)) d = absurd d.0
-  does_word (Console file) (Ok Helped) d = absurd d.0
+  does_word (Console file manner) (Ok Served) d = refl
+  does_word (Console file manner) (Ok Recorded) d = absurd d.0
+  does_word (Console file manner) (Ok Ran) d = absurd d.0
+  does_word (Console file manner) (Ok Replayed) d = absurd d.0
+  does_word (Console file manner) (Ok (Checked c)) d = absurd d.0
+  does_word (Console file manner) (Ok (Compared c)) d = absurd d.0
+  does_word (Console file manner) (Ok (Migrated c)) d = absurd d.0
+  does_word (Console file manner) (Ok (Answered what)) d = absurd d.0
+  does_word (Console file manner) (Ok Helped) d = absurd d.0
+  does_word (Record file) (Ok Served) d = absurd d
+  does_word (Record file) (Ok Recorded) d = refl
+  does_word (Record file) (Ok Ran) d = absurd d
+  does_word (Record file) (Ok Replayed) d = absurd d
+  does_word (Record file) (Ok (Checked c)) d = absurd d
+  does_word (Record file) (Ok (Compared c)) d = absurd d
+  does_word (Record file) (Ok (Migrated c)) d = absurd d
+  does_word (Record file) (Ok (Answered what)) d = absurd d
+  does_word (Record file) (Ok Helped) d = absurd d
   does_word (RunOf file) (Ok Served) d = absurd d.0
+  does_word (RunOf file) (Ok Recorded) d = absurd d.0
   does_word (RunOf file) (Ok Ran) d = refl
   does_word (RunOf file) (Ok Replayed) d = absurd d.0
   does_word (RunOf file) (Ok (Checked c)) d = absurd d.0
@@ -215,6 +227,7 @@ module _ (unread left : SourceState) (errors errors' out out' : SinkState) where
   does_word (RunOf file) (Ok (Answered what)) d = absurd d.0
   does_word (RunOf file) (Ok Helped) d = absurd d.0
   does_word (Replay file) (Ok Served) d = absurd d.0
+  does_word (Replay file) (Ok Recorded) d = absurd d.0
   does_word (Replay file) (Ok Ran) d = absurd d.0
   does_word (Replay file) (Ok Replayed) d = refl
   does_word (Replay file) (Ok (Checked c)) d = absurd d.0
@@ -223,6 +236,7 @@ module _ (unread left : SourceState) (errors errors' out out' : SinkState) where
   does_word (Replay file) (Ok (Answered what)) d = absurd d.0
   does_word (Replay file) (Ok Helped) d = absurd d.0
   does_word (Check file) (Ok Served) d = absurd d.0
+  does_word (Check file) (Ok Recorded) d = absurd d.0
   does_word (Check file) (Ok Ran) d = absurd d.0
   does_word (Check file) (Ok Replayed) d = absurd d.0
   does_word (Check file) (Ok (Checked c)) d = refl
@@ -231,6 +245,7 @@ module _ (unread left : SourceState) (errors errors' out out' : SinkState) where
   does_word (Check file) (Ok (Answered what)) d = absurd d.0
   does_word (Check file) (Ok Helped) d = absurd d.0
   does_word (Diff file) (Ok Served) d = absurd d.0
+  does_word (Diff file) (Ok Recorded) d = absurd d.0
   does_word (Diff file) (Ok Ran) d = absurd d.0
   does_word (Diff file) (Ok Replayed) d = absurd d.0
   does_word (Diff file) (Ok (Checked c)) d = absurd d.0
@@ -239,6 +254,7 @@ module _ (unread left : SourceState) (errors errors' out out' : SinkState) where
   does_word (Diff file) (Ok (Answered what)) d = absurd d.0
   does_word (Diff file) (Ok Helped) d = absurd d.0
   does_word (Migrate file) (Ok Served) d = absurd d.0
+  does_word (Migrate file) (Ok Recorded) d = absurd d.0
   does_word (Migrate file) (Ok Ran) d = absurd d.0
   does_word (Migrate file) (Ok Replayed) d = absurd d.0
   does_word (Migrate file) (Ok (Checked c)) d = absurd d.0
@@ -247,6 +263,7 @@ module _ (unread left : SourceState) (errors errors' out out' : SinkState) where
   does_word (Migrate file) (Ok (Answered what)) d = absurd d.0
   does_word (Migrate file) (Ok Helped) d = absurd d.0
   does_word (ReportOf file q) (Ok Served) d = absurd d.0
+  does_word (ReportOf file q) (Ok Recorded) d = absurd d.0
   does_word (ReportOf file q) (Ok Ran) d = absurd d.0
   does_word (ReportOf file q) (Ok Replayed) d = absurd d.0
   does_word (ReportOf file q) (Ok (Checked c)) d = absurd d.0
@@ -255,6 +272,7 @@ module _ (unread left : SourceState) (errors errors' out out' : SinkState) where
   does_word (ReportOf file q) (Ok (Answered what)) d = ap word_of_what d.0.2.0
   does_word (ReportOf file q) (Ok Helped) d = absurd d.0
   does_word Help (Ok Served) d = absurd d.0
+  does_word Help (Ok Recorded) d = absurd d.0
   does_word Help (Ok Ran) d = absurd d.0
   does_word Help (Ok Replayed) d = absurd d.0
   does_word Help (Ok (Checked c)) d = absurd d.0
@@ -268,13 +286,15 @@ module _ (unread left : SourceState) (errors errors' out out' : SinkState) where
   pub does_question : (asked : Asked Opened) (ended : Result Done Failure) → Does asked ended unread left errors errors' out out'
       → IfOk ended (λ done. AnswersQuestion done (question_of asked))
   does_question asked (Ok Served) d = tt
+  does_question asked (Ok Recorded) d = tt
   does_question asked (Ok Ran) d = tt
   does_question asked (Ok Replayed) d = tt
   does_question asked (Ok (Checked c)) d = tt
   does_question asked (Ok (Compared c)) d = tt
   does_question asked (Ok (Migrated c)) d = tt
   does_question asked (Ok Helped) d = tt
-  does_question (Console file) (Ok (Answered what)) d = absurd d.0
+  does_question (Console file manner) (Ok (Answered what)) d = absurd d.0
+  does_question (Record file) (Ok (Answered what)) d = absurd d
   does_question (RunOf file) (Ok (Answered what)) d = absurd d.0
   does_question (Replay file) (Ok (Answered what)) d = absurd d.0
   does_question (Check file) (Ok (Answered what)) d = absurd d.0
@@ -288,14 +308,20 @@ module _ (unread left : SourceState) (errors errors' out out' : SinkState) where
   pub does_fail : (asked : Asked Opened) (ended : Result Done Failure) → Does asked ended unread left errors errors' out out'
       → IfErr ended (MayFail (asked_of asked))
   does_fail asked (Ok done) d = tt
-  does_fail (Console file) (Err Words) d = absurd d.0
-  does_fail (Console file) (Err (Text e)) d = no_site_may_fail file e d.0.0
-  does_fail (Console file) (Err (Serve e)) d = refl
-  does_fail (Console file) (Err (Output e)) d = absurd d.0
-  does_fail (Console file) (Err (Run e)) d = absurd d.0
-  does_fail (Console file) (Err (Report e)) d = absurd d.0
+  does_fail (Console file manner) (Err Words) d = absurd d.0
+  does_fail (Console file manner) (Err (Text e)) d = no_site_may_fail (codes "console") (inl refl) file e d.0.0
+  does_fail (Console file manner) (Err (Serve e)) d = inl refl
+  does_fail (Console file manner) (Err (Output e)) d = absurd d.0
+  does_fail (Console file manner) (Err (Run e)) d = absurd d.0
+  does_fail (Console file manner) (Err (Report e)) d = absurd d.0
+  does_fail (Record file) (Err Words) d = absurd d
+  does_fail (Record file) (Err (Text e)) d = no_site_may_fail (codes "record") (inr (inl refl)) file e d.0
+  does_fail (Record file) (Err (Serve e)) d = inr refl
+  does_fail (Record file) (Err (Output e)) d = absurd d
+  does_fail (Record file) (Err (Run e)) d = absurd d
+  does_fail (Record file) (Err (Report e)) d = absurd d
   does_fail (RunOf file) (Err Words) d = absurd d.0
-  does_fail (RunOf file) (Err (Text e)) d = no_scenario_may_fail (asked_of (RunOf file)) refl file e (inr refl) d.0.0
+  does_fail (RunOf file) (Err (Text e)) d = no_scenario_may_fail (asked_of (RunOf file)) refl file e (inr (inr refl)) d.0.0
   does_fail (RunOf file) (Err (Serve e)) d = absurd d.0
   does_fail (RunOf file) (Err (Output e)) d = absurd d.0
   does_fail (RunOf file) (Err (Run e)) d = refl
@@ -352,6 +378,7 @@ module _ (read : Opened) (out out' : SinkState) (bytes : List ℕ) (here : HasTe
   pub file_checked : (ended : Result Done Failure) → IfOk ended (λ done. TellsCheck bytes done out out') → IfErr ended (λ e. TellsNoCheck bytes e out out')
       → EndsCheck read ended out out'
   file_checked (Ok Served) ok fault = absurd ok
+  file_checked (Ok Recorded) ok fault = absurd ok
   file_checked (Ok Ran) ok fault = absurd ok
   file_checked (Ok Replayed) ok fault = absurd ok
   file_checked (Ok (Checked c)) ok fault = (bytes, here, ok.0, ok.1)
@@ -369,6 +396,7 @@ module _ (read : Opened) (out out' : SinkState) (bytes : List ℕ) (here : HasTe
   pub file_compared : (ended : Result Done Failure) → IfOk ended (λ done. TellsDiff bytes done out out') → IfErr ended (λ e. TellsNoDiff bytes e out out')
       → EndsDiff read ended out out'
   file_compared (Ok Served) ok fault = absurd ok
+  file_compared (Ok Recorded) ok fault = absurd ok
   file_compared (Ok Ran) ok fault = absurd ok
   file_compared (Ok Replayed) ok fault = absurd ok
   file_compared (Ok (Checked c)) ok fault = absurd ok
@@ -388,6 +416,7 @@ module _ (read : Opened) (q : Question) (out out' : SinkState) (bytes : List ℕ
   pub file_asked : (ended : Result Done Failure) → IfOk ended (λ done. TellsAnswer bytes q done out out') → IfErr ended (λ e. TellsNoAnswer bytes q e out out')
       → EndsReport read q ended out out'
   file_asked (Ok Served) ok fault = absurd ok
+  file_asked (Ok Recorded) ok fault = absurd ok
   file_asked (Ok Ran) ok fault = absurd ok
   file_asked (Ok Replayed) ok fault = absurd ok
   file_asked (Ok (Checked c)) ok fault = absurd ok

@@ -1,6 +1,6 @@
 -- What is done where the program is given words.
-use Rattle.std.proofs.Common.{◌≡◌, ◌∙◌, ◌⊎◌, ℕ, List, Option, None, Result, Ok, Err, refl, subst, sym, inr, false, map, string_bytes}
-use Rattle.std.specs.Prelude.{String, Vec}
+use Rattle.std.proofs.Common.{◌≡◌, ◌∙◌, ◌⊎◌, ℕ, List, Option, Some, None, Result, Ok, Err, refl, subst, sym, inr, false, map, string_bytes, option_map}
+use Rattle.std.specs.Prelude.{IsSome, String, Vec}
 use Rattle.std.specs.Result.{IfOk, IfErr}
 use Rattle.std.specs.IoError.{error_kind}
 use Rattle.std.specs.declared.alloc.Global.{Global}
@@ -9,12 +9,17 @@ use Rattle.clap.specs.Words.{Text as Word, takes}
 use Rattle.esx_program.specs.declared.words.WordsFault.{WordsFault}
 use Rattle.esx_program.specs.declared.words.WordsFault.TheVariants.{Wrong, OutOfMemory}
 use Rattle.esx_program.specs.declared.Done.{Done}
+use Rattle.std.specs.Borrow.{Bor}
+use Rattle.esx_reading.specs.declared.fault.TextFault.TheVariants as text
+use Rattle.esx_program.specs.declared.words.Asked.{Asked}
 use Rattle.esx_program.specs.declared.Failure.{Failure}
+use Rattle.esx_program.specs.declared.Failure.TheVariants.{Words, Text, Serve, Output, Run, Report}
 use Rattle.esx_program.specs.Doing.{AskForNothing, DoesGiven, DoesWords}
-use Rattle.esx_program.specs.Failing.{AnswersQuestion, Asks, DoesAsked, EndsWith, FailsAfter, refused_as}
+use Rattle.esx_program.specs.Failing.{AnswersQuestion, Asks, DoesAsked, EndsWith, FailsAfter, MayFail, refused_as}
 use Rattle.esx_program.specs.Given.{Args, GivesWords, words_failure}
 use Rattle.esx_program.specs.Status.{word_of_done}
-use Rattle.esx_program.specs.Words.{InFull, asked_in, program_app}
+use Rattle.esx_program.specs.Words.{InFull, asked_in, asked_of, named_in_full, program_app}
+use Rattle.esx_program.proofs.StandardLemmas.{may_fail_so}
 
 -- words that were refused
 pub ask_for_nothing : (words : List Word) (fault : WordsFault) → (fault ≡ Wrong → (takes program_app words ≡ false) ⊎ (asked_in words ≡ None))
@@ -23,12 +28,42 @@ ask_for_nothing words Wrong why = why refl
 ask_for_nothing words OutOfMemory why = tt
 
 -- what was done is what the words ask for
-pub does_asked : (r : Result Done Failure) (words : List Word) (asked : InFull) (word : Word) → Asks words asked → word ≡ asked.0 → IfOk r (λ done. word_of_done done ≡ word)
-    → IfOk r (λ done. AnswersQuestion done asked.2) → IfOk r (DoesAsked words)
+pub does_asked : (r : Result Done Failure) (words : List Word) (asked : InFull) (word : Word) → Asks words asked → word ≡ asked.word → IfOk r (λ done. word_of_done done ≡ word)
+    → IfOk r (λ done. AnswersQuestion done asked.question) → IfOk r (DoesAsked words)
 does_asked (Ok done) words asked word asks same is answers =
-    let P : Word → Type 0 = λ w. Asks words (w, asked.1, asked.2) in
-    (asked.1, asked.2, subst P (sym (is ∙ same)) asks, answers)
+    (asked, asks, sym (is ∙ same), answers)
 does_asked (Err e) words asked word asks same is answers = tt
+
+-- it fails as what the words ask for may fail
+still_some : (o : Option (Bor Word)) → IsSome o → IsSome (option_map (λ f. f.now) o)
+still_some None some = some
+still_some (Some f) some = refl
+
+module _ (words : List Word) (named : Asked (Bor Word)) (asks : Asks words (named_in_full named)) where
+  abbrev in_full : Word × Option Word
+  in_full = ((named_in_full named).word, (named_in_full named).file)
+
+  may_fail : (failure : Failure) → MayFail (asked_of named) failure → MayFail in_full failure
+  may_fail failure m = may_fail_so in_full (asked_of named) refl (still_some (asked_of named).1) failure m
+
+  fails : (failure : Failure) → MayFail (asked_of named) failure → FailsAfter words failure
+  fails Words m = absurd m
+  fails (Text text.NotToml) m = (named_in_full named, asks, may_fail (Text text.NotToml) m)
+  fails (Text (text.BadKey path)) m = (named_in_full named, asks, may_fail (Text (text.BadKey path)) m)
+  fails (Text (text.BadLine n)) m = (named_in_full named, asks, may_fail (Text (text.BadLine n)) m)
+  fails (Text text.NotText) m = (named_in_full named, asks, may_fail (Text text.NotText) m)
+  fails (Text (text.Differs k)) m = absurd m
+  fails (Text text.Read) m = (named_in_full named, asks, may_fail (Text text.Read) m)
+  fails (Text text.Write) m = absurd m
+  fails (Text text.OutOfMemory) m = tt
+  fails (Serve e) m = (named_in_full named, asks, may_fail (Serve e) m)
+  fails (Output e) m = (named_in_full named, asks, may_fail (Output e) m)
+  fails (Run e) m = (named_in_full named, asks, may_fail (Run e) m)
+  fails (Report e) m = (named_in_full named, asks, may_fail (Report e) m)
+
+  pub fails_after : (r : Result Done Failure) → IfErr r (MayFail (asked_of named)) → IfErr r (FailsAfter words)
+  fails_after (Ok done) m = tt
+  fails_after (Err failure) m = fails failure m
 
 -- the words that were given are those that are held
 module _ (words : Vec (String Global) Global) (slice : List (String Global)) (same : slice ≡ words.items) where

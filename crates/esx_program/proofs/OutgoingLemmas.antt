@@ -11,11 +11,12 @@ use Rattle.esx_types.specs.declared.config.Config.{Config}
 use Rattle.esx_model.specs.Console.{Session}
 use Rattle.esx_text.specs.declared.fault.ServeFault.{ServeFault}
 use Rattle.esx_text.specs.declared.fault.ServeFault.TheVariants.{Read, Write, OutOfMemory}
-use Rattle.esx_text.specs.Answers.{Answers, EndsEarly}
+use Rattle.esx_text.specs.Answers.{AnswersIn, EndsEarlyIn}
 use Rattle.esx_text.specs.States.{LeavesStreams, SinkState, SourceState}
 use Rattle.esx_program.specs.declared.outgoing.TheConstants.{ROOM}
 use Rattle.esx_program.specs.Site.{at_opening}
 use Rattle.esx_program.specs.Streams.{ComesOut, IsServed, Sends}
+use Rattle.esx_text.specs.declared.echo.Manner.{Manner}
 
 pub appends_nothing : (a : Option (List ℕ)) → Appends a a []
 appends_nothing None = tt
@@ -98,47 +99,47 @@ comes_out_whole Write a = ([], appends_nothing a)
 comes_out_whole OutOfMemory a = refl
 
 -- with nothing waiting at both ends of a run
-comes_out : (fault : ServeFault) (caller : ℕ) (session : Session) (unread left : Option (List ℕ)) (calls calls' : ℕ) (a b : Option (List ℕ)) (first last : List ℕ)
+comes_out : (manner : Manner) (fault : ServeFault) (caller : ℕ) (session : Session) (unread left : Option (List ℕ)) (calls calls' : ℕ) (a b : Option (List ℕ)) (first last : List ℕ)
     → first ≡ [] → ((fault ≡ Write → ⊥) → last ≡ [])
-    → (after : Session) × EndsEarly fault caller session after unread left calls calls' (append_known a first) (append_known b last)
-    → (after : Session) × (taken : Option (List ℕ)) × EndsEarly fault caller session after unread left calls calls' a taken × ComesOut fault taken b
-comes_out Read caller session unread left calls calls' a b first last e f (after, s) =
+    → (after : Session) × EndsEarlyIn manner fault caller session after unread left calls calls' (append_known a first) (append_known b last)
+    → (after : Session) × (taken : Option (List ℕ)) × EndsEarlyIn manner fault caller session after unread left calls calls' a taken × ComesOut fault taken b
+comes_out manner Read caller session unread left calls calls' a b first last e f (after, s) =
     (after, b, rw (none_wait a first e) at (rw (none_wait b last (f (λ h. cc))) at s), refl)
-comes_out Write caller session unread left calls calls' a b first last e f (after, s) =
+comes_out manner Write caller session unread left calls calls' a b first last e f (after, s) =
     (after, append_known b last, rw (none_wait a first e) at s, (last, appends_known b last))
-comes_out OutOfMemory caller session unread left calls calls' a b first last e f (after, s) =
+comes_out manner OutOfMemory caller session unread left calls calls' a b first last e f (after, s) =
     (after, b, rw (none_wait a first e) at (rw (none_wait b last (f (λ h. cc))) at s), refl)
 
-fault_comes_out : (r : Result ℕ ServeFault) (caller : ℕ) (session : Session) (unread left : Option (List ℕ)) (calls calls' : ℕ) (a b : Option (List ℕ)) (first last : List ℕ)
+fault_comes_out : (manner : Manner) (r : Result ℕ ServeFault) (caller : ℕ) (session : Session) (unread left : Option (List ℕ)) (calls calls' : ℕ) (a b : Option (List ℕ)) (first last : List ℕ)
     → first ≡ [] → ((IsErrOf r Write → ⊥) → last ≡ [])
-    → IfErr r (λ e. (after : Session) × EndsEarly e caller session after unread left calls calls' (append_known a first) (append_known b last))
-    → IfErr r (λ e. (after : Session) × (taken : Option (List ℕ)) × EndsEarly e caller session after unread left calls calls' a taken × ComesOut e taken b)
-fault_comes_out (Ok n) caller session unread left calls calls' a b first last e f s = tt
-fault_comes_out (Err d) caller session unread left calls calls' a b first last e f s = comes_out d caller session unread left calls calls' a b first last e (λ other. f (λ h. other (cc))) s
+    → IfErr r (λ e. (after : Session) × EndsEarlyIn manner e caller session after unread left calls calls' (append_known a first) (append_known b last))
+    → IfErr r (λ e. (after : Session) × (taken : Option (List ℕ)) × EndsEarlyIn manner e caller session after unread left calls calls' a taken × ComesOut e taken b)
+fault_comes_out manner (Ok n) caller session unread left calls calls' a b first last e f s = tt
+fault_comes_out manner (Err d) caller session unread left calls calls' a b first last e f s = comes_out manner d caller session unread left calls calls' a b first last e (λ other. f (λ h. other (cc))) s
 
-answers_come_out : (r : Result ℕ ServeFault) (caller : ℕ) (session : Session) (unread left : Option (List ℕ)) (a b : Option (List ℕ)) (first last : List ℕ)
+answers_come_out : (manner : Manner) (r : Result ℕ ServeFault) (caller : ℕ) (session : Session) (unread left : Option (List ℕ)) (a b : Option (List ℕ)) (first last : List ℕ)
     → first ≡ [] → ((IsErrOf r Write → ⊥) → last ≡ [])
-    → IfOk r (λ n. (after : Session) × Answers caller n session after unread left (append_known a first) (append_known b last))
-    → IfOk r (λ n. (after : Session) × Answers caller n session after unread left a b)
-answers_come_out (Ok n) caller session unread left a b first last e f (after, s) =
+    → IfOk r (λ n. (after : Session) × AnswersIn manner caller n session after unread left (append_known a first) (append_known b last))
+    → IfOk r (λ n. (after : Session) × AnswersIn manner caller n session after unread left a b)
+answers_come_out manner (Ok n) caller session unread left a b first last e f (after, s) =
     (after, rw (none_wait a first e) at (rw (none_wait b last (f (λ h. cc))) at s))
-answers_come_out (Err d) caller session unread left a b first last e f s = tt
+answers_come_out manner (Err d) caller session unread left a b first last e f s = tt
 
 -- a sink, and what waits before it
 abbrev buffered : SinkState → List ℕ → SinkState
 buffered out waits = record { contents = append_known out.contents waits; waiting = out.waiting ++ waits; failures = out.failures; flushes = out.flushes }
 
 -- a site was served through a buffer
-pub served_through : (r : Result ℕ ServeFault) (site : Config) (unread left : SourceState) (out out' : SinkState) (first last : List ℕ) → first ≡ []
-    → IfOk r (λ n. (after : Session) × Answers 0 n (at_opening site) after unread.remaining left.remaining (append_known out.contents first) (append_known out'.contents last))
-    → IfErr r (λ e. (after : Session) × EndsEarly e 0 (at_opening site) after unread.remaining left.remaining unread.calls left.calls
+pub served_through : (manner : Manner) (r : Result ℕ ServeFault) (site : Config) (unread left : SourceState) (out out' : SinkState) (first last : List ℕ) → first ≡ []
+    → IfOk r (λ n. (after : Session) × AnswersIn manner 0 n (at_opening site) after unread.remaining left.remaining (append_known out.contents first) (append_known out'.contents last))
+    → IfErr r (λ e. (after : Session) × EndsEarlyIn manner e 0 (at_opening site) after unread.remaining left.remaining unread.calls left.calls
     (append_known out.contents first) (append_known out'.contents last))
-    → LeavesStreams r unread left (buffered out first) (buffered out' last) → IsServed site r unread left out out'
-served_through r site unread left out out' first last none ok fault s =
+    → LeavesStreams r unread left (buffered out first) (buffered out' last) → IsServed manner site r unread left out out'
+served_through manner r site unread left out out' first last none ok fault s =
     let sent : (IsErrOf r Write → ⊥) → last ≡ [] = λ h. second_none out'.waiting last (s.sent h) in
     record {
-      ok = answers_come_out r 0 (at_opening site) unread.remaining left.remaining out.contents out'.contents first last none sent ok;
-      fault = fault_comes_out r 0 (at_opening site) unread.remaining left.remaining unread.calls left.calls out.contents out'.contents first last none sent fault;
+      ok = answers_come_out manner r 0 (at_opening site) unread.remaining left.remaining out.contents out'.contents first last none sent ok;
+      fault = fault_comes_out manner r 0 (at_opening site) unread.remaining left.remaining unread.calls left.calls out.contents out'.contents first last none sent fault;
       streams = record {
         found = s.found;
         not_found = s.not_found;
@@ -155,8 +156,8 @@ served_through r site unread left out out' first last none ok fault s =
     }
 
 -- there was no memory for the buffer
-pub served_at_once : (e : ServeFault) (site : Config) (unread : SourceState) (out out' : SinkState)
-    → EndsEarly e 0 (at_opening site) (at_opening site) unread.remaining unread.remaining unread.calls unread.calls out.contents out'.contents
-    → LeavesStreams (Err e) unread unread out out' → IsServed site (Err e) unread unread out out'
-served_at_once e site unread out out' early s =
+pub served_at_once : (manner : Manner) (e : ServeFault) (site : Config) (unread : SourceState) (out out' : SinkState)
+    → EndsEarlyIn manner e 0 (at_opening site) (at_opening site) unread.remaining unread.remaining unread.calls unread.calls out.contents out'.contents
+    → LeavesStreams (Err e) unread unread out out' → IsServed manner site (Err e) unread unread out out'
+served_at_once manner e site unread out out' early s =
     record { ok = tt; fault = (at_opening site, out'.contents, early, comes_out_whole e out'.contents); streams = s }

@@ -1,5 +1,5 @@
 -- What comes of a run, and what comes out of it.
-use Rattle.std.proofs.Common.{◌≡◌, ◌∙◌, ◌<◌, ◌≤◌, ◌+◌, ◌++◌, ℕ, List, [], Option, None, Some, Result, Ok, Err, length, slice_get, get_or, refl, ap, subst, ⊎_elim, arith, flat_map, map}
+use Rattle.std.proofs.Common.{◌≡◌, ◌∙◌, ◌<◌, ◌≤◌, ◌+◌, ◌++◌, ℕ, List, [], Option, None, Some, Result, Ok, Err, length, slice_get, get_or, refl, ap, subst, sym, Bool, true, false, if◌then◌else◌, ⊎_elim, arith, flat_map, map}
 use Rattle.std.proofs.lemmas.Option.{slice_get_cases, slice_get_within}
 use Rattle.std.specs.Result.{IfErr, OnOk}
 use Rattle.std.specs.Io.KnownBytes.{Appends, Keeps, append_known}
@@ -9,6 +9,8 @@ use Rattle.esx_events.specs.declared.call.Line.{Line}
 use Rattle.esx_events.specs.declared.event.Refusal.{Refusal}
 use Rattle.esx_model.specs.Console.{Session}
 use Rattle.esx_scenario.specs.Plans.{Plan}
+use Rattle.esx_refused.specs.declared.coming.RefusedOpening.{RefusedOpening}
+use Rattle.esx_refused.specs.Refused.{first_refused}
 use Rattle.esx_scenario.specs.declared.plan.Guest.{Guest}
 use Rattle.esx_opening.specs.Orders.{in_order}
 use Rattle.esx_opening.specs.declared.opening.SiteFault.{SiteFault}
@@ -22,9 +24,9 @@ use Rattle.esx_text.specs.States.{SinkState}
 use Rattle.esx_program.specs.declared.ends.Ending.{Ending}
 use Rattle.esx_program.specs.declared.ends.Name.{Name}
 use Rattle.esx_program.specs.declared.running.RunFault.{RunFault}
-use Rattle.esx_program.specs.declared.running.RunFault.TheVariants.{Refused, Write, OutOfMemory}
+use Rattle.esx_program.specs.declared.running.RunFault.TheVariants.{Refused, RefusedAt, Write, OutOfMemory}
 use Rattle.esx_program.specs.Ends.{endings, ending_text, workers_named}
-use Rattle.esx_program.specs.Runs.{AreTold, IsPlayed, IsRefusedOpening, NotPlayed, Plays, RunStops, StopsTelling, fault_of, told_session, written_as}
+use Rattle.esx_program.specs.Runs.{AreTold, IsPlayed, IsRefusedOpening, NotPlayed, Plays, RefusesMachine, RunStops, StopsTelling, fault_of, refused_at, told_session, with_machine, written_as}
 use Rattle.esx_program.proofs.OutgoingLemmas.{appends_known, none_wait, second_none, writes_kept}
 
 -- the session of a console, whose site and log are told
@@ -79,8 +81,29 @@ endings_told all names names' ends ends' guests guests' is n e named same =
 -- where there was no run
 pub nothing_told : (e : RunFault) (p : Plan) (errors out : SinkState) → NotPlayed e p → RunStops e p errors errors out out
 nothing_told (Refused x) p errors out n = (n, refl, refl)
+nothing_told (RefusedAt x machine) p errors out n = (n, refl, refl)
 nothing_told Write p errors out n = absurd n
 nothing_told OutOfMemory p errors out n = (refl, refl)
+
+-- the machine that was found is that of the scenario
+pub machine_is_named : (e : Refusal) (p : Plan) (site : Config) (guests : List Guest) (found : Option RefusedOpening) → site ≡ p.site → guests ≡ p.guests
+    → found ≡ first_refused site guests → refused_at e found ≡ with_machine p (Refused e)
+machine_is_named e p site guests found s g f = ap (refused_at e) (f ∙ (ap (λ c. first_refused c guests) s ∙ ap (first_refused p.site) g))
+
+-- there was no run for the same cause, where the machine that is not admitted is named
+machine_named : (e : Refusal) (p : Plan) (found : Option RefusedOpening) → found ≡ first_refused p.site p.guests → IsRefusedOpening p e → NotPlayed (refused_at e found) p
+machine_named e p None same n = n
+machine_named e p (Some machine) same n = (n, sym same)
+
+still_not_played : (fault : RunFault) (p : Plan) → NotPlayed fault p → NotPlayed (with_machine p fault) p
+still_not_played (Refused e) p n = machine_named e p (first_refused p.site p.guests) refl n
+still_not_played (RefusedAt e machine) p n = n
+still_not_played Write p n = n
+still_not_played OutOfMemory p n = n
+
+pub told_not_played : (b : Bool) (fault : RunFault) (p : Plan) → NotPlayed fault p → NotPlayed (if b then with_machine p fault else fault) p
+told_not_played true fault p n = still_not_played fault p n
+told_not_played false fault p n = n
 
 -- what came out of a buffer of a session
 module _ (console : Session) (out out' : SinkState) where

@@ -50,6 +50,7 @@ files_there remaining given state seen wanted other left read same so = record {
   word = so.word.1 ∙ same.word;
   file = file_may_be_there remaining given state seen (asked_of wanted).1 (asked_of other).1 (asked_of left).1 (asked_of read).1 same.file so.file;
   question = so.question ∙ same.question;
+  manner = so.manner ∙ same.manner;
 }
 
 -- the same is asked for, with a file where a file is named
@@ -70,7 +71,7 @@ may_fail_so asked other word named (Text (text.Differs k)) m = m
 may_fail_so asked other word named (Text text.Read) m = named m
 may_fail_so asked other word named (Text text.Write) m = m
 may_fail_so asked other word named (Text text.OutOfMemory) m = named m
-may_fail_so asked other word named (Serve e) m = sym word ∙ m
+may_fail_so asked other word named (Serve e) m = rw word at m
 may_fail_so asked other word named (Output e) m = rw word at m
 may_fail_so asked other word named (Run e) m = sym word ∙ m
 may_fail_so asked other word named (Report e) m = (rw word at m.0, rw word at m.1)

@@ -11,6 +11,8 @@ use Rattle.esx_reading.specs.declared.fault.TextFault.TheVariants as text
 use Rattle.esx_scenario.specs.Plans.{Plan}
 use Rattle.esx_session.specs.declared.session.Entry.{Entry}
 use Rattle.esx_text.specs.States.{SourceState, SinkState}
+use Rattle.esx_text.specs.declared.echo.Manner.{Manner}
+use Rattle.esx_recording.specs.Recording.{Records, RecordStops}
 use Rattle.esx_check.specs.Checks.{ChecksText, checked_text}
 use Rattle.esx_check.specs.Differences.{ComparesText, checked_of, compared_text}
 use Rattle.esx_check.specs.declared.check.Checked.{Checked as Outcome}
@@ -19,7 +21,7 @@ use Rattle.esx_check.specs.declared.fault.OutputFault.TheVariants as output
 use Rattle.esx_program.specs.declared.words.Asked.{Asked}
 use Rattle.esx_program.specs.declared.words.Asked.TheVariants as asked
 use Rattle.esx_program.specs.declared.Done.{Done}
-use Rattle.esx_program.specs.declared.Done.TheVariants.{Served, Ran, Replayed, Checked, Compared, Migrated, Helped}
+use Rattle.esx_program.specs.declared.Done.TheVariants.{Served, Recorded, Ran, Replayed, Checked, Compared, Migrated, Helped}
 use Rattle.esx_program.specs.declared.Failure.{Failure}
 use Rattle.esx_program.specs.declared.Failure.TheVariants.{Words, Text, Serve, Output, Run}
 use Rattle.esx_program.specs.Failing.{Asks}
@@ -47,11 +49,18 @@ LacksSite None e = ⊥
 LacksSite (Some read) e = LacksScenario read e
 
 -- A console ends: all input was answered at that site, or it was served up to a fault. Or the file that is named has no site, and nothing was read or written.
-abbrev pub EndsConsole : Option Opened → Result Done Failure → SourceState → SourceState → SinkState → SinkState → Type 0
-EndsConsole file (Ok Served) unread left out out' = (site : Config) × IsSiteAsked file site × (count : ℕ) × IsServed site (Ok count) unread left out out'
-EndsConsole file (Err (Text e)) unread left out out' = LacksSite file e × (left ≡ unread) × (out' ≡ out)
-EndsConsole file (Err (Serve e)) unread left out out' = (site : Config) × IsSiteAsked file site × IsServed site (Err e) unread left out out'
-EndsConsole file ended unread left out out' = ⊥
+abbrev pub EndsConsole : Option Opened → Manner → Result Done Failure → SourceState → SourceState → SinkState → SinkState → Type 0
+EndsConsole file manner (Ok Served) unread left out out' = (site : Config) × IsSiteAsked file site × (count : ℕ) × IsServed manner site (Ok count) unread left out out'
+EndsConsole file manner (Err (Text e)) unread left out out' = LacksSite file e × (left ≡ unread) × (out' ≡ out)
+EndsConsole file manner (Err (Serve e)) unread left out out' = (site : Config) × IsSiteAsked file site × IsServed manner site (Err e) unread left out out'
+EndsConsole file manner ended unread left out out' = ⊥
+
+-- A recording ends: all commands were made at that site and their session was written, or it stopped. Or the file that is named has no site, and nothing was read or written.
+abbrev pub EndsRecord : Option Opened → Result Done Failure → SourceState → SourceState → SinkState → SinkState → SinkState → SinkState → Type 0
+EndsRecord file (Ok Recorded) unread left errors errors' out out' = (site : Config) × IsSiteAsked file site × (count : ℕ) × Records site count unread left errors errors' out out'
+EndsRecord file (Err (Text e)) unread left errors errors' out out' = LacksSite file e × (left ≡ unread) × (errors' ≡ errors) × (out' ≡ out)
+EndsRecord file (Err (Serve e)) unread left errors errors' out out' = (site : Config) × IsSiteAsked file site × RecordStops e site unread left errors errors' out out'
+EndsRecord file ended unread left errors errors' out out' = ⊥
 
 -- A run ends: the scenario in a file was run and told, or its run stopped. Or there is no such scenario, and nothing was written.
 abbrev pub EndsRun : Opened → Result Done Failure → SinkState → SinkState → SinkState → SinkState → Type 0
@@ -99,7 +108,8 @@ EndsHelp ended out out' = ⊥
 
 -- What is asked for was done, and ended so: with what a source had, with what was told of errors, and with what was written. The streams that it takes no part in are as they were.
 abbrev pub Does : Asked Opened → Result Done Failure → SourceState → SourceState → SinkState → SinkState → SinkState → SinkState → Type 0
-Does (asked.Console file) ended unread left errors errors' out out' = EndsConsole file ended unread left out out' × (errors' ≡ errors)
+Does (asked.Console file manner) ended unread left errors errors' out out' = EndsConsole file manner ended unread left out out' × (errors' ≡ errors)
+Does (asked.Record file) ended unread left errors errors' out out' = EndsRecord file ended unread left errors errors' out out'
 Does (asked.Run read) ended unread left errors errors' out out' = EndsRun read ended errors errors' out out' × (left ≡ unread)
 Does (asked.Replay read) ended unread left errors errors' out out' = EndsReplay read ended out out' × (left ≡ unread) × (errors' ≡ errors)
 Does (asked.Check read) ended unread left errors errors' out out' = EndsCheck read ended out out' × (left ≡ unread) × (errors' ≡ errors)

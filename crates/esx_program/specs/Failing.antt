@@ -19,9 +19,13 @@ use Rattle.esx_program.specs.Given.{Args, words_failure}
 use Rattle.esx_program.specs.Status.{word_of_done}
 use Rattle.esx_program.specs.Words.{HaveNoFault, InFull, asked_in, program_app}
 
+-- a word that takes a scenario
+abbrev pub WantsScenario : {A : Type 0} → Word × Option A → Type 0
+WantsScenario asked = (asked.0 ≡ codes "console") ⊎ ((asked.0 ≡ codes "record") ⊎ (asked.0 ≡ codes "run"))
+
 -- a word and a file that is a scenario
 abbrev pub NamesScenario : {A : Type 0} → Word × Option A → Type 0
-NamesScenario asked = IsSome asked.1 × ((asked.0 ≡ codes "console") ⊎ (asked.0 ≡ codes "run"))
+NamesScenario asked = IsSome asked.1 × WantsScenario asked
 
 -- a word that wants a session
 abbrev pub WantsSession : {A : Type 0} → Word × Option A → Type 0
@@ -51,7 +55,7 @@ LacksAnswer word (report.Refused OutOfRange) = word ≡ codes "why"
 LacksAnswer word (report.Output e) = Unit {0}
 LacksAnswer word _ = ⊥
 
--- how what is asked for may fail: at the file, if one is named, at the streams of a console, in a run, at a question, or where something else is written
+-- how what is asked for may fail: at the file, if one is named, at the streams of a console or of a recording, in a run, at a question, or where something else is written
 abbrev pub MayFail : {A : Type 0} → Word × Option A → Failure → Type 0
 MayFail asked Words = ⊥
 MayFail asked (Text text.NotToml) = NamesScenario asked
@@ -62,7 +66,7 @@ MayFail asked (Text (text.Differs k)) = ⊥
 MayFail asked (Text text.Read) = IsSome asked.1
 MayFail asked (Text text.Write) = ⊥
 MayFail asked (Text text.OutOfMemory) = IsSome asked.1
-MayFail asked (Serve e) = asked.0 ≡ codes "console"
+MayFail asked (Serve e) = (asked.0 ≡ codes "console") ⊎ (asked.0 ≡ codes "record")
 MayFail asked (Output e) = WritesText asked
 MayFail asked (Run e) = asked.0 ≡ codes "run"
 MayFail asked (Report e) = AsksQuestion asked × LacksAnswer asked.0 e
@@ -85,13 +89,13 @@ AnswersQuestion _ question = Unit {0}
 
 -- what was done is what the words ask for
 abbrev pub DoesAsked : List Word → Done → Type 0
-DoesAsked words done = (file : Option Word) × (question : Option Question) × Asks words (word_of_done done, file, question) × AnswersQuestion done question
+DoesAsked words done = (asked : InFull) × Asks words asked × (asked.word ≡ word_of_done done) × AnswersQuestion done asked.question
 
 -- Wrong words are refused. Memory may always run out. Any other failure is one of what the words ask for.
 abbrev pub FailsAfter : List Word → Failure → Type 0
 FailsAfter words Words = (takes program_app words ≡ false) ⊎ (asked_in words ≡ None)
 FailsAfter words (Text text.OutOfMemory) = Unit {0}
-FailsAfter words failure = (asked : InFull) × Asks words asked × MayFail (asked.0, asked.1) failure
+FailsAfter words failure = (asked : InFull) × Asks words asked × MayFail (asked.word, asked.file) failure
 
 -- how it ends with what it was given
 abbrev pub EndsWith : Result Args Error → Result Done Failure → Type 0

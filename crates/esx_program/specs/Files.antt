@@ -16,7 +16,7 @@ use Rattle.esx_session.specs.Sessions.{HasOpening, IsRefused, Reads, ReadsScript
 use Rattle.esx_text.specs.Answers.{ReadsOn}
 use Rattle.esx_text.specs.States.{SourceState}
 use Rattle.esx_program.specs.Given.{open_fault}
-use Rattle.esx_program.specs.Words.{asked_of, question_of}
+use Rattle.esx_program.specs.Words.{asked_of, manner_of, question_of}
 use Rattle.esx_program.specs.declared.words.Asked.{Asked}
 
 -- there were at most `READS` reads, of `CHUNK` bytes each
@@ -114,6 +114,7 @@ pub record AreLeft {F : Type 0} (state : F → SourceState) (wanted left : Asked
   pub word : ((asked_of left).0 ≡ (asked_of wanted).0) × ((asked_of read).0 ≡ (asked_of wanted).0)
   pub file : MayBeLeft state (asked_of wanted).1 (asked_of left).1 (asked_of read).1
   pub question : question_of read ≡ question_of wanted
+  pub manner : manner_of read ≡ manner_of wanted
 
 -- it is this file, whose bytes alone are known
 abbrev pub IsFile : {F : Type 0} → (F → Option (List ℕ)) → Result F Error → Opened → Type 0

@@ -1,11 +1,13 @@
 -- What a run of a scenario leaves, and what is told of it.
-use Rattle.std.specs.Prelude.{◌≡◌, ℕ, ◌+◌, List, [], map, length, Option, Result, Ok, Err, OnOk}
+use Rattle.std.specs.Prelude.{◌≡◌, ℕ, ◌+◌, List, [], map, length, Option, Some, None, Result, Ok, Err, OnOk}
 use Rattle.std.specs.Io.KnownBytes.{Appends}
 use Rattle.esx_types.specs.declared.ends.SinkFailed.{SinkFailed}
 use Rattle.esx_events.specs.declared.event.Refusal.{Refusal}
 use Rattle.esx_model.specs.Console.{Session, IsLegal}
 use Rattle.esx_console.specs.Calls.{opened_session}
 use Rattle.esx_scenario.specs.Plans.{Plan}
+use Rattle.esx_refused.specs.declared.coming.RefusedOpening.{RefusedOpening}
+use Rattle.esx_refused.specs.Refused.{first_refused}
 use Rattle.esx_opening.specs.Openings.{opening_events, AreAccepted, IsRefusedAt}
 use Rattle.esx_workers.specs.declared.end.End.{End}
 use Rattle.esx_work.specs.Runs.{RunsOn}
@@ -15,7 +17,7 @@ use Rattle.esx_session.specs.Sessions.{session_text, logged}
 use Rattle.esx_text.specs.States.{SinkState}
 use Rattle.esx_program.specs.Ends.{ends_text}
 use Rattle.esx_program.specs.declared.running.RunFault.{RunFault}
-use Rattle.esx_program.specs.declared.running.RunFault.TheVariants.{Refused, Write, OutOfMemory}
+use Rattle.esx_program.specs.declared.running.RunFault.TheVariants.{Refused, RefusedAt, Write, OutOfMemory}
 use Rattle.esx_opening.specs.declared.opening.SiteFault.{SiteFault}
 use Rattle.esx_opening.specs.declared.opening.SiteFault.TheVariants as site
 
@@ -52,6 +54,19 @@ pub record StopsTelling (console : Session) (out out' : SinkState) : Type 0 wher
 abbrev pub IsRefusedOpening : Plan → Refusal → Type 0
 IsRefusedOpening p e = IsRefusedAt (opening_events p.guests) (opened_session p.site) e
 
+-- such a call, and the first machine of the scenario that is not admitted
+abbrev pub RefusesMachine : Plan → Refusal → RefusedOpening → Type 0
+RefusesMachine p e machine = IsRefusedOpening p e × (first_refused p.site p.guests ≡ Some machine)
+
+-- a call of the opening was refused so: the same with that machine, if there is one
+abbrev pub refused_at : Refusal → Option RefusedOpening → RunFault
+refused_at e None = Refused e
+refused_at e (Some machine) = RefusedAt e machine
+
+abbrev pub with_machine : Plan → RunFault → RunFault
+with_machine p (Refused e) = refused_at e (first_refused p.site p.guests)
+with_machine p fault = fault
+
 -- a site that was not opened, as a fault of the run
 abbrev pub fault_of : SiteFault → RunFault
 fault_of (site.Refused e) = Refused e
@@ -65,6 +80,7 @@ written_as (Err e) = Err Write
 -- why there was no run
 abbrev pub NotPlayed : RunFault → Plan → Type 0
 NotPlayed (Refused e) p = IsRefusedOpening p e
+NotPlayed (RefusedAt e machine) p = RefusesMachine p e machine
 NotPlayed Write p = ⊥
 NotPlayed OutOfMemory p = Unit {0}
 
@@ -90,5 +106,6 @@ pub record PlaysFront (p : Plan) (errors errors' out out' : SinkState) : Type 0 
 -- Where there was no run nothing was told. After a fault of writing the ends were told, and a front of the session.
 abbrev pub RunStops : RunFault → Plan → SinkState → SinkState → SinkState → SinkState → Type 0
 RunStops (Refused e) p errors errors' out out' = IsRefusedOpening p e × (errors' ≡ errors) × (out' ≡ out)
+RunStops (RefusedAt e machine) p errors errors' out out' = RefusesMachine p e machine × (errors' ≡ errors) × (out' ≡ out)
 RunStops Write p errors errors' out out' = PlaysFront p errors errors' out out'
 RunStops OutOfMemory p errors errors' out out' = (errors' ≡ errors) × (out' ≡ out)

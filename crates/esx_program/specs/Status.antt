@@ -18,7 +18,7 @@ use Rattle.esx_program.specs.declared.running.RunFault.TheVariants as run
 use Rattle.esx_program.specs.declared.words.WordsFault.{WordsFault}
 use Rattle.esx_program.specs.declared.words.WordsFault.TheVariants as words
 use Rattle.esx_program.specs.declared.Done.{Done}
-use Rattle.esx_program.specs.declared.Done.TheVariants.{Served, Ran, Replayed, Checked, Compared, Migrated, Answered, Helped}
+use Rattle.esx_program.specs.declared.Done.TheVariants.{Served, Recorded, Ran, Replayed, Checked, Compared, Migrated, Answered, Helped}
 use Rattle.esx_program.specs.declared.Failure.{Failure}
 use Rattle.esx_program.specs.declared.Failure.TheVariants.{Words, Text, Serve, Output, Run, Report}
 use Rattle.esx_program.specs.Sessions.{IsTold, IsNotTold, check_status}
@@ -40,6 +40,7 @@ status_of (Serve OutOfMemory) = 3
 status_of (Output output.Write) = 1
 status_of (Output output.OutOfMemory) = 3
 status_of (Run (run.Refused e)) = 1
+status_of (Run (run.RefusedAt e machine)) = 1
 status_of (Run run.Write) = 1
 status_of (Run run.OutOfMemory) = 3
 status_of (Report e) = status_of_report e
@@ -63,6 +64,7 @@ word_of_what (whats.Why vm page) = codes "why"
 -- the word that asks for what was done
 abbrev pub word_of_done : Done → List ℕ
 word_of_done Served = codes "console"
+word_of_done Recorded = codes "record"
 word_of_done Ran = codes "run"
 word_of_done Replayed = codes "replay"
 word_of_done (Checked checked) = codes "check"
@@ -100,6 +102,7 @@ TellsNoDiff bytes _ old new = ⊥
 -- 0, but 1 where a session differs
 abbrev pub status_of_done : Done → ℕ
 status_of_done Served = 0
+status_of_done Recorded = 0
 status_of_done Ran = 0
 status_of_done Replayed = 0
 status_of_done (Checked checked) = check_status checked

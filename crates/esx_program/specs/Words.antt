@@ -4,6 +4,7 @@ use Rattle.std.specs.Option.{option_map_or}
 use Rattle.std.specs.Str.{bytes_eq}
 use Rattle.std.specs.Borrow.{Bor}
 use Rattle.clap.specs.Simple.{on_top}
+use Rattle.clap.specs.declared.builder.action.ArgAction.TheVariants.{SetTrue}
 use Rattle.clap.specs.Words.{App, Row, Rule, Text, fault_of, first_of, new_app, new_rule, subcommand_of, with_rule, with_subcommand}
 use Rattle.esx_events.specs.Names.{is_name}
 use Rattle.esx_scenario.specs.Lines.{number_in}
@@ -14,9 +15,11 @@ use Rattle.esx_reports.specs.declared.question.Table.TheVariants.{Losses, Guests
 use Rattle.esx_reports.specs.declared.question.What.{What}
 use Rattle.esx_reports.specs.declared.question.What.TheVariants as whats
 use Rattle.esx_reports.specs.declared.question.Question.{Question}
+use Rattle.esx_text.specs.declared.echo.Manner.{Manner}
+use Rattle.esx_text.specs.declared.echo.Manner.TheVariants.{Plain, Echoed}
 use Rattle.esx_program.specs.Status.{word_of_what}
 use Rattle.esx_program.specs.declared.words.Asked.{Asked}
-use Rattle.esx_program.specs.declared.words.Asked.TheVariants.{Console, Run, Replay, Check, Diff, Migrate, Report, Help}
+use Rattle.esx_program.specs.declared.words.Asked.TheVariants.{Console, Record, Run, Replay, Check, Diff, Migrate, Report, Help}
 
 -- a word, and at most one file behind it
 abbrev pub with_file : Text → App
@@ -25,6 +28,10 @@ with_file word = with_rule (new_app word) (new_rule (codes "file"))
 -- the same, and a value that `--` and its name stand before
 abbrev pub with_named : Text → App → App
 with_named name app = with_rule app (record (new_rule name) { long = Some name })
+
+-- `console` and a file, and by its name whether each command is echoed
+abbrev pub console_app : App
+console_app = with_rule (with_file (codes "console")) (record (new_rule (codes "echo")) { long = Some (codes "echo"); action = Some SetTrue })
 
 -- `report` and a file, and by their names a node and a table
 abbrev pub report_app : App
@@ -38,17 +45,18 @@ why_app = with_named (codes "at") (with_rule (with_rule (with_file (codes "why")
 abbrev pub without_help : App → App
 without_help = on_top (λ s. record s { disable_help_subcommand = true })
 
--- nothing, or `help`, or `report` or `why` and a question, or one of the six other words and at most one file
+-- nothing, or `help`, or `report` or `why` and a question, or one of the seven other words and at most one file
 abbrev pub program_app : App
 program_app =
-    with_subcommand (with_subcommand (with_subcommand (with_subcommand (with_subcommand (with_subcommand (with_subcommand (with_subcommand (with_subcommand
+    with_subcommand (with_subcommand (with_subcommand (with_subcommand (with_subcommand (with_subcommand (with_subcommand (with_subcommand (with_subcommand (with_subcommand
     (without_help (new_app (codes "esxplan")))
-    (with_file (codes "console")).top) (with_file (codes "replay")).top) (with_file (codes "check")).top) (with_file (codes "diff")).top)
+    console_app.top) (with_file (codes "record")).top) (with_file (codes "replay")).top) (with_file (codes "check")).top) (with_file (codes "diff")).top)
     (with_file (codes "migrate")).top) report_app.top) why_app.top) (new_app (codes "help")).top) (with_file (codes "run")).top
 
 -- the word that asks for it, and what it names
 abbrev pub asked_of : {F : Type 0} → Asked F → Text × Option F
-asked_of (Console file) = (codes "console", file)
+asked_of (Console file manner) = (codes "console", file)
+asked_of (Record file) = (codes "record", file)
 asked_of (Run file) = (codes "run", Some file)
 asked_of (Replay file) = (codes "replay", Some file)
 asked_of (Check file) = (codes "check", Some file)
@@ -62,13 +70,21 @@ abbrev pub question_of : {F : Type 0} → Asked F → Option Question
 question_of (Report file question) = Some question
 question_of _ = None
 
--- a word, the path behind it, and a question
-abbrev pub InFull : Type 0
-InFull = Text × Option Text × Option Question
+-- in which manner a console is to answer
+abbrev pub manner_of : {F : Type 0} → Asked F → Manner
+manner_of (Console file manner) = manner
+manner_of _ = Plain
+
+-- a word, the path behind it, a question, and in which manner a console answers
+pub record InFull : Type 0 where
+  pub word : Text
+  pub file : Option Text
+  pub question : Option Question
+  pub manner : Manner
 
 -- all that is named where it is asked for
 abbrev pub named_in_full : Asked (Bor Text) → InFull
-named_in_full asked = ((asked_of asked).0, option_map (λ f. f.now) (asked_of asked).1, question_of asked)
+named_in_full asked = record { word = (asked_of asked).0; file = option_map (λ f. f.now) (asked_of asked).1; question = question_of asked; manner = manner_of asked }
 
 -- neither, or both are so
 abbrev pub MayBe : {F G : Type 0} → (F → G → Type 0) → Option F → Option G → Type 0
@@ -76,11 +92,12 @@ MayBe R None None = Unit {0}
 MayBe R (Some a) (Some b) = R a b
 MayBe R a b = ⊥
 
--- the same word asks for both, and so are the files that they name; the question is the same
+-- the same word asks for both, and so are the files that they name; the question and the manner are the same
 pub record AskAlike {F G : Type 0} (R : F → G → Type 0) (a : Asked F) (b : Asked G) : Type 0 where
   pub word : (asked_of b).0 ≡ (asked_of a).0
   pub file : MayBe R (asked_of a).1 (asked_of b).1
   pub question : question_of b ≡ question_of a
+  pub manner : manner_of b ≡ manner_of a
 
 -- the words say no less and no more than may stand there, and ask for no help by a flag
 abbrev pub HaveNoFault : List Text → Type 0
@@ -122,17 +139,32 @@ question_at node what = option_and_then (λ n. option_map (λ w. record { at = n
 
 -- what a question asks for of a file
 abbrev pub of_question : Option Text → Option Question → Option InFull
-of_question file question = option_and_then (λ q. option_map (λ f. (word_of_what q.what, Some f, Some q)) file) question
+of_question file question = option_and_then (λ q. option_map (λ f. record { word = word_of_what q.what; file = Some f; question = Some q; manner = Plain }) file) question
 
--- what another word and the file behind it ask for: a console needs no file, and help takes none
-abbrev pub of_file : Text → Option Text → Option InFull
-of_file word file =
-    if bytes_eq word (codes "run") then option_map (λ f. (codes "run", Some f, None)) file
-    else (if bytes_eq word (codes "replay") then option_map (λ f. (codes "replay", Some f, None)) file
-    else (if bytes_eq word (codes "check") then option_map (λ f. (codes "check", Some f, None)) file
-    else (if bytes_eq word (codes "diff") then option_map (λ f. (codes "diff", Some f, None)) file
-    else (if bytes_eq word (codes "migrate") then option_map (λ f. (codes "migrate", Some f, None)) file
-    else (if bytes_eq word (codes "help") then Some (codes "help", None, None) else Some (codes "console", file, None))))))
+-- a word that is asked for so with a file, or without one
+abbrev pub with_word : Text → Option Text → InFull
+with_word word file = record { word = word; file = file; question = None; manner = Plain }
+
+-- the same of a word that wants a file
+abbrev pub with_its_file : Text → Option Text → Option InFull
+with_its_file word file = option_map (λ f. with_word word (Some f)) file
+
+-- what another word and the file behind it ask for: a console and a recording need no file, and help takes none
+abbrev pub of_file : Text → Option Text → Manner → Option InFull
+of_file word file manner =
+    if bytes_eq word (codes "run") then with_its_file (codes "run") file
+    else (if bytes_eq word (codes "replay") then with_its_file (codes "replay") file
+    else (if bytes_eq word (codes "check") then with_its_file (codes "check") file
+    else (if bytes_eq word (codes "diff") then with_its_file (codes "diff") file
+    else (if bytes_eq word (codes "migrate") then with_its_file (codes "migrate") file
+    else (if bytes_eq word (codes "record") then Some (with_word (codes "record") file)
+    else (if bytes_eq word (codes "help") then Some (with_word (codes "help") None)
+    else Some (record (with_word (codes "console") file) { manner = manner })))))))
+
+-- the flag that asks for an echo, as it was found
+abbrev pub manner_of_flag : Option Text → Manner
+manner_of_flag None = Plain
+manner_of_flag (Some flag) = if bytes_eq flag (codes "true") then Echoed else Plain
 
 -- what a word and what stands behind it ask for
 abbrev pub asked_by : Text → List Row → Option InFull
@@ -141,11 +173,11 @@ asked_by word rows =
     let node = at_named (first_of (codes "at") rows) in
     if bytes_eq word (codes "report") then of_question file (question_at node (what_reported (first_of (codes "csv") rows)))
     else (if bytes_eq word (codes "why") then of_question file (question_at node (what_explained (first_of (codes "vm") rows) (first_of (codes "page") rows)))
-    else of_file word file)
+    else of_file word file (manner_of_flag (first_of (codes "echo") rows)))
 
 -- the same of the words behind the program's name; without a word it is a console
 abbrev pub asked_at : Option (Text × List Row) → Option InFull
-asked_at None = Some (codes "console", None, None)
+asked_at None = Some (with_word (codes "console") None)
 asked_at (Some found) = asked_by found.0 found.1
 
 -- what the words ask for, if it is anything

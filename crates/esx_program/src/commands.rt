@@ -1,109 +1,32 @@
 //! What the program does with a file and with streams, as it is asked for.
 
 ghost use Rattle.std.specs.Prelude.{◌≡◌, ◌≤◌, Option, IfOk, IfErr};
-ghost use Rattle.esx_types.specs.Ranges.{IsConfig};
 ghost use Rattle.esx_text.specs.States.{sink_state, source_state};
 ghost use Rattle.esx_program.specs.declared.words.Asked.{Asked as Wanted};
-ghost use Rattle.esx_program.specs.Doing.{Does, EndsCheck, EndsConsole, EndsDiff, EndsHelp, EndsMigrate, EndsReplay, EndsRun, IsSiteAsked, LacksSite};
-ghost use Rattle.esx_program.specs.Files.{AreLeft, IsLeft, MayBeLeft, Opened};
+ghost use Rattle.esx_program.specs.Doing.{Does, EndsCheck, EndsDiff, EndsHelp, EndsMigrate, EndsReplay, EndsRun};
+ghost use Rattle.esx_program.specs.Files.{AreLeft, IsLeft, Opened};
 ghost use Rattle.esx_program.specs.Status.{TellsCheck, TellsDiff, TellsNoCheck, TellsNoDiff};
 
 use crate::files::{scenario_of_file, script_of_file, session_of_file, text_of_file};
 use crate::help::tell_help;
 use crate::migrating::migrate_to;
-use crate::outgoing::{Outgoing, Waiting};
 use crate::reporting::report_file;
-use crate::running::run_to;
+use crate::running::{Ran, run_to};
+use crate::serving::{record_file, serve_file};
 use crate::session::{check_watched, diff_watched, replay_watched, tell};
-use crate::site::serve_site;
 use crate::streams::{Ended, Streams};
 use crate::words::Asked;
-use crate::{Done, Failure, SITE};
+use crate::{Done, Failure};
 use esx_check::OutputFault;
 use esx_paths::At;
-use esx_reading::TextFault;
 use esx_reports::Question;
-use esx_text::give_up;
-use esx_types::{Config, Sink, SinkFailed, Source};
+use esx_types::{Sink, SinkFailed, Source};
 use std::alloc::{AllocGlobal, Global};
 use std::marker::Brand;
 use std::sync::Wait;
-use std::sync::ledger::{Blank, Ledger};
+use std::sync::ledger::Blank;
 use std::thread::Threads;
 use std::{io, mem};
-
-/// The site of the scenario in a file, or the program's own where no file is named.
-fn site_asked<F: Source>(
-    alloc: Global,
-    file: &mut Option<io::Result<F>>,
-) -> Result<Config, TextFault>
-    ensures config { IfOk result IsConfig }
-    ensures site { (read : Option Opened) × MayBeLeft (source_state F.remaining F.calls F.failures F.empty_reads F.asked) file.old file.new read
-        × IfOk result (IsSiteAsked read) × IfErr result (LacksSite read) }
-{
-    match file {
-        Some(opened) => match scenario_of_file(alloc, opened) {
-            Ok(scenario) => Ok(scenario.config()),
-            Err(fault) => Err(fault),
-        },
-        None => Ok(SITE),
-    }
-}
-
-/// Serves a reader to a writer, at the site of a scenario if a file is named. The answers wait until more input is
-/// asked for.
-///
-/// After a fault of writing the writer may lack some of the answers to the lines before it, and not of the last one
-/// alone.
-fn serve_file<F: Source, I: Source + Drop, E: Drop, W: Sink + Drop, L: Ledger>(
-    alloc: Global,
-    file: &mut Option<io::Result<F>>,
-    streams: Streams<I, E, W>,
-    blank: Blank,
-) -> Ended<I, E, W>
-    requires name { blank.name ≡ L.name }
-    requires parts { blank.parts ≡ L.parts }
-    requires four { 4 ≤ blank.parts }
-    ensures served { (read : Option Opened) × MayBeLeft (source_state F.remaining F.calls F.failures F.empty_reads F.asked) file.old file.new read
-        × EndsConsole read result.ended
-        (source_state I.remaining I.calls I.failures I.empty_reads I.asked streams.reader) (source_state I.remaining I.calls I.failures I.empty_reads I.asked result.streams.reader)
-        (sink_state W.contents W.waiting W.failures W.flushes streams.writer) (sink_state W.contents W.waiting W.failures W.flushes result.streams.writer) }
-    ensures errors { result.streams.errors ≡ streams.errors }
-{
-    let site = match site_asked(alloc, file) {
-        Ok(site) => site,
-        Err(fault) => {
-            let ended = Err(Failure::Text(fault));
-            return Ended { ended, streams };
-        }
-    };
-    let Streams {
-        mut reader,
-        errors,
-        mut writer,
-    } = streams;
-    let Ok(waiting) = Waiting::new(alloc) else {
-        let ended = Err(Failure::Serve(give_up(&mut writer)));
-        let streams = Streams {
-            reader,
-            errors,
-            writer,
-        };
-        return Ended { ended, streams };
-    };
-    let mut outgoing = Outgoing::<W, L>::new(writer, waiting, blank);
-    let served = serve_site(alloc, site, &mut reader, &mut outgoing);
-    let streams = Streams {
-        reader,
-        errors,
-        writer: outgoing.into_sink(),
-    };
-    let ended = match served {
-        Ok(_) => Ok(Done::Served),
-        Err(fault) => Err(Failure::Serve(fault)),
-    };
-    Ended { ended, streams }
-}
 
 /// Runs the scenario in a file, tells how its workers ended to `errors`, and writes the session that they made
 /// to `writer`. How far they are is told to `to`, where there is one.
@@ -133,15 +56,19 @@ fn run_file<
         errors,
         writer,
     } = streams;
-    let ran = run_to(rt, rt.alloc(), &scenario, to, errors, writer);
-    let ended = match ran.ended {
+    let Ran {
+        ended: ran,
+        errors,
+        writer,
+    } = run_to(rt, rt.alloc(), &scenario, to, errors, writer);
+    let ended = match ran {
         Ok(()) => Ok(Done::Ran),
         Err(fault) => Err(Failure::Run(fault)),
     };
     let streams = Streams {
         reader,
-        errors: ran.errors,
-        writer: ran.writer,
+        errors,
+        writer,
     };
     Ended { ended, streams }
 }
@@ -342,9 +269,11 @@ pub fn run_asked<
         (sink_state W.contents W.waiting W.failures W.flushes streams.writer) (sink_state W.contents W.waiting W.failures W.flushes result.streams.writer) }
 {
     match asked {
-        Asked::Console(file) => {
-            serve_file::<_, _, _, _, Brand>(rt.alloc(), file, streams, Blank::new(4))
+        Asked::Console(file, manner) => {
+            let manner = *manner;
+            serve_file::<_, _, _, _, _, Brand>(rt.alloc(), file, manner, to, streams, Blank::new(4))
         }
+        Asked::Record(file) => record_file(rt.alloc(), file, to, streams),
         Asked::Run(opened) => run_file(rt, opened, to, streams),
         Asked::Replay(opened) => replay_file(rt.alloc(), opened, to, streams),
         Asked::Check(opened) => {

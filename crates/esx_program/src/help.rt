@@ -13,6 +13,10 @@ console        reads commands, one a line, and answers each at once; so it does 
                    esxplan console <examples/sharing.txt
 console FILE   the same at the site of the scenario in FILE
                    esxplan console examples/small.toml <examples/paging.txt
+    --echo     writes each command behind > before its answer
+                   esxplan console examples/small.toml --echo <examples/paging.txt
+record [FILE]  makes commands as a console does, and prints their session
+                   esxplan record examples/small.toml <examples/paging.txt >paging.session
 run FILE       lets the machines of a scenario play their traces, and prints their session
                    esxplan run examples/scenario.toml >run.session
 check FILE     makes a session's calls again: same N, or differs K, the first with another reply

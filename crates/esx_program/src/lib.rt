@@ -19,6 +19,7 @@ mod outgoing;
 mod progress;
 mod reporting;
 mod running;
+mod serving;
 mod session;
 mod site;
 mod standard;
@@ -35,7 +36,7 @@ pub use migrating::migrate_watched;
 pub use running::RunFault;
 use session::status_of_check;
 pub use session::{check_watched, diff_watched};
-pub use site::serve_site;
+pub use site::{serve_site, serve_site_in_manner};
 use standard::opened;
 pub use standard::run_counted;
 use std::alloc::{AllocGlobal, Global};
@@ -107,7 +108,7 @@ impl Failure {
             Failure::Serve(ServeFault::OutOfMemory) => 3,
             Failure::Output(OutputFault::Write) => 1,
             Failure::Output(OutputFault::OutOfMemory) => 3,
-            Failure::Run(RunFault::Refused(_) | RunFault::Write) => 1,
+            Failure::Run(RunFault::Refused(_) | RunFault::RefusedAt(_, _) | RunFault::Write) => 1,
             Failure::Run(RunFault::OutOfMemory) => 3,
             Failure::Report(fault) => status_of_report(fault),
         }
@@ -129,6 +130,7 @@ fn status_of_report(fault: &ReportFault) -> u8
 #[derive(Clone, Copy, Debug, PartialEq, Eq)]
 pub enum Done {
     Served,
+    Recorded,
     Ran,
     Replayed,
     Checked(Checked),
@@ -147,7 +149,12 @@ impl Done {
         ensures { result ≡ status_of_done self }
     {
         match self {
-            Done::Served | Done::Ran | Done::Replayed | Done::Answered(_) | Done::Helped => 0,
+            Done::Served
+            | Done::Recorded
+            | Done::Ran
+            | Done::Replayed
+            | Done::Answered(_)
+            | Done::Helped => 0,
             Done::Checked(checked) | Done::Compared(checked) | Done::Migrated(checked) => {
                 status_of_check(checked)
             }

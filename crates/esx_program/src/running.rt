@@ -1,6 +1,6 @@
 //! The run of a scenario, and what is told of it.
 
-ghost use Rattle.std.specs.Prelude.{◌≡◌, ◌≤◌, ◌+◌, [], ℕ, List, Option, Result, IfOk, IfErr, OnOk, flat_map};
+ghost use Rattle.std.specs.Prelude.{◌≡◌, ◌≤◌, ◌+◌, [], ℕ, List, Option, Result, IfOk, IfErr, OnOk, flat_map, if◌then◌else◌, is_some};
 ghost use Rattle.std.specs.Io.KnownBytes.{Appends};
 ghost use Rattle.esx_types.specs.declared.ends.SinkFailed.{SinkFailed};
 ghost use Rattle.esx_events.specs.declared.event.Refusal.{Refusal};
@@ -10,7 +10,7 @@ ghost use Rattle.esx_workers.specs.declared.end.End.{End};
 ghost use Rattle.esx_writing.specs.Writing.{Writes, WritesFront, sink_faults};
 ghost use Rattle.esx_text.specs.States.{sink_state};
 ghost use Rattle.esx_program.specs.Ends.{ending_text, endings, workers_named};
-ghost use Rattle.esx_program.specs.Runs.{IsPlayed, IsRefusedOpening, NotPlayed, Plays, RunStops, StopsTelling, told_session, written_as};
+ghost use Rattle.esx_program.specs.Runs.{IsPlayed, IsRefusedOpening, NotPlayed, Plays, RunStops, StopsTelling, told_session, with_machine, written_as};
 
 use crate::ends::{Ending, endings_of, names_of, write_endings};
 use crate::gates::gates_of;
@@ -18,6 +18,7 @@ use crate::outgoing::{Outgoing, Waiting};
 use crate::progress::Progress;
 use esx_console::Console;
 use esx_events::Refusal;
+use esx_refused::{RefusedOpening, refused_opening};
 use esx_scenario::Scenario;
 use esx_session::write_session;
 use esx_types::{Sink, SinkFailed};
@@ -30,16 +31,36 @@ use std::sync::ledger::{Blank, Ledger};
 use std::thread::Threads;
 use thiserror::Error;
 
-/// Why the session of a run was not told: a call of its opening was refused, the first one that was; writing it
-/// failed; or memory ran out.
+/// Why the session of a run was not told: a call of its opening was refused, the first one that was, and at a terminal
+/// also which machine is not admitted; writing it failed; or memory ran out.
 #[derive(Debug, Drop, Error, PartialEq, Eq)]
 pub enum RunFault {
     #[error("no {} {}", .0.number(), .0.name())]
     Refused(Refusal),
+    #[error("no {} {}{}", .0.number(), .0.name(), .1)]
+    RefusedAt(Refusal, RefusedOpening),
     #[error("write fault")]
     Write,
     #[error("no memory")]
     OutOfMemory,
+}
+
+impl RunFault {
+    ghost use Rattle.std.specs.Prelude.{◌≡◌};
+    ghost use Rattle.esx_program.specs.Runs.{with_machine};
+
+    /// An opening that was refused, with the machine that is not admitted, where there is one; any other fault as it is.
+    fn with_machine(self, scenario: &Scenario) -> RunFault
+        ensures { result ≡ with_machine scenario.now self }
+    {
+        let RunFault::Refused(refusal) = self else {
+            return self;
+        };
+        match refused_opening(&scenario.config(), scenario.guests()) {
+            Some(machine) => RunFault::RefusedAt(refusal, machine),
+            None => self,
+        }
+    }
 }
 
 impl From<AllocError> for RunFault {
@@ -237,10 +258,20 @@ fn tell<E: Sink + Drop, W: Sink + Drop>(made: Played, mut errors: E, writer: W) 
     }
 }
 
+/// A fault as it is told: to `to`, where there is one, with the machine that is not admitted.
+fn told_fault<P>(fault: RunFault, scenario: &Scenario, to: Option<&P>) -> RunFault
+    ensures { result ≡ (if is_some to.entry then with_machine scenario.now fault else fault) }
+{
+    match to {
+        Some(_) => fault.with_machine(scenario),
+        None => fault,
+    }
+}
+
 /// Runs a scenario. Tells the ends of its workers to `errors`, a line each: the guests in the order of their
 /// machines' numbers, then the sharer, the swapper and the policy. Writes the session that they made to `writer`.
 ///
-/// How far the workers are is told to `to`, where there is one.
+/// How far the workers are is told to `to`, where there is one, and an opening that was refused is told with its machine.
 pub fn run_to<R: Threads + Wait + Sync, P: Print + Sync, E: Sink + Drop, W: Sink + Drop>(
     rt: &R,
     alloc: Global,
@@ -259,7 +290,7 @@ pub fn run_to<R: Threads + Wait + Sync, P: Print + Sync, E: Sink + Drop, W: Sink
     match play_with_room(rt, alloc, scenario, to) {
         Ok(made) => tell(made, errors, writer),
         Err(fault) => Ran {
-            ended: Err(fault),
+            ended: Err(told_fault(fault, scenario, to)),
             errors,
             writer,
         },

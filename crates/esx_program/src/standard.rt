@@ -5,7 +5,7 @@ ghost use Rattle.esx_program.specs.Doing.{DoesOver};
 ghost use Rattle.esx_program.specs.Failing.{AnswersQuestion, MayFail};
 ghost use Rattle.esx_program.specs.Files.{IsSame};
 ghost use Rattle.esx_program.specs.Status.{word_of_done};
-ghost use Rattle.esx_program.specs.Words.{asked_of, question_of, AskAlike};
+ghost use Rattle.esx_program.specs.Words.{asked_of, question_of, AskAlike, MayBe};
 
 use crate::commands::run_asked;
 use crate::streams::{Ended, Streams};
@@ -25,13 +25,23 @@ fn open_apart<R: Files>(rt: &R, path: &str) -> io::Result<R::File> {
     fs::open(rt, path)?.try_clone()
 }
 
+/// The same of a path that may be named.
+fn open_if_named<R: Files>(rt: &R, path: Option<&str>) -> Option<io::Result<R::File>>
+    ensures { MayBe (λ _ _. Unit {0}) path.entry result }
+{
+    match path {
+        Some(path) => Some(open_apart(rt, path)),
+        None => None,
+    }
+}
+
 /// What is asked for, with its file as it is opened.
 pub fn opened<R: Files>(rt: &R, asked: Asked<&str>) -> Asked<io::Result<R::File>>
     ensures { AskAlike (λ _ _. Unit {0}) asked.entry result }
 {
     match asked {
-        Asked::Console(None) => Asked::Console(None),
-        Asked::Console(Some(path)) => Asked::Console(Some(open_apart(rt, path))),
+        Asked::Console(path, manner) => Asked::Console(open_if_named(rt, path), manner),
+        Asked::Record(path) => Asked::Record(open_if_named(rt, path)),
         Asked::Run(path) => Asked::Run(open_apart(rt, path)),
         Asked::Replay(path) => Asked::Replay(open_apart(rt, path)),
         Asked::Check(path) => Asked::Check(open_apart(rt, path)),
@@ -58,6 +68,22 @@ fn source_of<F: Read + Drop, L: Ledger>(
     }
 }
 
+/// The same of a file that may be named.
+fn source_if_named<F: Read + Drop, L: Ledger>(
+    opened: Option<io::Result<F>>,
+    calls: Blank,
+) -> Option<io::Result<ReadSource<F, L>>>
+    requires name { calls.name ≡ L.name }
+    requires parts { calls.parts ≡ L.parts }
+    requires four { 4 ≤ calls.parts }
+    ensures { MayBe (IsSame F.remaining ⟦<ReadSource<F, L> as Source>⟧.remaining) opened result }
+{
+    match opened {
+        Some(opened) => Some(source_of(opened, calls)),
+        None => None,
+    }
+}
+
 /// What is asked for, with its file as a source.
 fn with_source<F: Read + Drop, L: Ledger>(
     asked: Asked<io::Result<F>>,
@@ -69,8 +95,8 @@ fn with_source<F: Read + Drop, L: Ledger>(
     ensures { AskAlike (IsSame F.remaining ⟦<ReadSource<F, L> as Source>⟧.remaining) asked result }
 {
     match asked {
-        Asked::Console(None) => Asked::Console(None),
-        Asked::Console(Some(opened)) => Asked::Console(Some(source_of(opened, calls))),
+        Asked::Console(opened, manner) => Asked::Console(source_if_named(opened, calls), manner),
+        Asked::Record(opened) => Asked::Record(source_if_named(opened, calls)),
         Asked::Run(opened) => Asked::Run(source_of(opened, calls)),
         Asked::Replay(opened) => Asked::Replay(source_of(opened, calls)),
         Asked::Check(opened) => Asked::Check(source_of(opened, calls)),

@@ -4,21 +4,24 @@ ghost use Rattle.std.specs.Prelude.{◌≡◌, ◌⊎◌, Some, None, false, map
 ghost use Rattle.clap.specs.Words.{app_of, first_of, found_of, rows_of, subcommand_rows_of, takes};
 ghost use Rattle.clap.specs.declared.builder.command.Command.TheViews.{out-Command as fields_of};
 ghost use Rattle.esx_scenario.specs.Lines.{number_in};
-ghost use Rattle.esx_program.specs.Words.{with_file, report_app, why_app, program_app, table_named, node_named, at_named, page_named, what_reported, what_explained, question_at, of_file, of_question, named_in_full, asked_by, asked_at, asked_in, HaveNoFault};
+ghost use Rattle.esx_program.specs.Words.{with_file, console_app, report_app, why_app, program_app, table_named, node_named, at_named, page_named, what_reported, what_explained, question_at, of_file, of_question, named_in_full, manner_of_flag, asked_by, asked_at, asked_in, HaveNoFault};
 
 use clap::error::ErrorKind;
-use clap::{Arg, ArgMatches, Command};
+use clap::{Arg, ArgAction, ArgMatches, Command};
 use esx_events::Name;
 use esx_paths::At;
 use esx_reading::number_of;
 use esx_reports::{Question, Table, What};
+use esx_text::Manner;
 use std::alloc::{AllocError, Global};
 
 /// What the words ask for, with the path of a file or the file.
 #[derive(Debug, Drop)]
 pub enum Asked<F> {
-    /// A console, at the site of the scenario in a file if one is named.
-    Console(Option<F>),
+    /// A console, at the site of the scenario in a file if one is named, and in which manner it answers.
+    Console(Option<F>, Manner),
+    /// A site served as a console does, whose session is told at its end; of a scenario too.
+    Record(Option<F>),
     /// The run of the scenario in a file.
     Run(F),
     /// A session in a file, gone through again.
@@ -51,6 +54,17 @@ fn word_with_file<'a>(alloc: Global, word: &'a str) -> Result<Command<'a>, Alloc
     Command::new(alloc, word).arg(file)
 }
 
+/// The word `console`, a file, and whether each command is echoed.
+fn console_word<'a>(alloc: Global) -> Result<Command<'a>, AllocError>
+    ensures app { IfOk result (λ c. app_of c ≡ console_app) }
+    ensures local { IfOk result (λ c. (fields_of c).has_globals ≡ false) }
+{
+    let echo = Arg::new(alloc, "echo")
+        .long("echo")
+        .action(ArgAction::SetTrue);
+    word_with_file(alloc, "console")?.arg(echo)
+}
+
 /// The word `report`, a file, and by their names a node and a table.
 fn report_word<'a>(alloc: Global) -> Result<Command<'a>, AllocError>
     ensures app { IfOk result (λ c. app_of c ≡ report_app) }
@@ -72,14 +86,15 @@ fn why_word<'a>(alloc: Global) -> Result<Command<'a>, AllocError>
     word_with_file(alloc, "why")?.arg(vm)?.arg(page)?.arg(node)
 }
 
-/// What may stand on the program's command line: nothing, or `console` and at most one file, or `run`, `replay`,
-/// `check`, `diff` or `migrate` and a file, or `report` or `why` and a question, or `help`.
+/// What may stand on the program's command line: nothing, or `console` or `record` and at most one file, or `run`,
+/// `replay`, `check`, `diff` or `migrate` and a file, or `report` or `why` and a question, or `help`.
 fn program<'a>(alloc: Global) -> Result<Command<'a>, AllocError>
     ensures { IfOk result (λ c. app_of c ≡ program_app) }
 {
     Command::new(alloc, "esxplan")
         .disable_help_subcommand(true)
-        .subcommand(word_with_file(alloc, "console")?)?
+        .subcommand(console_word(alloc)?)?
+        .subcommand(word_with_file(alloc, "record")?)?
         .subcommand(word_with_file(alloc, "replay")?)?
         .subcommand(word_with_file(alloc, "check")?)?
         .subcommand(word_with_file(alloc, "diff")?)?
@@ -189,9 +204,10 @@ fn asked_of_file<'a>(
     Some(Asked::Report(file?, Question { at, what }))
 }
 
-/// What is asked for by a word and the file behind it, without a question. All words but `console` and `help` want one.
-fn asked_for<'a>(word: &str, file: Option<&'a str>) -> Option<Asked<&'a str>>
-    ensures { option_map named_in_full result ≡ of_file word.now (option_map (λ f. f.now) file.entry) }
+/// What is asked for by a word and the file behind it, without a question, where a console answers in that manner. All
+/// words but `console`, `record` and `help` want a file.
+fn asked_for<'a>(word: &str, file: Option<&'a str>, manner: Manner) -> Option<Asked<&'a str>>
+    ensures { option_map named_in_full result ≡ of_file word.now (option_map (λ f. f.now) file.entry) manner }
 {
     match word {
         "run" => Some(Asked::Run(file?)),
@@ -199,8 +215,9 @@ fn asked_for<'a>(word: &str, file: Option<&'a str>) -> Option<Asked<&'a str>>
         "check" => Some(Asked::Check(file?)),
         "diff" => Some(Asked::Diff(file?)),
         "migrate" => Some(Asked::Migrate(file?)),
+        "record" => Some(Asked::Record(file)),
         "help" => Some(Asked::Help),
-        _ => Some(Asked::Console(file)),
+        _ => Some(Asked::Console(file, manner)),
     }
 }
 
@@ -209,6 +226,16 @@ fn value_of<'a>(given: &ArgMatches<'a>, id: &str) -> Option<&'a str>
     ensures { option_map (λ s. s.now) result ≡ first_of id.now (rows_of (found_of given.now)) }
 {
     given.get_str(id)
+}
+
+/// Whether each command is echoed, by the flag for it.
+fn manner_of_flag(flag: Option<&str>) -> Manner
+    ensures { result ≡ manner_of_flag (option_map (λ f. f.now) flag.entry) }
+{
+    match flag {
+        Some("true") => Manner::Echoed,
+        _ => Manner::Plain,
+    }
 }
 
 /// What is asked for by a word and what stands behind it.
@@ -223,7 +250,10 @@ fn asked_by<'a>(
     let what = match word {
         "report" => what_reported(value_of(given, "csv")),
         "why" => what_explained(value_of(given, "vm"), value_of(given, "page")),
-        _ => return Ok(asked_for(word, file)),
+        _ => {
+            let manner = manner_of_flag(value_of(given, "echo"));
+            return Ok(asked_for(word, file, manner));
+        }
     };
     let at = at_named(alloc, value_of(given, "at"))?;
     Ok(asked_of_file(file, at, what))
@@ -238,7 +268,7 @@ fn asked_of_matches<'a>(
     ensures refused { IfErr result (λ e. e ≡ WordsFault.Wrong → asked_at (subcommand_rows_of matches.now) ≡ None) }
 {
     let Some((word, rest)) = matches.subcommand() else {
-        return Ok(Asked::Console(None));
+        return Ok(Asked::Console(None, Manner::Plain));
     };
     match asked_by(alloc, word, rest) {
         Ok(asked) => asked.ok_or(WordsFault::Wrong),

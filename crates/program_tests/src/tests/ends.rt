@@ -3,7 +3,7 @@
 use super::opening::Tape;
 use super::run_over;
 use esx_program::{Asked, Done, Ended, Failure, Streams};
-use esx_text::ServeFault;
+use esx_text::{Manner, ServeFault};
 use std::alloc::AllocGlobal;
 use std::cell::RefCell;
 use std::io::{self, ErrorKind, Read, Stderr, Write};
@@ -27,7 +27,8 @@ fn serve<R: AllocGlobal + Threads + Wait + Sync, I: Read + Drop, W: Write + Drop
         errors: Vec::new(rt.alloc()),
         writer,
     };
-    let Ended { ended, streams } = run_over(rt, Asked::Console(file), to, streams);
+    let asked = Asked::Console(file, Manner::Plain);
+    let Ended { ended, streams } = run_over(rt, asked, to, streams);
     (ended, streams.writer)
 }
 

@@ -3,6 +3,7 @@
 use super::asking::streams;
 use super::run_over;
 use esx_program::{Asked, Ended, Failure, WordsFault, asked_of_words};
+use esx_text::Manner;
 use std::alloc::{AllocError, AllocGlobal, Global};
 use std::io::{self, ErrorKind, Read, Stderr};
 use std::sync::Wait;
@@ -18,10 +19,12 @@ pub fn words_of(alloc: Global, line: &str) -> Result<Vec<String>, AllocError> {
     Ok(words)
 }
 
-/// What is asked for, `report` also where it is asked why, and the file.
+/// What is asked for, `report` also where it is asked why, `echo` for a console that echoes, and the file.
 fn word_and_file<'a>(asked: Asked<&'a str>) -> (&'static str, Option<&'a str>) {
     match asked {
-        Asked::Console(file) => ("console", file),
+        Asked::Console(file, Manner::Plain) => ("console", file),
+        Asked::Console(file, Manner::Echoed) => ("echo", file),
+        Asked::Record(file) => ("record", file),
         Asked::Run(file) => ("run", Some(file)),
         Asked::Replay(file) => ("replay", Some(file)),
         Asked::Check(file) => ("check", Some(file)),
@@ -41,6 +44,12 @@ fn words(rt: HostRuntime) -> Result<(), Fail> {
         ("esxplan console a.toml", Ok(("console", Some("a.toml")))),
         ("esxplan console --", Ok(("console", None))),
         ("esxplan console -- -a", Ok(("console", Some("-a")))),
+        ("esxplan console --echo", Ok(("echo", None))),
+        ("esxplan console --echo a", Ok(("echo", Some("a")))),
+        ("esxplan console a --echo", Ok(("echo", Some("a")))),
+        ("esxplan console -- --echo", Ok(("console", Some("--echo")))),
+        ("esxplan record", Ok(("record", None))),
+        ("esxplan record a", Ok(("record", Some("a")))),
         ("esxplan run a", Ok(("run", Some("a")))),
         ("esxplan run", Err(WordsFault::Wrong)),
         ("esxplan replay a", Ok(("replay", Some("a")))),
@@ -63,6 +72,13 @@ fn words(rt: HostRuntime) -> Result<(), Fail> {
         ("esxplan check --help", Err(WordsFault::Wrong)),
         ("esxplan console -a", Err(WordsFault::Wrong)),
         ("esxplan console a b", Err(WordsFault::Wrong)),
+        ("esxplan console --echo --echo", Err(WordsFault::Wrong)),
+        ("esxplan console --echo=true", Err(WordsFault::Wrong)),
+        ("esxplan console --echo a b", Err(WordsFault::Wrong)),
+        ("esxplan --echo", Err(WordsFault::Wrong)),
+        ("esxplan record a b", Err(WordsFault::Wrong)),
+        ("esxplan record --echo", Err(WordsFault::Wrong)),
+        ("esxplan run a --echo", Err(WordsFault::Wrong)),
         ("esxplan Console", Err(WordsFault::Wrong)),
         ("esxplan a.toml", Err(WordsFault::Wrong)),
         ("esxplan --help", Err(WordsFault::Wrong)),
@@ -124,7 +140,7 @@ fn sum_at<R: AllocGlobal + Threads + Wait + Sync>(
     let to: Option<&Stderr> = None;
     let Ended { ended, streams } = run_over(
         rt,
-        Asked::Console(Some(opened)),
+        Asked::Console(Some(opened), Manner::Plain),
         to,
         streams(rt.alloc()),
     );

@@ -1,5 +1,6 @@
+use Rattle.std.specs.Prelude.{is_some}
 use Rattle.esx_text.specs.States.{sink_state}
-use Rattle.esx_program.proofs.RunLemmas.{nothing_told, plays, stops}
+use Rattle.esx_program.proofs.RunLemmas.{nothing_told, plays, stops, told_not_played}
 use Rattle.esx_program.proofs.running.run_to.Goals as goal
 
 pub returns-in-Ok-clause-ok : goal.returns-in-Ok-clause-ok
@@ -23,4 +24,5 @@ returns-in-Ok-clause-fault g c =
     (sink_state g.W.Sink.contents g.W.Sink.waiting g.W.Sink.failures g.W.Sink.flushes c.tell.result.writer) c.tell.result.ended c.tell.ensures.fault
 
 pub returns-in-Err-clause-fault : goal.returns-in-Err-clause-fault
-returns-in-Err-clause-fault g c = nothing_told c.in-Err.fault c.args.scenario.now _ _ c.in-Err.ensures.fault
+returns-in-Err-clause-fault g c = nothing_told c.told_fault.result c.args.scenario.now _ _
+    (rw c.told_fault.ensures (told_not_played (is_some c.args.to) c.in-Err.fault c.args.scenario.now c.in-Err.ensures.fault))
