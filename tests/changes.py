@@ -16,7 +16,7 @@ from console import Console
 from program import Told, Wrong, ask, expect, file_of
 
 SEED = 20021209
-COUNTS = {"lines": 6000, "sessions": 2000, "scenarios": 1700, "words": 300}
+COUNTS = {"lines": 6000, "sessions": 2000, "scenarios": 1700, "words": 400}
 LINES_AT_ONCE = 200
 EDGES = ["0", "1", "2", "3", "00", "01", "31", "32", "63", "64", "99", "100", "255", "256", "511", "512", "4096", "65536",
          "65537", "1048576", "1048577", "4294967295", "4294967296", "18446744073709551615", "18446744073709551616", "9" * 40,
@@ -198,8 +198,8 @@ def check_words(program, draw, count):
     """The program's words, with a file that is no scenario and no session, and one that is not there."""
     with file_of(b"\n") as name, tempfile.TemporaryDirectory() as nowhere:
         for _ in range(count):
-            drawn = [draw.choice(["console", "run", "check", "diff", "replay", "migrate", "report", "why", "help", name, name,
-                                  f"{name}.none", "", "Run", "sum", "0"])
+            drawn = [draw.choice(["console", "console", "record", "run", "check", "diff", "replay", "migrate", "report", "why", "help",
+                                  name, name, f"{name}.none", "", "Run", "sum", "0", reader.ECHO, reader.ECHO])
                      for _ in range(draw.choice([0, 1, 1, 2, 2, 2, 3]))]
             if draw.random() < 0.4:
                 drawn = asked_of_session(draw, name)
@@ -207,7 +207,9 @@ def check_words(program, draw, count):
             if found is None:
                 wanted = Told(2, b"", b"wrong words\n")
             elif found == ("console", None):
-                wanted = Told(0, b"at 0 depth 0 jumps 0\n", b"")
+                wanted = Told(0, b"> where\n" * (reader.ECHO in drawn) + b"at 0 depth 0 jumps 0\n", b"")
+            elif found == ("record", None):
+                wanted = Told(0, words.changed(words.EMPTY, b"end 0", b"0 where\n= at 0 depth 0 jumps 0\nend 1"), b"")
             elif found == ("help", None):
                 told = ask(program, drawn, b"where\n", cwd=nowhere)
                 expect(f"words {drawn}", (0, b"", True), (told.status, told.err, told.out.startswith(b"console ")))
@@ -215,7 +217,8 @@ def check_words(program, draw, count):
             elif found[1] != name:
                 wanted = Told(1, b"", b"read fault\n")
             else:
-                wanted = Told(1, b"", b"bad key version\n" if found[0] in ("console", "run") else b"bad line 1\n")
+                is_scenario = found[0] in ("console", "record", "run")
+                wanted = Told(1, b"", b"bad key version\n" if is_scenario else b"bad line 1\n")
             expect(f"words {drawn}", wanted, ask(program, drawn, b"where\n", cwd=nowhere))
 
 

@@ -7,6 +7,6 @@ from words import SCENARIO
 
 def check(program, _is_long):
     with file_of(SCENARIO) as scenario:
-        for asked in (["console", scenario], ["console"], []):
+        for asked in (["console", scenario], ["console", scenario, "--echo"], ["record", scenario], ["record"], ["console"], []):
             expect(f"{asked} with no input", READ_FAULT, closed(program, asked, "<&-"))
     return "a console with no input tells it, also where a file has its site"

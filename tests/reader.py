@@ -326,6 +326,9 @@ def told_of_scenario(data):
         return f"bad key {key}", None
 
 
+TAKE_NONE = ("console", "record", "help")
+TAKE_ONE = ("console", "record", "run", "check", "diff", "replay", "migrate")
+ECHO = "--echo"  # behind `console`, once, before or behind its file
 OPTIONS = {"report": ["--at", "--csv"], "why": ["--at"]}  # of the words that ask about a session, each with a word behind it
 TABLES = ["losses", "guests", "site"]
 
@@ -355,11 +358,13 @@ def file_of_words(words):
     """The command and the file, if any, that the program's words name; none if they are wrong."""
     if not words:
         return "console", None
-    if words[0] in OPTIONS:
-        asked = question_of_words(words[0], words[1:])
-        return asked and (words[0], asked[0])
-    takes_none, takes_one = words[0] in ("console", "help"), words[0] in ("console", "run", "check", "diff", "replay", "migrate")
-    is_plain = not any(word.startswith("-") for word in words)
-    if is_plain and (len(words) == 1 and takes_none or len(words) == 2 and takes_one):
-        return words[0], words[1] if len(words) == 2 else None
+    word, *more = words
+    if word in OPTIONS:
+        asked = question_of_words(word, more)
+        return asked and (word, asked[0])
+    if word == "console" and ECHO in more:
+        more.remove(ECHO)
+    is_plain = not any(one.startswith("-") for one in more)
+    if is_plain and (not more and word in TAKE_NONE or len(more) == 1 and word in TAKE_ONE):
+        return word, more[0] if more else None
     return None

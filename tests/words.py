@@ -2,7 +2,6 @@
 
 import os
 import re
-import subprocess
 import tempfile
 
 import console
@@ -10,7 +9,6 @@ import reader
 from program import HERE, Told, Wrong, ask, expect, file_of
 
 WRONG_WORDS = Told(2, b"", b"wrong words\n")
-ADVICE = b"esxplan help lists the words\n"
 
 SESSION = b"""esx session 2
 frames 9 page 32 slots 3 tau 10 levels 8 8 3 3 nodes 12
@@ -308,54 +306,63 @@ def check_words(program, folder):
     for words in (["serve"], ["run"], ["check"], ["diff"], ["replay"], ["migrate"], ["--help"], ["-h"], ["--version"],
                   ["console", "a", "b"], ["check", "a", "b"], ["diff", "a", "b"], ["migrate", "a", "b"], ["help", "a"], ["help", "help"],
                   ["help", "check"], ["help", "--help"], ["sum"], ["Console"], ["Help"], [""], ["--", "--help"], ["--", "help"],
+                  ["record", "a", "b"], ["record", "--echo"], ["record", "a", "--echo"], ["Record"], ["record", "--help"],
+                  ["console", "--echo", "--echo"], ["console", "--echo", "a", "--echo"], ["console", "--echo", "a", "b"],
+                  ["console", "--echo="], ["console", "--echo=true"], ["console", "--Echo"], ["console", "-echo"], ["console", "--ech"],
+                  ["--echo"], ["--echo", "console"], ["run", "a", "--echo"], ["check", "--echo", "a"], ["help", "--echo"],
                   *WRONG_QUESTIONS):
         expect(" ".join(words), WRONG_WORDS, ask(program, words))
         if reader.file_of_words(words) is not None:
             raise Wrong(f"the plain reader takes {words}")
-    for words in (["console"], ["run"], ["check"], ["diff"], ["replay"], ["migrate"], ["report"], ["why"]):
+    for words in (["console"], ["console", "--echo"], ["record"], ["run"], ["check"], ["diff"], ["replay"], ["migrate"], ["report"],
+                  ["why"]):
         more = ["0"] if words == ["why"] else []
         refuses(program, [*words, f"{folder}/none", *more], 1, b"read fault\n")
         refuses(program, [*words, folder, *more], 1, b"read fault\n")
     nobody = Told(0, b"overhead 0 private 0 shared 0 free 20 high\n", b"")
     for words in ([], ["console"], ["--"], ["console", "--"]):
         expect(f"sum, with {words}", nobody, ask(program, words, b"sum\n"))
+    for words in (["console", "--", "--echo"], ["record", "--", "--echo"]):  # behind two dashes it is a file's name
+        expect(f"{words}", Told(1, b"", b"read fault\n"), ask(program, words, b"sum\n", cwd=folder))
+
+
+def entries_of_help(lines):
+    """Each word that help tells, with its lines: the first begins with it, and the others with a blank."""
+    entries = []
+    for line in lines:
+        if line.startswith(" "):
+            entries[-1][1].append(line)
+        else:
+            entries.append((line.split()[0], [line]))
+    return entries
+
+
+def check_example(word, line, written):
+    """An example of a word, of files that are there or that an earlier example writes."""
+    found, file = reader.file_of_words(re.sub(" [<>][^ ]*", "", line).split()[1:]) or (None, None)
+    read, top = {file, *re.findall("<([^ ]+)", line)} - {None}, os.path.dirname(HERE)
+    if found != word or not all(one in written or os.path.exists(f"{top}/{one}") for one in read):
+        raise Wrong(f"help says {line!r} of {word}")
+    written |= {*re.findall(">([^ ]+)", line)}
 
 
 def check_help(program):
-    """Help has a line for each word and an example below it, of files that are there or that an earlier example writes."""
+    """Help has some lines for each word, and examples among them; it names each option and each table."""
     told = ask(program, ["help"])
     expect("help", Told(0, told.out, b""), told)
-    lines = told.out.decode("ascii").splitlines()
-    written, top = set(), os.path.dirname(HERE)
-    for line, example in zip(lines[::2], lines[1::2], strict=True):
-        name, *asked = re.sub(" [<>][^ ]*", "", example).split()
-        found, file = reader.file_of_words(asked) or (None, None)
-        read = {file, *re.findall("<([^ ]+)", example)} - {None}
-        is_there = all(one in written or os.path.exists(f"{top}/{one}") for one in read)
-        if name != "esxplan" or line.split()[0] != found or not example.startswith(" ") or not is_there:
-            raise Wrong(f"help says {line!r}, with {example!r}")
-        written |= {*re.findall(">([^ ]+)", example)}
-        if len(line) > 100:
-            raise Wrong(f"help has a line of {len(line)} columns")
-    if {line.split()[0] for line in lines[::2]} != {"console", "run", "check", "diff", "replay", "migrate", "report", "why", "help"}:
-        raise Wrong(f"help has other words: {told!r}")
-
-
-def check_terminal(program):
-    """A person at a terminal is told what helps behind wrong words, and behind nothing else."""
-    for words, wanted in ((["serve"], b"wrong words\n" + ADVICE), (["check", "/"], b"read fault\n"), (["help"], b"")):
-        screen, line = os.openpty()
-        try:
-            subprocess.run([program, *words], stdin=subprocess.DEVNULL, stdout=subprocess.DEVNULL, stderr=line, timeout=120, check=False)
-            os.write(line, b".")
-            told = b""
-            while not told.endswith(b"."):
-                told += os.read(screen, 4096)
-        finally:
-            os.close(line)
-            os.close(screen)
-        if told.replace(b"\r\n", b"\n") != wanted + b".":
-            raise Wrong(f"at a terminal {words} tell {told!r}")
+    lines, written = told.out.decode("ascii").splitlines(), set()
+    if max(map(len, lines)) > 100:
+        raise Wrong(f"help has a line of {max(map(len, lines))} columns")
+    entries = entries_of_help(lines)
+    for word, lines_of_it in entries:
+        examples = [line for line in lines_of_it if line.split()[0] == "esxplan"]
+        if not examples:
+            raise Wrong(f"help has no example of {word}")
+        for line in examples:
+            check_example(word, line, written)
+    missing = {reader.ECHO, "--at", "--csv", *reader.TABLES} - {*re.split("[^a-z-]+", told.out.decode())}
+    if missing or {word for word, _ in entries} != {*reader.TAKE_NONE, *reader.TAKE_ONE, *reader.OPTIONS}:
+        raise Wrong(f"help has other words, and lacks {sorted(missing)}: {told!r}")
 
 
 def check_sessions(program):
@@ -388,7 +395,7 @@ def check_keys(program, scenario, bad_keys):
             if key is None:
                 expect(f"{new!r} for {old!r}", Told(0, b"", b""), ask(program, ["console", name]))
                 continue
-            for word in ("console", "run"):
+            for word in ("console", "record", "run"):
                 refuses(program, [word, name], 1, b"bad key %s\n" % key)
 
 
@@ -398,9 +405,10 @@ def check_scenarios(program):
     for text in NO_TOML:
         with file_of(text) as name:
             refuses(program, ["console", name], 1, b"bad toml\n")
+            refuses(program, ["record", name], 1, b"bad toml\n")
     with file_of(b"esx \xff\n") as name:
-        for words in (["console", name], ["run", name], ["check", name], ["diff", name], ["replay", name], ["migrate", name],
-                      ["report", name], ["why", name, "0"]):
+        for words in (["console", name], ["console", name, "--echo"], ["record", name], ["run", name], ["check", name], ["diff", name],
+                      ["replay", name], ["migrate", name], ["report", name], ["why", name, "0"]):
             refuses(program, words, 1, b"bad text\n")
     with file_of(changed(SCENARIO, b"min = 3", b"min = 8").replace(b"max = 4", b"max = 9")) as name:
         refuses(program, ["run", name], 1, b"no 4 NoMemoryReserve\n")
@@ -434,7 +442,6 @@ def check(program, _is_long):
     with tempfile.TemporaryDirectory() as folder:
         check_words(program, folder)
     check_help(program)
-    check_terminal(program)
     check_sessions(program)
     check_scenarios(program)
     check_run(program, SCENARIO, ENDS, b"0 admit 200 3 4 2 40 1 60")
