@@ -6,7 +6,7 @@ use Rattle.esx_figures.specs.Figures.{are_same, is_same_guest}
 use Rattle.esx_figures.specs.Laws.{IsSameAlike}
 use Rattle.esx_story.proofs.Bits.{equal}
 
-first_of : (a b : Bool) → (a && b) ≡ true → (a ≡ true) × (b ≡ true)
+pub first_of : (a b : Bool) → (a && b) ≡ true → (a ≡ true) × (b ≡ true)
 first_of true b h = (refl, h)
 first_of false b h = cc
 
@@ -24,7 +24,7 @@ alike a b h =
     ∙ ap (λ x. record a { here = b.here; target = b.target; active = b.active; shared = b.shared; lent = x }) (equal a.lent b.lent e2.1)
     ∙ ap (λ x. record b { out = x }) (equal a.out b.out e1.1)
 
-both : (a b : Bool) → a ≡ true → b ≡ true → (a && b) ≡ true
+pub both : (a b : Bool) → a ≡ true → b ≡ true → (a && b) ≡ true
 both true b x y = y
 both false b x y = cc
 
