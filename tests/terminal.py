@@ -43,7 +43,9 @@ REFUSED = [
     (scenario(9, 2000, 99, (200, 1, 1241, 1), (4, 1, 1001, 1)), b"no 5 NoSwapReserve", b" vm 200: 2240 of 2000"),
     (scenario(8, 2**20, 99, *((number, 2**16, 2**16, 2**20) for number in (1, 2))), b"no 4 NoMemoryReserve", b" vm 1: 1114112 of 8"),
     (scenario(20, 8, 1, (5, 1, 1, 1), (6, 1, 1, 1)), b"no 25 Full", b" vm 6: 2 of 1"),
-    (scenario(20, 8, 2, (5, 1, 1, 1), (6, 1, 1, 1)), b"no 25 Full", b""),
+    (scenario(20, 8, 2, (5, 1, 1, 1), (6, 1, 1, 1)), b"no 25 Full", b" vm 5: 3 of 2"),
+    (scenario(20, 8, 3, (5, 1, 1, 1), (6, 1, 1, 1)), b"no 25 Full", b" vm 6: 4 of 3"),
+    (scenario(20, 8, 4, (6, 1, 1, 2), (5, 1, 1, 1)), b"no 25 Full", b" vm 6: 5 of 4"),
 ]
 
 

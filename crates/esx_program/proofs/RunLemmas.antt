@@ -1,6 +1,7 @@
 -- What comes of a run, and what comes out of it.
 use Rattle.std.proofs.Common.{◌≡◌, ◌∙◌, ◌<◌, ◌≤◌, ◌+◌, ◌++◌, ℕ, List, [], Option, None, Some, Result, Ok, Err, length, slice_get, get_or, refl, ap, subst, sym, Bool, true, false, if◌then◌else◌, ⊎_elim, arith, flat_map, map}
 use Rattle.std.proofs.lemmas.Option.{slice_get_cases, slice_get_within}
+use Rattle.std.specs.Prelude.{MatchOption, is_some}
 use Rattle.std.specs.Result.{IfErr, OnOk}
 use Rattle.std.specs.Io.KnownBytes.{Appends, Keeps, append_known}
 use Rattle.esx_types.specs.declared.ends.SinkFailed.{SinkFailed}
@@ -8,10 +9,12 @@ use Rattle.esx_types.specs.declared.config.Config.{Config}
 use Rattle.esx_events.specs.declared.call.Line.{Line}
 use Rattle.esx_events.specs.declared.event.Refusal.{Refusal}
 use Rattle.esx_model.specs.Console.{Session}
+use Rattle.esx_console.specs.Calls.{opened_session}
 use Rattle.esx_scenario.specs.Plans.{Plan}
 use Rattle.esx_refused.specs.declared.coming.RefusedOpening.{RefusedOpening}
 use Rattle.esx_refused.specs.Refused.{first_refused}
 use Rattle.esx_scenario.specs.declared.plan.Guest.{Guest}
+use Rattle.esx_opening.specs.Openings.{opening_events, IsRefusedAt}
 use Rattle.esx_opening.specs.Orders.{in_order}
 use Rattle.esx_opening.specs.declared.opening.SiteFault.{SiteFault}
 use Rattle.esx_opening.specs.declared.opening.SiteFault.TheVariants as site
@@ -26,7 +29,7 @@ use Rattle.esx_program.specs.declared.ends.Name.{Name}
 use Rattle.esx_program.specs.declared.running.RunFault.{RunFault}
 use Rattle.esx_program.specs.declared.running.RunFault.TheVariants.{Refused, RefusedAt, Write, OutOfMemory}
 use Rattle.esx_program.specs.Ends.{endings, ending_text, workers_named}
-use Rattle.esx_program.specs.Runs.{AreTold, IsPlayed, IsRefusedOpening, NotPlayed, Plays, RefusesMachine, RunStops, StopsTelling, fault_of, refused_at, told_session, with_machine, written_as}
+use Rattle.esx_program.specs.Runs.{AreTold, IsNamedTo, IsPlayed, IsRefusedOpening, IsWithMachine, NotPlayed, Plays, RefusesMachine, RunStops, StopsTelling, fault_of, told_session, written_as}
 use Rattle.esx_program.proofs.OutgoingLemmas.{appends_known, none_wait, second_none, writes_kept}
 
 -- the session of a console, whose site and log are told
@@ -79,31 +82,43 @@ endings_told all names names' ends ends' guests guests' is n e named same =
     is ∙ (ap (λ (v : List Name). endings v ends') (n ∙ (named ∙ ap (λ (v : List Guest). workers_named (in_order v)) same)) ∙ ap (λ (v : List End). endings (workers_named (in_order guests)) v) e)
 
 -- where there was no run
-pub nothing_told : (e : RunFault) (p : Plan) (errors out : SinkState) → NotPlayed e p → RunStops e p errors errors out out
+nothing_told : (e : RunFault) (p : Plan) (errors out : SinkState) → NotPlayed e p → RunStops e p errors errors out out
 nothing_told (Refused x) p errors out n = (n, refl, refl)
-nothing_told (RefusedAt x machine) p errors out n = (n, refl, refl)
+nothing_told (RefusedAt x machine) p errors out n = absurd n
 nothing_told Write p errors out n = absurd n
 nothing_told OutOfMemory p errors out n = (refl, refl)
 
--- the machine that was found is that of the scenario
-pub machine_is_named : (e : Refusal) (p : Plan) (site : Config) (guests : List Guest) (found : Option RefusedOpening) → site ≡ p.site → guests ≡ p.guests
-    → found ≡ first_refused site guests → refused_at e found ≡ with_machine p (Refused e)
-machine_is_named e p site guests found s g f = ap (refused_at e) (f ∙ (ap (λ c. first_refused c guests) s ∙ ap (first_refused p.site) g))
+-- the machine that was found is that of the scenario, and the refusal is its own
+module _ (e : Refusal) (p : Plan) (site : Config) (guests : List Guest) (is_site : site ≡ p.site) (are_guests : guests ≡ p.guests) (refused : IsRefusedOpening p e) where
+  pub refused_there : IsRefusedAt (opening_events guests) (opened_session site) e
+  refused_there = subst (λ (c : Config). IsRefusedAt (opening_events guests) (opened_session c) e) (sym is_site)
+      (subst (λ (gs : List Guest). IsRefusedAt (opening_events gs) (opened_session p.site) e) (sym are_guests) refused)
 
--- there was no run for the same cause, where the machine that is not admitted is named
-machine_named : (e : Refusal) (p : Plan) (found : Option RefusedOpening) → found ≡ first_refused p.site p.guests → IsRefusedOpening p e → NotPlayed (refused_at e found) p
-machine_named e p None same n = n
-machine_named e p (Some machine) same n = (n, sym same)
+  pub machine_is_named : (machine : RefusedOpening) → Some machine ≡ first_refused site guests → machine.refusal ≡ e → RefusesMachine p e machine
+  machine_is_named machine first same = (refused, ap (λ (c : Config). first_refused c p.guests) (sym is_site) ∙ (ap (first_refused site) (sym are_guests) ∙ sym first), same)
 
-still_not_played : (fault : RunFault) (p : Plan) → NotPlayed fault p → NotPlayed (with_machine p fault) p
-still_not_played (Refused e) p n = machine_named e p (first_refused p.site p.guests) refl n
-still_not_played (RefusedAt e machine) p n = n
-still_not_played Write p n = n
-still_not_played OutOfMemory p n = n
+-- there was no run for the same cause, where its machine is named
+with_machine_told : (fault told : RunFault) (p : Plan) (errors out : SinkState) → NotPlayed fault p → IsWithMachine p fault told → RunStops told p errors errors out out × IsNamedTo true told
+with_machine_told (Refused e) told p errors out n w = rw w.1 ((w.2, refl, refl), refl)
+with_machine_told (RefusedAt e machine) told p errors out n w = absurd n
+with_machine_told Write told p errors out n w = absurd n
+with_machine_told OutOfMemory told p errors out n w = rw w ((refl, refl), tt)
 
-pub told_not_played : (b : Bool) (fault : RunFault) (p : Plan) → NotPlayed fault p → NotPlayed (if b then with_machine p fault else fault) p
-told_not_played true fault p n = still_not_played fault p n
-told_not_played false fault p n = n
+without_machine_told : (fault : RunFault) (p : Plan) → NotPlayed fault p → IsNamedTo false fault
+without_machine_told (Refused e) p n = refl
+without_machine_told (RefusedAt e machine) p n = absurd n
+without_machine_told Write p n = absurd n
+without_machine_told OutOfMemory p n = tt
+
+pub stops_unplayed : {A : Type 0} (to : Option A) (fault told : RunFault) (p : Plan) (errors out : SinkState) → NotPlayed fault p → MatchOption to (told ≡ fault) (λ _. IsWithMachine p fault told)
+    → RunStops told p errors errors out out × IsNamedTo (is_some to) told
+stops_unplayed None fault told p errors out n is = rw is (nothing_told fault p errors out n, without_machine_told fault p n)
+stops_unplayed (Some x) fault told p errors out n w = with_machine_told fault told p errors out n w
+
+-- a failed write names no machine
+pub write_named : (b : Bool) (r : Result (Unit {0}) RunFault) (stops : RunFault → Type 0) → IfErr r (λ e. (e ≡ Write) × stops e) → IfErr r (λ e. IsNamedTo b e)
+write_named b (Ok v) stops s = tt
+write_named b (Err e) stops s = rw s.0 tt
 
 -- what came out of a buffer of a session
 module _ (console : Session) (out out' : SinkState) where

@@ -1,5 +1,5 @@
 -- What a run of a scenario leaves, and what is told of it.
-use Rattle.std.specs.Prelude.{◌≡◌, ℕ, ◌+◌, List, [], map, length, Option, Some, None, Result, Ok, Err, OnOk}
+use Rattle.std.specs.Prelude.{◌≡◌, ℕ, ◌+◌, Bool, true, false, List, [], map, length, Option, Some, None, Result, Ok, Err, OnOk}
 use Rattle.std.specs.Io.KnownBytes.{Appends}
 use Rattle.esx_types.specs.declared.ends.SinkFailed.{SinkFailed}
 use Rattle.esx_events.specs.declared.event.Refusal.{Refusal}
@@ -54,18 +54,21 @@ pub record StopsTelling (console : Session) (out out' : SinkState) : Type 0 wher
 abbrev pub IsRefusedOpening : Plan → Refusal → Type 0
 IsRefusedOpening p e = IsRefusedAt (opening_events p.guests) (opened_session p.site) e
 
--- such a call, and the first machine of the scenario that is not admitted
+-- such a call, and its machine: the first of the scenario that is refused
 abbrev pub RefusesMachine : Plan → Refusal → RefusedOpening → Type 0
-RefusesMachine p e machine = IsRefusedOpening p e × (first_refused p.site p.guests ≡ Some machine)
+RefusesMachine p e machine = IsRefusedOpening p e × (first_refused p.site p.guests ≡ Some machine) × (machine.refusal ≡ e)
 
--- a call of the opening was refused so: the same with that machine, if there is one
-abbrev pub refused_at : Refusal → Option RefusedOpening → RunFault
-refused_at e None = Refused e
-refused_at e (Some machine) = RefusedAt e machine
+-- a call of the opening was refused so: the same with its machine
+abbrev pub IsWithMachine : Plan → RunFault → RunFault → Type 0
+IsWithMachine p (Refused e) told = (machine : RefusedOpening) × (told ≡ RefusedAt e machine) × RefusesMachine p e machine
+IsWithMachine p fault told = told ≡ fault
 
-abbrev pub with_machine : Plan → RunFault → RunFault
-with_machine p (Refused e) = refused_at e (first_refused p.site p.guests)
-with_machine p fault = fault
+-- where the run is told to somebody, a refusal names its machine, and only there
+abbrev pub IsNamedTo : Bool → RunFault → Type 0
+IsNamedTo somebody (Refused e) = somebody ≡ false
+IsNamedTo somebody (RefusedAt e machine) = somebody ≡ true
+IsNamedTo somebody Write = Unit {0}
+IsNamedTo somebody OutOfMemory = Unit {0}
 
 -- a site that was not opened, as a fault of the run
 abbrev pub fault_of : SiteFault → RunFault
@@ -77,10 +80,10 @@ abbrev pub written_as : Result (Unit {0}) SinkFailed → Result (Unit {0}) RunFa
 written_as (Ok v) = Ok v
 written_as (Err e) = Err Write
 
--- why there was no run
+-- why there was no run, before its machine is known
 abbrev pub NotPlayed : RunFault → Plan → Type 0
 NotPlayed (Refused e) p = IsRefusedOpening p e
-NotPlayed (RefusedAt e machine) p = RefusesMachine p e machine
+NotPlayed (RefusedAt e machine) p = ⊥
 NotPlayed Write p = ⊥
 NotPlayed OutOfMemory p = Unit {0}
 

@@ -1,6 +1,6 @@
 //! The run of a scenario, and what is told of it.
 
-ghost use Rattle.std.specs.Prelude.{◌≡◌, ◌≤◌, ◌+◌, [], ℕ, List, Option, Result, IfOk, IfErr, OnOk, flat_map, if◌then◌else◌, is_some};
+ghost use Rattle.std.specs.Prelude.{◌≡◌, ◌≤◌, ◌+◌, [], ℕ, List, Option, Result, IfOk, IfErr, OnOk, MatchOption, flat_map, is_some};
 ghost use Rattle.std.specs.Io.KnownBytes.{Appends};
 ghost use Rattle.esx_types.specs.declared.ends.SinkFailed.{SinkFailed};
 ghost use Rattle.esx_events.specs.declared.event.Refusal.{Refusal};
@@ -10,7 +10,7 @@ ghost use Rattle.esx_workers.specs.declared.end.End.{End};
 ghost use Rattle.esx_writing.specs.Writing.{Writes, WritesFront, sink_faults};
 ghost use Rattle.esx_text.specs.States.{sink_state};
 ghost use Rattle.esx_program.specs.Ends.{ending_text, endings, workers_named};
-ghost use Rattle.esx_program.specs.Runs.{IsPlayed, IsRefusedOpening, NotPlayed, Plays, RunStops, StopsTelling, told_session, with_machine, written_as};
+ghost use Rattle.esx_program.specs.Runs.{IsNamedTo, IsPlayed, IsRefusedOpening, IsWithMachine, NotPlayed, Plays, RunStops, StopsTelling, told_session, written_as};
 
 use crate::ends::{Ending, endings_of, names_of, write_endings};
 use crate::gates::gates_of;
@@ -32,7 +32,7 @@ use std::thread::Threads;
 use thiserror::Error;
 
 /// Why the session of a run was not told: a call of its opening was refused, the first one that was, and at a terminal
-/// also which machine is not admitted; writing it failed; or memory ran out.
+/// also which machine's call it was; writing it failed; or memory ran out.
 #[derive(Debug, Drop, Error, PartialEq, Eq)]
 pub enum RunFault {
     #[error("no {} {}", .0.number(), .0.name())]
@@ -46,19 +46,19 @@ pub enum RunFault {
 }
 
 impl RunFault {
-    ghost use Rattle.std.specs.Prelude.{◌≡◌};
-    ghost use Rattle.esx_program.specs.Runs.{with_machine};
+    ghost use Rattle.esx_program.specs.Runs.{IsWithMachine, NotPlayed};
 
-    /// An opening that was refused, with the machine that is not admitted, where there is one; any other fault as it is.
+    /// An opening that was refused, with its machine; any other fault as it is.
     fn with_machine(self, scenario: &Scenario) -> RunFault
-        ensures { result ≡ with_machine scenario.now self }
+        requires { NotPlayed self scenario.now }
+        ensures { IsWithMachine scenario.now self result }
     {
         let RunFault::Refused(refusal) = self else {
             return self;
         };
         match refused_opening(&scenario.config(), scenario.guests()) {
             Some(machine) => RunFault::RefusedAt(refusal, machine),
-            None => self,
+            None => unreachable!(),
         }
     }
 }
@@ -258,9 +258,10 @@ fn tell<E: Sink + Drop, W: Sink + Drop>(made: Played, mut errors: E, writer: W) 
     }
 }
 
-/// A fault as it is told: to `to`, where there is one, with the machine that is not admitted.
+/// A fault as it is told: to `to`, where there is one, with its machine.
 fn told_fault<P>(fault: RunFault, scenario: &Scenario, to: Option<&P>) -> RunFault
-    ensures { result ≡ (if is_some to.entry then with_machine scenario.now fault else fault) }
+    requires { NotPlayed fault scenario.now }
+    ensures { MatchOption to.entry (result ≡ fault) (λ _. IsWithMachine scenario.now fault result) }
 {
     match to {
         Some(_) => fault.with_machine(scenario),
@@ -271,7 +272,7 @@ fn told_fault<P>(fault: RunFault, scenario: &Scenario, to: Option<&P>) -> RunFau
 /// Runs a scenario. Tells the ends of its workers to `errors`, a line each: the guests in the order of their
 /// machines' numbers, then the sharer, the swapper and the policy. Writes the session that they made to `writer`.
 ///
-/// How far the workers are is told to `to`, where there is one, and an opening that was refused is told with its machine.
+/// How far the workers are is told to `to`, where there is one; then an opening that was refused is told with its machine.
 pub fn run_to<R: Threads + Wait + Sync, P: Print + Sync, E: Sink + Drop, W: Sink + Drop>(
     rt: &R,
     alloc: Global,
@@ -286,6 +287,7 @@ pub fn run_to<R: Threads + Wait + Sync, P: Print + Sync, E: Sink + Drop, W: Sink
     ensures fault { IfErr result.ended (λ e. RunStops e scenario.now
         (sink_state E.contents E.waiting E.failures E.flushes errors) (sink_state E.contents E.waiting E.failures E.flushes result.errors)
         (sink_state W.contents W.waiting W.failures W.flushes writer) (sink_state W.contents W.waiting W.failures W.flushes result.writer)) }
+    ensures machine { IfErr result.ended (λ e. IsNamedTo (is_some to.entry) e) }
 {
     match play_with_room(rt, alloc, scenario, to) {
         Ok(made) => tell(made, errors, writer),

@@ -1,1 +1,7 @@
+mod Histories
+mod FreeFrames
+mod Admitted
+mod Loops
+mod Started
 mod Sums
+mod Refusals

@@ -1,63 +1,59 @@
--- How machines come to a site one after another, and which is the first that is refused.
-use Rattle.std.specs.Prelude.{ℕ, ◌+◌, nat_le, List, [], ◌∷◌, Option, Some, None, Result, Ok, Err, if◌then◌else◌}
+-- Which machine is the first that is refused as a site is opened.
+use Rattle.std.specs.Prelude.{◌≡◌, ℕ, ◌+◌, true, List, [], ◌∷◌, length, Option, Some, None, Result, Ok, Err}
 use Rattle.esx_types.specs.declared.config.Config.{Config}
+use Rattle.esx_events.specs.declared.event.Answer.{Answer}
+use Rattle.esx_events.specs.declared.event.Event.{Event}
+use Rattle.esx_events.specs.declared.event.Event.TheVariants.{Admit, Start}
 use Rattle.esx_events.specs.declared.event.Refusal.{Refusal}
 use Rattle.esx_events.specs.declared.event.Refusal.TheVariants.{Full, NoMemoryReserve, NoSwapReserve}
 use Rattle.esx_scenario.specs.declared.plan.Guest.{Guest}
-use Rattle.esx_model.specs.declared.scene.Site.{Site}
-use Rattle.esx_model.specs.event.Outcome.{Outcome}
-use Rattle.esx_model.specs.event.Admission.{memory_with, swap_with, admit}
-use Rattle.esx_model.specs.Replay.{opening}
-use Rattle.esx_opening.specs.Orders.{in_order}
+use Rattle.esx_model.specs.event.Admission.{memory_with, swap_with}
+use Rattle.esx_model.specs.Memory.{names}
+use Rattle.esx_model.specs.History.{History, opened, scene_at, do_event}
+use Rattle.esx_console.specs.Calls.{opened_session}
+use Rattle.esx_opening.specs.Openings.{opening_events, IsRefusedAt}
+use Rattle.esx_refused.specs.declared.coming.Lack.{Lack}
 use Rattle.esx_refused.specs.declared.coming.RefusedOpening.{RefusedOpening}
 
--- The machine is refused: so much is asked for, of so much that there is; or no number is lacking.
-abbrev pub lacks : Guest → Refusal → ℕ → ℕ → RefusedOpening
-lacks g e asked had = record { vm = g.vm; refusal = e; lack = Some (record { asked = asked; had = had }) }
+-- so much is asked for, of so much that there is
+abbrev pub lack : ℕ → ℕ → Option Lack
+lack asked had = Some (record { asked = asked; had = had })
 
-abbrev pub is_refused : Guest → Refusal → RefusedOpening
-is_refused g e = record { vm = g.vm; refusal = e; lack = None }
+-- what an admission lacks: its node, or what would be promised with its machine
+abbrev pub admission_lacks : Config → ℕ → ℕ → ℕ → Refusal → Option Lack
+admission_lacks c node memory swap Full = lack node c.nodes
+admission_lacks c node memory swap NoMemoryReserve = lack memory c.frames
+admission_lacks c node memory swap NoSwapReserve = lack swap c.slots
+admission_lacks c node memory swap e = None
 
--- how an admission is refused, with which so much memory and swap would be promised
-abbrev pub told : Config → Guest → ℕ → ℕ → Refusal → RefusedOpening
-told c g memory swap NoMemoryReserve = lacks g NoMemoryReserve memory c.frames
-told c g memory swap NoSwapReserve = lacks g NoSwapReserve swap c.slots
-told c g memory swap e = is_refused g e
+-- and a start
+abbrev pub start_lacks : Config → ℕ → Refusal → Option Lack
+start_lacks c node Full = lack node c.nodes
+start_lacks c node e = None
 
--- a site that machines came to, and how many nodes they made
-pub record Come : Type 0 where
-  pub site : Site
-  pub nodes : ℕ
+-- the node that one more event would make
+abbrev pub next_node : History → ℕ
+next_node h = length h.nodes + 1
 
--- what an admission leads to, with which so much memory and swap would be promised
-abbrev pub admission : Config → Come → Guest → ℕ → ℕ → Outcome → Result Come RefusedOpening
-admission c t g memory swap (Ok r) = Ok (record { site = r.1; nodes = t.nodes + 1 })
-admission c t g memory swap (Err e) = Err (told c g memory swap e)
+-- the machine of an admission or a start that is refused
+abbrev pub refused_by : History → Event → Refusal → Option RefusedOpening
+refused_by h (Admit n spec) e =
+    Some (record { vm = n; refusal = e; lack = admission_lacks h.config (next_node h) (memory_with (scene_at h).site spec) (swap_with (scene_at h).site spec) e })
+refused_by h (Start n) e = Some (record { vm = n; refusal = e; lack = start_lacks h.config (next_node h) e })
+refused_by h event e = None
 
--- one more machine comes: it is refused where all nodes are made, and else admitted, or refused, as the model does it
-abbrev pub comes : Config → Come → Guest → Result Come RefusedOpening
-comes c t g =
-    if nat_le c.nodes t.nodes then Err (lacks g Full (t.nodes + 1) c.nodes)
-    else admission c t g (memory_with t.site g.spec) (swap_with t.site g.spec) (admit c t.site g.vm g.spec)
+abbrev pub refused_or : History → Event → Result (Answer × History) Refusal → (History → Option RefusedOpening) → Option RefusedOpening
+refused_or h event (Ok r) go = go r.1
+refused_or h event (Err e) go = refused_by h event e
 
--- the same, where none was refused before
-abbrev pub comes_on : Config → Result Come RefusedOpening → Guest → Result Come RefusedOpening
-comes_on c (Ok t) g = comes c t g
-comes_on c (Err first) g = Err first
+-- the machine of the first event that is refused, where each is made to happen after those before it
+unfoldable pub refused_from : History → List Event → Option RefusedOpening
+refused_from h [] = None
+refused_from h (event ∷ later) = refused_or h event (do_event event h) (λ after. refused_from after later)
 
--- machines come one after another
-unfoldable pub all_come : Config → Result Come RefusedOpening → List Guest → Result Come RefusedOpening
-all_come c so_far [] = so_far
-all_come c so_far (g ∷ gs) = all_come c (comes_on c so_far g) gs
-
--- nobody has come
-abbrev pub empty_site : Config → Result Come RefusedOpening
-empty_site c = Ok (record { site = (opening c).site; nodes = 0 })
-
-abbrev pub refused_of : Result Come RefusedOpening → Option RefusedOpening
-refused_of (Ok t) = None
-refused_of (Err first) = Some first
-
--- the first that is refused, as they come in the order of their numbers
 abbrev pub first_refused : Config → List Guest → Option RefusedOpening
-first_refused c guests = refused_of (all_come c (empty_site c) (in_order guests))
+first_refused c guests = refused_from (opened c) (opening_events guests)
+
+-- the opening is refused so at an event of that machine
+abbrev pub IsRefusedOf : Config → List Guest → RefusedOpening → Type 0
+IsRefusedOf c guests m = (at : IsRefusedAt (opening_events guests) (opened_session c) m.refusal) × (names m.vm at.event ≡ true)

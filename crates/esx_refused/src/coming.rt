@@ -1,9 +1,9 @@
-//! Machines that come to a site one after another, and the first that is refused.
+//! Machines that are admitted to a site one after another.
 
 ghost use Rattle.std.specs.Prelude.{◌≡◌, false, IfOk, Some, None};
+ghost use Rattle.esx_types.specs.declared.config.TheConstants.{VM_NUMBERS};
 ghost use Rattle.esx_opening.specs.Orders.{of_number};
-ghost use Rattle.esx_refused.specs.Refused.{first_refused};
-ghost use Rattle.esx_refused.specs.Promised.{AreWithin, promised_with, all_promised};
+ghost use Rattle.esx_refused.specs.Promised.{AreWithin, promised_with, all_promised, promised_below};
 
 use esx_events::Refusal;
 use esx_scenario::Guest;
@@ -17,7 +17,7 @@ pub struct Lack {
 }
 
 /// A machine that is refused as a site is opened, why, and what is lacking, if that is a number: what would be promised
-/// with the machine, or the node that its admission would make.
+/// with the machine, or the node that its admission or its next start would make.
 #[derive(Clone, Copy, Debug, PartialEq, Eq)]
 pub struct RefusedOpening {
     pub vm: VmId,
@@ -34,7 +34,7 @@ pub struct Promised {
 }
 
 /// The machine is refused where nodes, frames or slots are lacking.
-fn lacking(vm: VmId, refusal: Refusal, asked: u64, had: u32) -> RefusedOpening
+pub(crate) fn lacking(vm: VmId, refusal: Refusal, asked: u64, had: u32) -> RefusedOpening
     ensures { result ≡ record { vm = vm; refusal = refusal; lack = Some (record { asked = asked; had = had }) } }
 {
     RefusedOpening {
@@ -119,10 +119,10 @@ fn with_number(
     Ok(now)
 }
 
-/// The first machine that is refused as a site is opened, whose machines are admitted in the order of their numbers;
-/// `None` where all are admitted. No memory is taken.
-pub fn refused_opening(site: &Config, guests: &[Guest]) -> Option<RefusedOpening>
-    ensures { result ≡ first_refused site.now guests.now }
+/// The same with all, in the order of their numbers.
+pub(crate) fn admitted(site: &Config, guests: &[Guest]) -> Result<Promised, RefusedOpening>
+    ensures value { result ≡ promised_below site.now guests.now VM_NUMBERS }
+    ensures within { IfOk result (λ after. AreWithin site.now after) }
 {
     let mut so_far = Promised {
         nodes: 0,
@@ -132,8 +132,8 @@ pub fn refused_opening(site: &Config, guests: &[Guest]) -> Option<RefusedOpening
     for number in 0..VM_NUMBERS {
         match with_number(site, so_far, guests, number) {
             Ok(after) => so_far = after,
-            Err(first) => return Some(first),
+            Err(first) => return Err(first),
         }
     }
-    None
+    Ok(so_far)
 }

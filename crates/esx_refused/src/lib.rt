@@ -2,6 +2,9 @@
 #![tactic(auto)]
 
 mod coming;
+mod opening;
+mod starting;
 mod telling;
 
-pub use coming::{Lack, RefusedOpening, refused_opening};
+pub use coming::{Lack, RefusedOpening};
+pub use opening::refused_opening;

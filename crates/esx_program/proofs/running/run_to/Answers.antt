@@ -1,6 +1,6 @@
 use Rattle.std.specs.Prelude.{is_some}
 use Rattle.esx_text.specs.States.{sink_state}
-use Rattle.esx_program.proofs.RunLemmas.{nothing_told, plays, stops, told_not_played}
+use Rattle.esx_program.proofs.RunLemmas.{plays, stops, stops_unplayed, write_named}
 use Rattle.esx_program.proofs.running.run_to.Goals as goal
 
 pub returns-in-Ok-clause-ok : goal.returns-in-Ok-clause-ok
@@ -23,6 +23,14 @@ returns-in-Ok-clause-fault g c =
     (sink_state g.W.Sink.contents g.W.Sink.waiting g.W.Sink.failures g.W.Sink.flushes c.args.writer)
     (sink_state g.W.Sink.contents g.W.Sink.waiting g.W.Sink.failures g.W.Sink.flushes c.tell.result.writer) c.tell.result.ended c.tell.ensures.fault
 
+pub returns-in-Ok-clause-machine : goal.returns-in-Ok-clause-machine
+returns-in-Ok-clause-machine g c = write_named (is_some c.args.to) c.tell.result.ended _ c.tell.ensures.fault
+
 pub returns-in-Err-clause-fault : goal.returns-in-Err-clause-fault
-returns-in-Err-clause-fault g c = nothing_told c.told_fault.result c.args.scenario.now _ _
-    (rw c.told_fault.ensures (told_not_played (is_some c.args.to) c.in-Err.fault c.args.scenario.now c.in-Err.ensures.fault))
+returns-in-Err-clause-fault g c = (stops_unplayed c.args.to c.in-Err.fault c.told_fault.result c.args.scenario.now _ _ c.in-Err.ensures.fault c.told_fault.ensures).0
+
+pub returns-in-Err-clause-machine : goal.returns-in-Err-clause-machine
+returns-in-Err-clause-machine g c =
+    (stops_unplayed c.args.to c.in-Err.fault c.told_fault.result c.args.scenario.now
+    (sink_state g.E.Sink.contents g.E.Sink.waiting g.E.Sink.failures g.E.Sink.flushes c.args.errors)
+    (sink_state g.W.Sink.contents g.W.Sink.waiting g.W.Sink.failures g.W.Sink.flushes c.args.writer) c.in-Err.ensures.fault c.told_fault.ensures).1

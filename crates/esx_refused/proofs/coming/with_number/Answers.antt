@@ -3,7 +3,7 @@ use Rattle.esx_scenario.specs.declared.plan.Guest.{Guest}
 use Rattle.esx_opening.specs.Orders.{of_number}
 use Rattle.esx_refused.specs.declared.coming.Promised.{Promised}
 use Rattle.esx_refused.specs.Promised.{AreWithin, all_promised}
-use Rattle.esx_refused.proofs.Sums.{next_yes, next_no, next_refused, none_left}
+use Rattle.esx_refused.proofs.Loops.{next_admitted, none_admitted, next_refused, none_left}
 use Rattle.esx_refused.proofs.coming.with_number.Goals as goal
 use Rattle.esx_refused.proofs.coming.with_number.Goals.{then-from-number+in-Ok, else-from-number}
 
@@ -18,12 +18,12 @@ loop-guest-preserved c =
     let same = λ (t : Promised) (u : Promised) (a : Bool) (b : Bool) (e : t ≡ u) (f : a ≡ b). ap (λ (p : Promised). all_promised site p b later) (sym e) ∙ ap (λ (y : Bool). all_promised site t y later) (sym f) in
     elim c.if-from-number.branch [
       | then-from-number+in-Ok w ↦ record {
-        left = next_yes site _ _ c.args.guests.now i _ x _ c.loop-guest-test.true c.guest-item.is left (sym vm ∙ w.if-from-number.true) w.in-Ok.after w.in-Ok.ensures.value
+        left = next_admitted c.args.guests.now i _ x c.loop-guest-test.true c.guest-item.is site _ _ _ left (sym vm ∙ w.if-from-number.true) w.in-Ok.after w.in-Ok.ensures.value
             ∙ same _ _ _ true w.now-is w.there-is;
         within = subst (λ (p : Promised). AreWithin site p) (sym w.now-is) w.in-Ok.ensures.within;
       }
       | else-from-number w ↦ record {
-        left = next_no site _ _ c.args.guests.now i _ x _ c.loop-guest-test.true c.guest-item.is left (λ e. w.if-from-number.false (vm ∙ e)) ∙ same _ _ _ _ w.now-is w.there-is;
+        left = none_admitted c.args.guests.now i _ x c.loop-guest-test.true c.guest-item.is site _ _ _ left (λ e. w.if-from-number.false (vm ∙ e)) ∙ same _ _ _ _ w.now-is w.there-is;
         within = subst (λ (p : Promised). AreWithin site p) (sym w.now-is) c.loop-guest.invariant.within;
       }
     ]
@@ -31,7 +31,7 @@ loop-guest-preserved c =
 pub returns-in-Err-clause-value : goal.returns-in-Err-clause-value
 returns-in-Err-clause-value c =
     let vm : c.from.result ≡ c.guest-item.result.vm = c.from.ensures ∙ c.number.ensures.value in
-    sym (next_refused c.args.site.now c.loop-guest.now c.loop-guest.there c.args.guests.now c.loop-guest.guest-index c.args.number c.guest-item.result _ c.loop-guest-test.true c.guest-item.is
+    sym (next_refused c.args.guests.now c.loop-guest.guest-index c.args.number c.guest-item.result c.loop-guest-test.true c.guest-item.is c.args.site.now c.loop-guest.now c.loop-guest.there _
     c.loop-guest.invariant.left (sym vm ∙ c.if-from-number.true) c.in-Err.first c.in-Err.ensures.value)
 
 pub returns-clause-value : goal.returns-clause-value

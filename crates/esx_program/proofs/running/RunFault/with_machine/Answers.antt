@@ -1,13 +1,20 @@
-use Rattle.std.proofs.Common.{◌∙◌, sym, Some, None}
-use Rattle.esx_program.proofs.RunLemmas.{machine_is_named}
+use Rattle.std.proofs.Common.{◌∙◌, refl, sym}
+use Rattle.esx_program.proofs.RunLemmas.{machine_is_named, refused_there}
 use Rattle.esx_program.proofs.running.RunFault.with_machine.Goals as goal
 
-pub returns-in-Some : goal.returns-in-Some
-returns-in-Some c =
-    rw c.in-Refused.is (machine_is_named c.in-Refused.refusal c.args.scenario.now c.config.result c.guests.result.now (Some c.in-Some.machine)
-    c.config.ensures.same c.guests.ensures.same (sym c.in-Some.is ∙ c.refused_opening.ensures))
+pub returns : goal.returns
+returns c =
+    let e = c.in-Refused.refusal in
+    let p = c.args.scenario.now in
+    let refused = rw c.in-Refused.is at c.requires in
+    let there = refused_there e p c.config.result c.guests.result.now c.config.ensures.same c.guests.ensures.same refused in
+    let same = rw c.in-Some.is at (c.refused_opening.ensures.refusal e there) in
+    rw c.in-Refused.is
+    (c.in-Some.machine, refl, machine_is_named e p c.config.result c.guests.result.now c.config.ensures.same c.guests.ensures.same refused c.in-Some.machine (sym c.in-Some.is ∙ c.refused_opening.ensures.first) same)
 
-pub returns-in-None : goal.returns-in-None
-returns-in-None c =
-    rw c.in-Refused.is (machine_is_named c.in-Refused.refusal c.args.scenario.now c.config.result c.guests.result.now None
-    c.config.ensures.same c.guests.ensures.same (sym c.in-None.is ∙ c.refused_opening.ensures))
+pub unreachable-requires : goal.unreachable-requires
+unreachable-requires c =
+    let e = c.in-Refused.refusal in
+    let refused = rw c.in-Refused.is at c.requires in
+    let there = refused_there e c.args.scenario.now c.config.result c.guests.result.now c.config.ensures.same c.guests.ensures.same refused in
+    rw c.in-None.is at (c.refused_opening.ensures.refusal e there)
