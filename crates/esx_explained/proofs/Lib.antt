@@ -1,4 +1,6 @@
 pub mod WordLemmas
 pub mod ValueLemmas
+pub mod DistanceLemmas
 pub mod NearLemmas
 pub mod LineLemmas
+pub mod LawLemmas

@@ -1,7 +1,9 @@
 -- Every command stands in the list of commands, and has few operands.
-use Rattle.std.proofs.Common.{◌≡◌, ◌<◌, ◌≤◌, ◌-◌, ℕ, zero, suc, List, length, get_or, replicate, decimal, refl, sym, ap, ◌∙◌, arith, Option, Some, None, Bool}
-use Rattle.std.specs.List.{slice_get}
-use Rattle.std.specs.Bool.{OnFalse}
+use Rattle.std.proofs.Common.{◌≡◌, ◌<◌, ◌≤◌, ◌-◌, ℕ, zero, suc, List, length, get_or, replicate, decimal, refl, sym, ap, ◌∙◌, arith, Option, Some, None, Bool, IsTrue, ◌↔◌}
+use Rattle.std.proofs.Common.{true, false, nat_eq, bytes_eq}
+use Rattle.std.specs.List.{slice_get, list_all, position_or_len}
+use Rattle.std.proofs.lemmas.List.Folds.{list_all_at}
+use Rattle.std.proofs.lemmas.Bool.Decides.{nat_tests}
 use Rattle.std.specs.Borrow.{Bor}
 use Rattle.std.specs.Slice.{IsItemAt}
 use Rattle.std.specs.Option.{option_copied}
@@ -14,7 +16,7 @@ use Rattle.esx_explained.specs.declared.operand.Operand.{Operand}
 use Rattle.esx_explained.specs.declared.operand.Operand.TheVariants.{Vm, Page, At, Len, Bytes, Min, Max, Overhead, Shares, Balloon, Tau, Length, Draw, Count, Steps, Label}
 use Rattle.esx_explained.specs.declared.operand.TheConstants.{MOST_WORDS}
 use Rattle.esx_explained.specs.Words.{command_word}
-use Rattle.esx_explained.specs.Operands.{kind_of, IsNoValue, operands_of}
+use Rattle.esx_explained.specs.Operands.{kind_of, IsValueWord, operands_of}
 
 -- at which place a command stands
 abbrev pub place_of : Command → ℕ
@@ -130,7 +132,7 @@ within command.PageOut = omega arith
 
 -- an operand that is none of these is a number
 pub other_operand : (o : Operand) (word : List ℕ) (b : Bool) → (o ≡ Vm → ⊥) → (o ≡ Draw → ⊥) → (o ≡ Bytes → ⊥) → (o ≡ Label → ⊥)
-    → OnFalse b ((n : ℕ) → n < 4294967296 → word ≡ decimal n → ⊥) → OnFalse b (IsNoValue (kind_of o) word)
+    → (IsTrue b ↔ ((n : ℕ) × (n < 4294967296) × (word ≡ decimal n))) → IsTrue b ↔ IsValueWord (kind_of o) word
 other_operand Vm word test v d b l h = absurd (v refl)
 other_operand Page word test v d b l h = h
 other_operand At word test v d b l h = h
@@ -178,3 +180,23 @@ pub word_at : (i k : ℕ) (d : Command) → i < 35 → k ≡ i → command_word 
 word_at i k d lt e =
     let inside : i < length COMMANDS = lt in
     ap command_word (get_or_default COMMANDS i command.Admit d inside ∙ ap (λ (n : ℕ). get_or COMMANDS n d) (sym e))
+
+-- the place of the first command that begins with a word
+abbrev place_of_word : List ℕ → ℕ
+place_of_word word = position_or_len (λ c. bytes_eq (command_word c) word) COMMANDS
+
+place_by : (c : Command) (b : Bool) → nat_eq (place_of_word (command_word c)) (place_of c) ≡ b → place_of_word (command_word c) ≡ place_of c
+place_by c true e = grind (arith, nat_tests)
+place_by c false e =
+    let test : Command → Bool = λ d. nat_eq (place_of_word (command_word d)) (place_of d) in
+    let all : list_all test COMMANDS ≡ true = refl in
+    let one = list_all_at test COMMANDS (place_of c) c (within c) (ap test (stands c c) ∙ e) in
+    absurd cc
+
+-- no two commands have one word
+pub one_command : (c d : Command) → command_word c ≡ command_word d → c ≡ d
+one_command c d e =
+    let first = place_by c (nat_eq (place_of_word (command_word c)) (place_of c)) refl in
+    let second = place_by d (nat_eq (place_of_word (command_word d)) (place_of d)) refl in
+    let same : place_of c ≡ place_of d = sym first ∙ (ap place_of_word e ∙ second) in
+    sym (stands c c) ∙ (ap (λ (n : ℕ). get_or COMMANDS n c) same ∙ stands d c)

@@ -20,9 +20,9 @@ kind_of o = Number
 abbrev pub is_lower_digit : ℕ → Bool
 is_lower_digit b = (nat_le 48 b && nat_le b 57) || (nat_le 97 b && nat_le b 102)
 
--- the word is that of no value of the kind
-abbrev pub IsNoValue : Kind → List ℕ → Type 0
-IsNoValue kind word = (x : Value kind) → IsValue kind x → word ≡ value_word kind x → ⊥
+-- the word is that of a value of the kind
+abbrev pub IsValueWord : Kind → List ℕ → Type 0
+IsValueWord kind word = (x : Value kind) × IsValue kind x × (word ≡ value_word kind x)
 
 -- the operands of a command in their order, as many as there may be; of events that are tried there are none
 abbrev pub operands_of : Command → List Operand

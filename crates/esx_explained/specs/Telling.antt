@@ -1,13 +1,19 @@
 -- How it is told why a line is no command.
-use Rattle.std.specs.Prelude.{ℕ, ◌++◌, nat_lt, nat_le, ◌&&◌, if◌then◌else◌, List, length, map, take, codes, decimal, slice_get, Option, Some, None}
+use Rattle.std.specs.Prelude.{ℕ, Bool, not, min, ◌+◌, ◌-◌, ◌^◌, ◌++◌, nat_lt, nat_le, ◌&&◌, if◌then◌else◌, List, [], length, map, take, codes, decimal, slice_get, Option, Some, None}
 use Rattle.esx_explained.specs.declared.command.Command.{Command}
 use Rattle.esx_explained.specs.declared.command.Command.TheVariants as command
 use Rattle.esx_explained.specs.declared.operand.Operand.{Operand}
 use Rattle.esx_explained.specs.declared.operand.Operand.TheVariants.{Vm, Page, At, Len, Bytes, Min, Max, Overhead, Shares, Balloon, Tau, Length, Draw, Count, Steps, Label}
 use Rattle.esx_explained.specs.declared.reason.Explanation.{Explanation}
-use Rattle.esx_explained.specs.declared.reason.Explanation.TheVariants.{TooLong, NotText, Unknown, Missing, TooMany, Wrong, Other}
+use Rattle.esx_explained.specs.declared.reason.Explanation.TheVariants.{TooLong, NotText, Unknown, Operands, NoEvents, Tried, TooManyEvents, Other}
+use Rattle.esx_explained.specs.declared.amiss.Amiss.{Amiss}
+use Rattle.esx_explained.specs.declared.amiss.Amiss.TheVariants.{Missing, TooMany, Wrong}
+use Rattle.esx_explained.specs.declared.tried.AmissEvent.{AmissEvent}
+use Rattle.esx_explained.specs.declared.tried.AmissEvent.TheVariants as event
+use Rattle.esx_events.specs.declared.events.TheConstants.{MAX_EVENTS}
 use Rattle.esx_explained.specs.declared.telling.TheConstants.{MOST_TOLD}
-use Rattle.esx_explained.specs.declared.known.TheConstants.{LONGEST}
+use Rattle.esx_text.specs.Lines.{line_of}
+use Rattle.esx_text.specs.declared.answer.TheConstants.{LONGEST}
 use Rattle.esx_explained.specs.Words.{command_word}
 use Rattle.esx_explained.specs.Operands.{operands_of}
 
@@ -107,11 +113,42 @@ told_word word = codes "\"" ++ (map shown_byte (take MOST_TOLD word) ++ told_end
 abbrev pub wants : Command → List ℕ
 wants c = command_word c ++ (codes " wants " ++ usage_of c)
 
+-- the nearest command, if one is near
+abbrev pub hint_text : Option Command → List ℕ
+hint_text None = []
+hint_text (Some c) = codes "; the nearest is " ++ command_word c
+
+-- what is amiss with the operands of a command
+abbrev pub amiss_text : Command → Amiss → List ℕ
+amiss_text c (Missing at) = wants c ++ (codes ": " ++ (label_at c at ++ codes " is missing"))
+amiss_text c (TooMany word) = wants c ++ (codes ": " ++ (told_word word.now ++ codes " is too much"))
+amiss_text c (Wrong at word) = wants c ++ (codes ": " ++ (told_word word.now ++ (codes " is no " ++ (label_at c at ++ (codes ", " ++ wanted_at c at)))))
+
+-- what is amiss with an event
+abbrev pub event_text : AmissEvent → List ℕ
+event_text event.NoSpace = codes "no space stands before it"
+event_text (event.Unknown word) = told_word word.now ++ codes " is no event"
+event_text (event.Operands c a) = amiss_text c a
+
 abbrev pub explanation_text : Explanation → List ℕ
 explanation_text TooLong = codes "it has more than " ++ (decimal LONGEST ++ codes " bytes")
 explanation_text NotText = codes "it is not UTF-8"
-explanation_text (Unknown word nearest) = told_word word.now ++ (codes " is no command; the nearest is " ++ command_word nearest)
-explanation_text (Missing c at) = wants c ++ (codes ": " ++ (label_at c at ++ codes " is missing"))
-explanation_text (TooMany c word) = wants c ++ (codes ": " ++ (told_word word.now ++ codes " is too much"))
-explanation_text (Wrong c at word) = wants c ++ (codes ": " ++ (told_word word.now ++ (codes " is no " ++ (label_at c at ++ (codes ", " ++ wanted_at c at)))))
+explanation_text (Unknown word nearest) = told_word word.now ++ (codes " is no command" ++ hint_text nearest)
+explanation_text (Operands c a) = amiss_text c a
+explanation_text NoEvents = wants command.WhatIf ++ codes ": E is missing"
+explanation_text (Tried number e) = command_word command.WhatIf ++ (codes ", event " ++ (decimal number ++ (codes ": " ++ event_text e)))
+explanation_text TooManyEvents = wants command.WhatIf ++ (codes ": these are more than " ++ decimal MAX_EVENTS)
 explanation_text (Other c) = wants c
+
+-- a line of the terminal
+abbrev pub told_line : ℕ → Explanation → List ℕ
+told_line number e = codes "line " ++ (decimal number ++ (codes ": " ++ explanation_text e))
+
+-- the number of the line behind so many, as far as numbers go
+abbrev pub next_number : ℕ → ℕ
+next_number count = min (count + 1) (2 ^ 64 - 1)
+
+-- what is looked at of a line of which so much is held: where a line feed stands behind it, and it is not too long, without
+-- the carriage return at its end
+abbrev pub held_line : List ℕ → Bool → Bool → List ℕ
+held_line front long is_ended = if is_ended && not long then line_of front else front

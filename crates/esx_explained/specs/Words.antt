@@ -1,5 +1,5 @@
 -- The first words of commands.
-use Rattle.std.specs.Prelude.{ℕ, List, codes, Option, Some, None}
+use Rattle.std.specs.Prelude.{ℕ, List, codes, Option, Some, None, Bool, true, false}
 use Rattle.esx_words.specs.declared.verbs.Verb.{Verb}
 use Rattle.esx_words.specs.declared.verbs.Verb.TheVariants as verbs
 use Rattle.esx_words.specs.declared.verbs.EventVerb.TheVariants as events
@@ -50,6 +50,14 @@ verb_of command.WhatIf = Some verbs.WhatIf
 verb_of command.Session = None
 verb_of command.Order = None
 verb_of command.PageOut = None
+
+-- an event begins so
+abbrev pub is_event_verb : Option Verb → Bool
+is_event_verb (Some (verbs.Event verb)) = true
+is_event_verb verb = false
+
+abbrev pub is_event : Command → Bool
+is_event c = is_event_verb (verb_of c)
 
 -- the first word of a command: that of the grammar, or of the console alone
 abbrev pub command_word : Command → List ℕ

@@ -85,7 +85,34 @@ pub const COMMANDS: [Command; 35] = [
 
 impl Command {
     ghost use Rattle.std.specs.Prelude.{◌≡◌, ◌≤◌, length};
-    ghost use Rattle.esx_explained.specs.Words.{command_word};
+    ghost use Rattle.esx_explained.specs.Words.{command_word, is_event};
+
+    /// Is it an event, which can be tried?
+    pub fn is_event(self) -> bool
+        ensures { result ≡ is_event self }
+    {
+        match self {
+            Command::Admit
+            | Command::Start
+            | Command::Ask
+            | Command::Stop
+            | Command::Gone
+            | Command::Lend
+            | Command::TakeBack
+            | Command::Scan
+            | Command::DropPage
+            | Command::Shares
+            | Command::VmTax
+            | Command::Read
+            | Command::Write
+            | Command::Sample
+            | Command::Rebalance
+            | Command::SwapOut
+            | Command::Replace
+            | Command::Tax => true,
+            _ => false,
+        }
+    }
 
     /// Its first word.
     pub fn name(self) -> &'static str

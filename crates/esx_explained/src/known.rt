@@ -3,13 +3,12 @@
 ghost use Rattle.std.specs.Prelude.{◌≡◌, ◌<◌, ◌^◌, ◌∷◌, ◌↔◌, [], ℕ, IsTrue, IfSome, IfNone, decimal};
 ghost use Rattle.std.specs.Bool.{OnTrue, OnFalse};
 ghost use Rattle.esx_types.specs.declared.config.TheConstants.{VM_NUMBERS};
-ghost use Rattle.esx_explained.specs.Known.{IsSilent, IsOwn, pageout_words};
+ghost use Rattle.esx_text.specs.Lines.{IsSilent};
+ghost use Rattle.esx_text.specs.PageOut.{pageout_words};
+ghost use Rattle.esx_explained.specs.Known.{IsOwn};
 
 use esx_reading::Fields;
 use esx_types::VmId;
-
-/// The longest line of a command, in bytes.
-pub const LONGEST: usize = 16384;
 
 /// Is it empty, or does it begin with `#`?
 pub fn is_silent(line: &[u8]) -> bool
@@ -49,7 +48,7 @@ fn asked_out(fields: &mut Fields) -> Option<(VmId, u32)>
     place(fields)
 }
 
-/// Is it the line of a word of the console alone?
+/// Is it the line of a word of the console alone, or one that asks that a page go out?
 pub fn is_own(text: &str) -> bool
     ensures yes { OnTrue result (IsOwn text.now) }
     ensures no { OnFalse result (IsOwn text.now → ⊥) }

@@ -3,11 +3,13 @@
 ghost use Rattle.std.specs.Prelude.{IfOk, IfSome, IfNone, OnErr};
 ghost use Rattle.std.specs.Str.{IsUtf8};
 ghost use Rattle.esx_words.specs.Commands.{MayTakeMemory};
-ghost use Rattle.esx_explained.specs.Known.{IsKnown, IsSilent};
+ghost use Rattle.esx_text.specs.Lines.{IsSilent};
+ghost use Rattle.esx_explained.specs.Known.{IsKnown};
 ghost use Rattle.esx_explained.specs.Reasons.{Explains};
 
-use crate::known::{LONGEST, is_own, is_silent};
+use crate::known::{is_own, is_silent};
 use crate::reason::{Explanation, reason};
+use esx_text::LONGEST;
 use esx_words::parse_command;
 use std::alloc::{AllocError, Global};
 

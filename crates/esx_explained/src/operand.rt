@@ -1,8 +1,7 @@
 //! What stands behind the first word of each command.
 
-ghost use Rattle.std.specs.Prelude.{◌≡◌, ◌<◌, ◌≤◌, ◌+◌, ◌^◌, ℕ, List, decimal, slice_get, IfSome};
+ghost use Rattle.std.specs.Prelude.{◌≡◌, ◌<◌, ◌≤◌, ◌+◌, ◌^◌, ◌↔◌, IsTrue, ℕ, List, decimal, slice_get, IfSome};
 ghost use Rattle.std.specs.List.{list_all};
-ghost use Rattle.std.specs.Bool.{OnFalse};
 ghost use Rattle.hex.specs.Hex.{encode_lower};
 ghost use Rattle.esx_reading.specs.Written.{IsWritten};
 ghost use Rattle.esx_explained.specs.Operands.{operands_of, least_of, is_lower_digit};
@@ -38,7 +37,7 @@ pub enum Operand {
 
 /// Is it the decimal number of one below a limit?
 fn is_below(word: &str, limit: u64) -> bool
-    ensures { OnFalse result ((n : ℕ) → n < limit → word.now ≡ decimal n → ⊥) }
+    ensures { IsTrue result ↔ ((n : ℕ) × (n < limit) × (word.now ≡ decimal n)) }
 {
     match number_of(word) {
         Some(number) => number < limit,
@@ -48,7 +47,7 @@ fn is_below(word: &str, limit: u64) -> bool
 
 /// Is it the decimal number of a word of 64 bits?
 fn is_word(word: &str) -> bool
-    ensures { OnFalse result ((n : ℕ) → n < 2 ^ 64 → word.now ≡ decimal n → ⊥) }
+    ensures { IsTrue result ↔ ((n : ℕ) × (n < 2 ^ 64) × (word.now ≡ decimal n)) }
 {
     number_of(word).is_some()
 }
@@ -62,9 +61,12 @@ fn has_digits(bytes: &[u8]) -> bool
 
 /// Is it the hex of 1 to `MAX_PAGE` bytes?
 fn is_bytes(word: &str) -> bool
-    ensures { OnFalse result ((bytes : List ℕ) → IsWritten bytes → word.now ≡ encode_lower bytes → ⊥) }
+    ensures { IsTrue result ↔ ((bytes : List ℕ) × IsWritten bytes × (word.now ≡ encode_lower bytes)) }
 {
-    if word.is_empty() || word.len() > MAX_DIGITS {
+    if word.is_empty() {
+        return false;
+    }
+    if word.len() > MAX_DIGITS {
         return false;
     }
     if word.len() % 2 != 0 {
@@ -74,13 +76,12 @@ fn is_bytes(word: &str) -> bool
 }
 
 impl Operand {
-    ghost use Rattle.std.specs.Prelude.{◌≡◌};
-    ghost use Rattle.std.specs.Bool.{OnFalse};
-    ghost use Rattle.esx_explained.specs.Operands.{kind_of, IsNoValue};
+    ghost use Rattle.std.specs.Prelude.{◌↔◌, IsTrue};
+    ghost use Rattle.esx_explained.specs.Operands.{kind_of, IsValueWord};
 
     /// Can the word be one?
     pub fn may_be(self, word: &str) -> bool
-        ensures { OnFalse result (IsNoValue (kind_of self) word.now) }
+        ensures { IsTrue result ↔ IsValueWord (kind_of self) word.now }
     {
         match self {
             Operand::Vm => is_below(word, VM_NUMBERS as u64),

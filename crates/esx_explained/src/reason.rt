@@ -1,77 +1,94 @@
 //! What is amiss with a line that is no command.
 
-ghost use Rattle.std.specs.Prelude.{◌≡◌, ◌∷◌, IfSome};
-ghost use Rattle.esx_explained.specs.Reasons.{IsAmiss, Explains};
+ghost use Rattle.std.specs.Prelude.{◌≡◌, ◌∷◌};
+ghost use Rattle.esx_reading.specs.Fields.{fields};
+ghost use Rattle.esx_explained.specs.declared.command.Command.TheVariants.{WhatIf};
+ghost use Rattle.esx_explained.specs.Reasons.{IsSaidOf, Explains};
 
+use crate::amiss::{Amiss, amiss_operands};
 use crate::command::{Command, command_of};
 use crate::near::nearest;
-use crate::operand::{least, operand_at};
+use crate::tried::{AmissEvent, amiss_part, first_part};
+use esx_events::events::MAX_EVENTS;
 use esx_reading::Fields;
 
-/// Why a line is no command. Operands are counted from 0 on, behind the first word.
+/// Why a line is no command: the first thing from the left that is amiss.
 #[derive(Clone, Copy, Debug, PartialEq, Eq)]
 pub enum Explanation<'a> {
     /// It has more than `LONGEST` bytes.
     TooLong,
     /// It is not UTF-8.
     NotText,
-    /// No command has its first word.
+    /// No command has its first word; this is the nearest, if one is near.
     Unknown {
         word: &'a str,
-        nearest: Command,
+        nearest: Option<Command>,
     },
-    /// It ends before this operand.
-    Missing {
+    /// What stands behind its first word is not what that wants.
+    Operands {
         command: Command,
-        at: usize,
+        amiss: Amiss<'a>,
     },
-    /// This word stands behind the last operand.
-    TooMany {
-        command: Command,
-        word: &'a str,
+    /// No events to be tried stand behind its first word.
+    NoEvents,
+    /// One of the events that are tried is amiss, counted from 1 on.
+    Tried {
+        number: usize,
+        event: AmissEvent<'a>,
     },
-    /// This operand cannot be this word.
-    Wrong {
-        command: Command,
-        at: usize,
-        word: &'a str,
-    },
-    /// What stands behind its first word is not what the command wants.
+    /// More than `MAX_EVENTS` events are tried.
+    TooManyEvents,
+    /// Nothing is amiss with any of its words.
     Other {
         command: Command,
     },
 }
 
-/// What is amiss with the operands of a command, as far as each of them is looked at by itself.
-fn amiss<'a>(command: Command, fields: &mut Fields<'a>) -> Option<Explanation<'a>>
-    ensures { IfSome result (λ e. IsAmiss command fields.old e) }
+/// What is amiss with events that are tried.
+fn amiss_events(text: &str) -> Explanation<'_>
+    ensures { IsSaidOf WhatIf (fields text.now) result }
 {
-    let mut at = 0;
-    while let Some(word) = fields.next() {
-        let Some(operand) = operand_at(command, at) else {
-            return Some(Explanation::TooMany { command, word });
-        };
-        if !operand.may_be(word) {
-            return Some(Explanation::Wrong { command, at, word });
+    let mut rest = text;
+    for at in 0..MAX_EVENTS {
+        let (part, later) = first_part(rest);
+        if let Some(event) = amiss_part(at, part) {
+            return Explanation::Tried {
+                number: at + 1,
+                event,
+            };
         }
-        at += 1;
+        match later {
+            Some(later) => rest = later,
+            None => {
+                return Explanation::Other {
+                    command: Command::WhatIf,
+                };
+            }
+        }
     }
-    if at < least(command) {
-        return Some(Explanation::Missing { command, at });
+    Explanation::TooManyEvents
+}
+
+/// What is amiss with all that is left, as events that are tried.
+fn amiss_tried<'a>(fields: &mut Fields<'a>) -> Explanation<'a>
+    ensures { IsSaidOf WhatIf fields.old result }
+{
+    match fields.rest() {
+        Some(text) => amiss_events(text),
+        None => Explanation::NoEvents,
     }
-    None
 }
 
 /// What is amiss with the words behind the first one of a command.
 fn behind<'a>(command: Command, fields: &mut Fields<'a>) -> Explanation<'a>
-    ensures { IsAmiss command fields.old result }
+    ensures { IsSaidOf command fields.old result }
 {
-    if command == Command::WhatIf {
-        return Explanation::Other { command };
-    }
-    match amiss(command, fields) {
-        Some(found) => found,
-        None => Explanation::Other { command },
+    match command {
+        Command::WhatIf => amiss_tried(fields),
+        _ => match amiss_operands(command, fields) {
+            Some(amiss) => Explanation::Operands { command, amiss },
+            None => Explanation::Other { command },
+        },
     }
 }
 

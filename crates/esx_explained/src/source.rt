@@ -1,16 +1,41 @@
 //! A source that explains the lines that it gives.
 
-ghost use Rattle.std.specs.Prelude.{◌≡◌};
+ghost use Rattle.std.specs.Prelude.{◌≡◌, [], IfSome, IfOk, false};
+ghost use Rattle.esx_text.specs.Lines.{line_of};
+ghost use Rattle.esx_explained.specs.Known.{IsKnown};
+ghost use Rattle.esx_explained.specs.Reasons.{Explains};
+ghost use Rattle.esx_explained.specs.Telling.{held_line, next_number};
 
-use crate::known::LONGEST;
 use crate::line::explained;
+use crate::reason::Explanation;
+use esx_text::LONGEST;
 use esx_types::{Source, SourceFailed};
 use std::alloc::{AllocError, Global};
+use std::fmt;
 
 /// How many bytes are held of a line: those of the longest line, and a carriage return.
 const ROOM: usize = LONGEST + 1;
 
 /// The lines of an input, as they are put together from its parts.
+/// Why a line is no command, with its number, as it is printed.
+#[derive(Clone, Copy)]
+struct ToldLine<'a> {
+    number: u64,
+    explanation: Explanation<'a>,
+}
+
+impl<'a> fmt::Display for ToldLine<'a> {
+    ghost use Rattle.std.specs.Prelude.{Some};
+    ghost use Rattle.esx_explained.specs.Telling.{told_line};
+
+    ghost output = { λ t. Some (told_line t.number t.explanation) };
+
+    fn fmt<W: fmt::Write>(&self, f: &mut fmt::Formatter<W>) -> fmt::Result {
+        let (number, explanation) = (self.number, self.explanation);
+        write!(f, "line {number}: {explanation}")
+    }
+}
+
 #[derive(Drop)]
 struct Lines {
     alloc: Global,
@@ -19,9 +44,29 @@ struct Lines {
     count: u64,
 }
 
+/// A piece without the carriage return at its end.
+fn without_return(piece: &[u8]) -> &[u8]
+    ensures { result.now ≡ line_of piece.now }
+{
+    match piece.len() {
+        0 => piece,
+        length => {
+            let last = length - 1;
+            if piece[last] == b'\r' {
+                let (line, _) = piece.split_at(last);
+                line
+            } else {
+                piece
+            }
+        }
+    }
+}
+
 impl Lines {
     /// It takes the room for the longest line.
-    fn new(alloc: Global) -> Result<Lines, AllocError> {
+    fn new(alloc: Global) -> Result<Lines, AllocError>
+        ensures { IfOk result (λ l. (l.held.items ≡ []) × (l.long ≡ false) × (l.count ≡ 0)) }
+    {
         let held = Vec::with_capacity(alloc, ROOM)?;
         Ok(Lines {
             alloc,
@@ -32,7 +77,9 @@ impl Lines {
     }
 
     /// A part of a line. Of a line that is too long the bytes behind the longest are left out.
-    fn add(&mut self, part: &[u8]) {
+    fn add(&mut self, part: &[u8])
+        ensures { self.new.count ≡ self.old.count }
+    {
         let room = ROOM.saturating_sub(self.held.len());
         if part.len() > room {
             self.long = true;
@@ -43,29 +90,45 @@ impl Lines {
     }
 
     /// What is held of the line, without a carriage return at its end where a line feed stands behind it.
-    fn line(&self, is_ended: bool) -> &[u8] {
+    fn line(&self, is_ended: bool) -> &[u8]
+        ensures { result.now ≡ held_line self.now.held.items self.now.long is_ended }
+    {
         let held = self.held.as_slice();
-        match held.split_last() {
-            Some((last, line)) => {
-                if is_ended && !self.long && *last == b'\r' {
-                    line
-                } else {
-                    held
-                }
-            }
-            None => held,
+        if is_ended && !self.long {
+            return without_return(held);
+        }
+        held
+    }
+
+    /// What is printed of the line, if it is no command. What memory is wanting for is left out.
+    fn told(&self, is_ended: bool) -> Option<ToldLine<'_>>
+        ensures number { IfSome result (λ t. t.number ≡ next_number self.now.count) }
+        ensures unknown { IfSome result (λ t. IsKnown (held_line self.now.held.items self.now.long is_ended) → ⊥) }
+        ensures explains { IfSome result (λ t. Explains (held_line self.now.held.items self.now.long is_ended) t.explanation) }
+    {
+        let number = self.count.saturating_add(1);
+        match explained(self.alloc, self.line(is_ended)) {
+            Ok(found) => match found {
+                Some(explanation) => Some(ToldLine {
+                    number,
+                    explanation,
+                }),
+                None => None,
+            },
+            Err(_) => None,
         }
     }
 
     /// The line is over: tells why it is no command, where it is none, and begins the next.
-    fn end<P: Print>(&mut self, to: &P, is_ended: bool) {
-        self.count = self.count.saturating_add(1);
-        let line = self.line(is_ended);
-        let number = self.count;
-        // What cannot be told is left out, and so is what memory is wanting for.
-        if let Ok(Some(explanation)) = explained(self.alloc, line) {
-            let _ = println!(to; "line {number}: {explanation}");
+    fn end<P: Print>(&mut self, to: &P, is_ended: bool)
+        ensures count { self.new.count ≡ next_number self.old.count }
+        ensures empty { (self.new.held.items ≡ []) × (self.new.long ≡ false) }
+    {
+        if let Some(told) = self.told(is_ended) {
+            // What cannot be told is left out.
+            let _ = println!(to; "{told}");
         }
+        self.count = self.count.saturating_add(1);
         self.held.clear();
         self.long = false;
     }

@@ -3,10 +3,13 @@
 ghost use Rattle.std.specs.Prelude.{◌≡◌, take};
 ghost use Rattle.esx_explained.specs.Telling.{usage_of, label_of, wanted_of, label_at, wanted_at, shown_byte, told_end};
 
+use crate::amiss::Amiss;
 use crate::command::Command;
-use crate::known::LONGEST;
 use crate::operand::{Operand, operand_at};
 use crate::reason::Explanation;
+use crate::tried::AmissEvent;
+use esx_events::events::MAX_EVENTS;
+use esx_text::LONGEST;
 use std::fmt;
 
 /// How many bytes of a word are told.
@@ -154,6 +157,29 @@ impl<'a> fmt::Display for Told<'a> {
     }
 }
 
+/// The command that is nearest to a word, as it is told behind the word; nothing where none is.
+#[derive(Clone, Copy)]
+struct Hint {
+    nearest: Option<Command>,
+}
+
+impl fmt::Display for Hint {
+    ghost use Rattle.std.specs.Prelude.{Some};
+    ghost use Rattle.esx_explained.specs.Telling.{hint_text};
+
+    ghost output = { λ h. Some (hint_text h.nearest) };
+
+    fn fmt<W: fmt::Write>(&self, f: &mut fmt::Formatter<W>) -> fmt::Result {
+        match self.nearest {
+            Some(command) => {
+                let name = command.name();
+                write!(f, "; the nearest is {name}")
+            }
+            None => Ok(()),
+        }
+    }
+}
+
 /// What is wanted at a place, and how it is called.
 fn at_place(command: Command, at: usize) -> (&'static str, &'static str)
     ensures { (result.0.now ≡ label_at command at) × (result.1.now ≡ wanted_at command at) }
@@ -161,6 +187,60 @@ fn at_place(command: Command, at: usize) -> (&'static str, &'static str)
     match operand_at(command, at) {
         Some(operand) => (label(operand), wanted(operand)),
         None => ("operand", "nothing"),
+    }
+}
+
+/// What is amiss with the operands of a command, as it is told.
+#[derive(Clone, Copy)]
+struct ToldAmiss<'a> {
+    command: Command,
+    amiss: Amiss<'a>,
+}
+
+impl<'a> fmt::Display for ToldAmiss<'a> {
+    ghost use Rattle.std.specs.Prelude.{Some};
+    ghost use Rattle.esx_explained.specs.Telling.{amiss_text};
+
+    ghost output = { λ t. Some (amiss_text t.command t.amiss) };
+
+    fn fmt<W: fmt::Write>(&self, f: &mut fmt::Formatter<W>) -> fmt::Result {
+        let (name, usage) = (self.command.name(), usage(self.command));
+        match self.amiss {
+            Amiss::Missing { at } => {
+                let (label, _) = at_place(self.command, at);
+                write!(f, "{name} wants {usage}: {label} is missing")
+            }
+            Amiss::TooMany { word } => {
+                let told = Told { word };
+                write!(f, "{name} wants {usage}: {told} is too much")
+            }
+            Amiss::Wrong { at, word } => {
+                let told = Told { word };
+                let (label, wanted) = at_place(self.command, at);
+                write!(f, "{name} wants {usage}: {told} is no {label}, {wanted}")
+            }
+        }
+    }
+}
+
+impl<'a> fmt::Display for AmissEvent<'a> {
+    ghost use Rattle.std.specs.Prelude.{Some};
+    ghost use Rattle.esx_explained.specs.Telling.{event_text};
+
+    ghost output = { λ e. Some (event_text e) };
+
+    fn fmt<W: fmt::Write>(&self, f: &mut fmt::Formatter<W>) -> fmt::Result {
+        match *self {
+            AmissEvent::NoSpace => write!(f, "no space stands before it"),
+            AmissEvent::Unknown { word } => {
+                let told = Told { word };
+                write!(f, "{told} is no event")
+            }
+            AmissEvent::Operands { command, amiss } => {
+                let told = ToldAmiss { command, amiss };
+                write!(f, "{told}")
+            }
+        }
     }
 }
 
@@ -175,22 +255,17 @@ impl<'a> fmt::Display for Explanation<'a> {
             Explanation::TooLong => write!(f, "it has more than {LONGEST} bytes"),
             Explanation::NotText => write!(f, "it is not UTF-8"),
             Explanation::Unknown { word, nearest } => {
-                let (told, name) = (Told { word }, nearest.name());
-                write!(f, "{told} is no command; the nearest is {name}")
+                let (told, hint) = (Told { word }, Hint { nearest });
+                write!(f, "{told} is no command{hint}")
             }
-            Explanation::Missing { command, at } => {
-                let (name, usage) = (command.name(), usage(command));
-                let (label, _) = at_place(command, at);
-                write!(f, "{name} wants {usage}: {label} is missing")
+            Explanation::Operands { command, amiss } => {
+                let told = ToldAmiss { command, amiss };
+                write!(f, "{told}")
             }
-            Explanation::TooMany { command, word } => {
-                let (name, usage, told) = (command.name(), usage(command), Told { word });
-                write!(f, "{name} wants {usage}: {told} is too much")
-            }
-            Explanation::Wrong { command, at, word } => {
-                let (name, usage, told) = (command.name(), usage(command), Told { word });
-                let (label, wanted) = at_place(command, at);
-                write!(f, "{name} wants {usage}: {told} is no {label}, {wanted}")
+            Explanation::NoEvents => write!(f, "whatif wants E; E; ..: E is missing"),
+            Explanation::Tried { number, event } => { write!(f, "whatif, event {number}: {event}") }
+            Explanation::TooManyEvents => {
+                write!(f, "whatif wants E; E; ..: these are more than {MAX_EVENTS}")
             }
             Explanation::Other { command } => {
                 let (name, usage) = (command.name(), usage(command));

@@ -4,7 +4,7 @@ use esx_explained::explained;
 use std::rt::HostRuntime;
 use std::test::Fail;
 
-const TOLD: [(&str, &str); 20] = [
+const TOLD: [(&str, &str); 25] = [
     ("admitt 0", "\"admitt\" is no command; the nearest is admit"),
     (
         "READ 0 1 0 4",
@@ -14,8 +14,10 @@ const TOLD: [(&str, &str); 20] = [
         "swpout 0 5",
         "\"swpout\" is no command; the nearest is swapout",
     ),
-    ("help", "\"help\" is no command; the nearest is stop"),
-    (" sum", "\"\" is no command; the nearest is vm"),
+    ("tabel", "\"tabel\" is no command; the nearest is table"),
+    ("help", "\"help\" is no command"),
+    ("zzzz", "\"zzzz\" is no command"),
+    (" sum", "\"\" is no command"),
     ("read 0 1", "read wants V P AT LEN: AT is missing"),
     (
         "sample 0",
@@ -50,10 +52,22 @@ const TOLD: [(&str, &str); 20] = [
         "admit 0 2 6 1 1000 0 01",
         "admit wants V MIN MAX OVERHEAD SHARES BALLOON [TAU]: \"01\" is no TAU, a number from 0 to 4294967295",
     ),
-    ("whatif ask 0;ask 1", "whatif wants E; E; .."),
+    ("whatif", "whatif wants E; E; ..: E is missing"),
+    (
+        "whatif ask 0;ask 1",
+        "whatif, event 2: no space stands before it",
+    ),
+    (
+        "whatif ask 0; undo 1",
+        "whatif, event 2: \"undo\" is no event",
+    ),
+    (
+        "whatif ask 0; ask 1; read 2 0 0",
+        "whatif, event 3: read wants V P AT LEN: LEN is missing",
+    ),
     (
         "\u{1b}[2J0123456789012345678901234567890123456789",
-        "\"?[2J012345678901234567890123456789012345\".. is no command; the nearest is vm",
+        "\"?[2J012345678901234567890123456789012345\".. is no command",
     ),
 ];
 
