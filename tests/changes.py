@@ -188,7 +188,7 @@ def asked_of_session(draw, name):
     """Words that ask about a session, some of which are wrong."""
     drawn = [draw.choice([name, name, f"{name}.none"]), *draw.choice([[], ["0"], ["200", "7"], [draw.choice(EDGES)]])]
     for _ in range(draw.choice([0, 1, 1, 2])):
-        value = draw.choice(["losses", "guests", "site", "changes", "base", "Top", "0", draw.choice(EDGES)])
+        value = draw.choice([*reader.TABLES, "frames", "base", "Top", "0", draw.choice(EDGES)])
         at = draw.randrange(len(drawn) + 1)
         drawn[at:at] = draw.choice([["--at", value], ["--at", value], ["--csv", value], ["--csv"], ["--to", value]])
     return [draw.choice(["report", "why"]), *drawn]

@@ -277,7 +277,10 @@ def check(program, is_long):
         check_small_disk(program, ["migrate", session], b"", words.SESSION, range(len(words.SESSION) + 2))
         check_small_disk(program, ["check", session], b"", b"same 3\n", range(9))
         check_small_disk(program, ["diff", differs], b"", difference, range(len(difference) + 2), 1)
-        for asked, right in ((["report", lives, "--at", "new"], reports.REPORT), (["why", lives, "0", "2", "--at", "8"], reports.WHY)):
+        for asked, right in ((["report", lives, "--at", "new"], reports.REPORT),
+                             (["why", lives, "0", "2", "--at", "8"], reports.WHY),
+                             (["report", lives, "--csv", "changes", "--at", "8"], reports.CHANGES),
+                             (["report", lives, "--csv", "steps", "--at", "8"], reports.STEPS)):
             check_small_disk(program, asked, b"", right, range(0, len(right) + 2, 1 if is_long else 29))
         check_small_disk(program, ["help"], b"", ask(program, ["help"]).out, range(0, 2500, 99))
         check_full(program, ["replay", session], b"")

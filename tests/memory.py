@@ -76,6 +76,8 @@ def cases_of_files():
             Case("migration of another", ["migrate", names["other"]], b"", b"differs 1\n", {0}, 1),
             Case("report", ["report", names["lives"], "--at", "new"], b"", reports.REPORT, {0}),
             Case("table of losses", ["report", names["lives"], "--csv", "losses"], b"", reports.LOSSES, {0}),
+            Case("table of changes", ["report", names["lives"], "--csv", "changes", "--at", "8"], b"", reports.CHANGES, {0}),
+            Case("table of steps", ["report", names["lives"], "--csv", "steps", "--at", "8"], b"", reports.STEPS, {0}),
             Case("why", ["why", names["lives"], "0", "2", "--at", "8"], b"", reports.WHY, {0}),
             Case("report of another", ["report", names["other"]], b"", b"", {0}, 1, b"differs 1\n"),
             Case("report of no node", ["report", names["lives"], "--at", "older"], b"", b"", {0}, 1, b"no 23 NoSuchName\n"),

@@ -330,7 +330,7 @@ TAKE_NONE = ("console", "record", "help")
 TAKE_ONE = ("console", "record", "run", "check", "diff", "replay", "migrate")
 ECHO = "--echo"  # behind `console`, once, before or behind its file
 OPTIONS = {"report": ["--at", "--csv"], "why": ["--at"]}  # of the words that ask about a session, each with a word behind it
-TABLES = ["losses", "guests", "site"]
+TABLES = ["losses", "changes", "guests", "site", "steps"]
 
 
 def is_option(name, field):

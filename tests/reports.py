@@ -92,6 +92,20 @@ Event 5 (caller 0: drop 0 2): guest 0 lost page 2: given back by the stopping gu
 LOSSES = (b"event,node,call,by,vm,life,page,how,level,free,here,target,set,need,revoked,from_vm,shares,active,tax,ratio,above,rank,"
           b"next,next_ratio,slot,back,as,after,waits\n")
 
+CHANGES = (b"event,node,call,by,vm,page,how,from,from_at,to,to_at\n"
+           b"3,3,3,511,0,2,first,untouched,,here,1\n"
+           b"5,5,6,0,0,2,drop,here,1,untouched,\n")
+STEPS = b"""event,node,by,vm,overhead,private,shared,free,level,here,target,active,shared_pages,lent,out
+0,0,,,0,0,0,20,high,,,,,,
+1,1,0,0,0,0,0,20,high,0,3,65536,0,0,0
+2,2,0,,1,0,0,19,high,,,,,,
+3,3,511,0,1,1,0,18,high,1,3,65536,0,0,0
+5,5,0,0,1,0,0,19,high,0,3,65536,0,0,0
+6,6,0,0,0,0,0,20,high,,,,,,
+7,7,0,0,0,0,0,20,high,0,2,65536,0,0,0
+8,8,0,,1,0,0,19,high,,,,,,
+"""
+
 # What is asked of it, with `FILE` in the place of the file, and what is told.
 ASKED = [
     ("report FILE --at 8", REPORT),
@@ -99,6 +113,13 @@ ASKED = [
     ("report FILE --csv losses", LOSSES),
     ("report --csv losses FILE --at 4", LOSSES),
     ("report FILE --at 8 --csv losses", LOSSES + b"5,5,6,0,0,1,2,drop,high,18,1,3,0,,,,5,65536,75,5.000,0,,,,,,,,0\n"),
+    ("report FILE --csv changes --at new", CHANGES),
+    ("report FILE --at old --csv changes", CHANGES[:CHANGES.index(b"5,5")]),
+    ("report --csv changes --at 0 FILE", CHANGES[:CHANGES.index(b"3,3")]),
+    ("report --at 8 FILE --csv steps", STEPS),
+    ("report FILE --csv steps", STEPS[:STEPS.index(b"5,5")]),
+    ("report --csv steps FILE --at 4", STEPS[:STEPS.index(b"5,5")]),
+    ("report --csv steps FILE --at 0", STEPS[:STEPS.index(b"1,1")]),
     ("why FILE 0 --at 8", WHY),
     ("why FILE --at new 0 2", WHY),
     ("why --at 5 FILE 0 2", WHY),
@@ -111,6 +132,8 @@ REFUSED = [
     ("report FILE --at 4294967295 --csv site", "no 21 NoSuchNode"),
     ("report FILE --at older", "no 23 NoSuchName"),
     ("report --csv guests --at ol FILE", "no 23 NoSuchName"),
+    ("report --csv changes FILE --at 9", "no 21 NoSuchNode"),
+    ("report FILE --at older --csv steps", "no 23 NoSuchName"),
     ("why FILE 0 --at 9", "no 21 NoSuchNode"),
     ("why FILE 200 9 --at older", "no 23 NoSuchName"),
     ("why FILE 1", "no 1 NoVm"),
@@ -147,11 +170,11 @@ def told_of_true(session, asked, stories):
 
 
 def check_written(program):
-    session = reader.session_of(LIVES)
     old = LIVES.replace(b"511 read", b"63 read").replace(b"session 2", b"session 1")
-    for text in (LIVES, LIVES[:-1], LIVES.replace(b"\n", b"\r\n"), old):
+    for text, by in ((LIVES, b"511"), (LIVES[:-1], b"511"), (LIVES.replace(b"\n", b"\r\n"), b"511"), (old, b"63")):
+        session = reader.session_of(text)
         with file_of(text) as name:
-            rows = [(asked, Told(0, out, b"")) for asked, out in ASKED]
+            rows = [(asked, Told(0, out.replace(b",511,", b",%s," % by), b"")) for asked, out in ASKED]
             rows += [(asked, Told(1, b"", f"{reason}\n".encode())) for asked, reason in REFUSED]
             for asked, wanted in rows:
                 expect(f"{asked} of {text!r}", wanted, ask(program, words_with(asked, name)))
@@ -163,7 +186,7 @@ def check_sessions(program):
     for text, status, out in words.CHECKED:
         session = reader.session_of(text)
         with file_of(text) as name:
-            for asked in ("report FILE", "report FILE --csv losses", "report FILE --csv guests", "report FILE --csv site",
+            for asked in ("report FILE", *(f"report FILE --csv {table}" for table in reader.TABLES),
                           "why FILE 200", "why FILE 0 9 --at nowhere", "report FILE --at 99"):
                 wanted = told(session, words_with(asked, name))
                 if status and wanted != Told(1, b"", out):
@@ -312,12 +335,14 @@ def met_in(path):
             ("lent without rank", loss.how == "balloon" and not loss.rank)) if is_so)
     for guest in path.guests():
         met.update(name for name in story.COUNTED if guest.count[name])
+    met.update(change.how for change in path.changes())
     return met
 
 
 ALL_MET = {"level high", "level soft", "level hard", "level low", "back by first", "back by pop", "back by swapin", "back by None",
            "waited for", "of a later life", "against the order", "with another next", "alone above its target", "own tax",
-           "target of the admission", "target of a level high", "target of a level below", "lent without rank", *story.COUNTED}
+           "target of the admission", "target of a level high", "target of a level below", "lent without rank", "lend", "takeback",
+           "dropout", *story.COUNTED}
 
 
 def try_part(program, count, part):

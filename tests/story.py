@@ -12,6 +12,7 @@ from machine import HIGH, LEVELS, Claim, Here, Lent, Out, Refused, Site
 
 LOST = {"lend": "balloon", "swapout": "swap", "replace": "replace", "drop": "drop"}
 GAINED = {type(None): "first", Lent: "pop", Out: "swapin"}
+SPOTS = {type(None): ("untouched", None), Here: ("here", "frame"), Out: ("out", "slot"), Lent: ("lent", "epoch")}
 SOON = 1000
 
 Moment = namedtuple("Moment", "call caller node word fields text answer")
@@ -43,6 +44,18 @@ def moved(before, after):
     if before.is_shared != after.is_shared:
         return "host" if after.is_shared else "own"
     return None
+
+
+def spot(found):
+    """The kind of a place, and the frame, the slot or the epoch that tells it from others of its kind."""
+    kind, at = SPOTS[type(found)]
+    return kind, at and getattr(found, at)
+
+
+def places(site):
+    """Where each page is that is not untouched."""
+    found = {(number, page): place(site, (number, page)) for number, vm in site.vms.items() for page in vm.pages}
+    return {page: one for page, one in found.items() if one is not None}
 
 
 def order(site):
@@ -159,8 +172,47 @@ class Story:
             raise Refused(7)
         return [loss for loss in self.losses if loss.vm == vm and page in (None, loss.page)]
 
+    def changes(self):
+        return [change for event in range(1, len(self.sites)) for change in changes_of(self, event)]
+
     def guests(self):
         return [Guest(self, vm, life) for vm in sorted(self.most) for life in range(1, self.lives[-1][vm] + 1)]
+
+
+class Change:
+    """A page whose place is another after an event, and how it came there."""
+
+    def __init__(self, story, event, page, before, after):
+        self.event, self.moment, (self.vm, self.page) = event, story.moments[event - 1], page
+        self.before, self.after = spot(before), spot(after)
+        self.how = how_changed(self.moment.word, before, after)
+
+
+def how_changed(word, before, after):
+    """How a page's place changed in an event with this first word."""
+    if type(before) is Here:
+        return moved(before, after) if type(after) is Here else LOST[word]
+    if type(after) is Here:
+        return GAINED[type(before)]
+    return "lend" if type(after) is Lent else "dropout" if type(before) is Out else "takeback"
+
+
+def ends_by_itself(moment, before, after):
+    """Whether a loan is over because the balloon began anew or its machine went: that is no change of its page."""
+    return type(before) is Lent and after is None and (moment.word, moment.answer[:2]) != ("takeback", "ok")
+
+
+def changes_of(story, event):
+    """The pages whose places differ before and after an event: the page that makes room before the one that comes, and the one
+    whose frame is shared before the one that comes to it."""
+    before, after = places(story.sites[event - 1]), places(story.sites[event])
+    found = []
+    for page in sorted({*before, *after}):
+        one, other = before.get(page), after.get(page)
+        is_other = spot(one) != spot(other) or type(one) is Here and one.is_shared != other.is_shared
+        if is_other and not ends_by_itself(story.moments[event - 1], one, other):
+            found.append(Change(story, event, page, one, other))
+    return sorted(found, key=lambda change: change.how not in ("replace", "host"))
 
 
 def node_meant(console, at):
@@ -282,6 +334,13 @@ def losses_csv(story):
          for loss in story.losses])
 
 
+def changes_csv(story):
+    return csv_of(
+        "event,node,call,by,vm,page,how,from,from_at,to,to_at",
+        [[change.event, change.moment.node, change.moment.call, change.moment.caller, change.vm, change.page, change.how,
+          *change.before, *change.after] for change in story.changes()])
+
+
 COUNTED = ["read", "write", "first", "pop", "swapin", "balloon", "swap", "replace", "drop", "share", "host", "cow", "own"]
 
 
@@ -308,6 +367,39 @@ def site_csv(story):
     rows += [(f"refused_{number}", count) for number, count in sorted(sums.refused.items())]
     rows += [("pages_here", len(story.here[-1])), ("pages_shared", sums.shared_frames), ("pages_sharing", sums.sharing)]
     return csv_of("name,value", rows)
+
+
+def figures_of_site(site):
+    """Its overhead, private, shared and free frames, and its level."""
+    _, overhead, _, private, _, shared, _, free, level = site.sum().split()
+    return overhead, private, shared, free, level
+
+
+def figures_of_guest(vm):
+    """Its pages in frames, target and active share, its pages in shared frames, and those that are lent and in slots."""
+    shared = sum(type(found) is Here and found.is_shared for found in vm.pages.values())
+    return vm.count(Here), vm.target, vm.active(), shared, vm.lent(), vm.count(Out)
+
+
+NO_FIGURES = [None] * 6
+
+
+def steps(story):
+    """What stands at the opening, and after each event that changed any of it: a row for each guest of which it did."""
+    then, guests_then = None, {}
+    for event, site in enumerate(story.sites):
+        moment = story.moments[event - 1] if event else None
+        now, guests = figures_of_site(site), {number: figures_of_guest(vm) for number, vm in site.vms.items()}
+        changed = [number for number in sorted({*guests, *guests_then}) if guests.get(number) != guests_then.get(number)]
+        if not changed and now != then:
+            changed = [None]
+        for number in changed:
+            yield [event, moment.node if moment else 0, moment and moment.caller, number, *now, *guests.get(number, NO_FIGURES)]
+        then, guests_then = now, guests
+
+
+def steps_csv(story):
+    return csv_of("event,node,by,vm,overhead,private,shared,free,level,here,target,active,shared_pages,lent,out", steps(story))
 
 
 # The text.
@@ -451,6 +543,6 @@ def told_of_question(session, word, asked, options):
 def told_of_story(story, word, asked, options):
     if word == "why":
         return bytes_of(why_lines(story.losses_of(*map(int, asked))))
-    tables = {"losses": losses_csv, "guests": guests_csv, "site": site_csv}
+    tables = {"losses": losses_csv, "changes": changes_csv, "guests": guests_csv, "site": site_csv, "steps": steps_csv}
     table = options.get("--csv")
     return tables[table](story) if table else bytes_of(report_lines(story))

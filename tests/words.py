@@ -55,9 +55,9 @@ overhead 0 private 0 shared 0 free 9 high
 """
 # Words that ask nothing of a session: `a` is not looked for.
 WRONG_QUESTIONS = [words.split(" ") for words in (
-    "report", "report --at 0", "report a b", "report a 0", "report a --at", "report a --csv", "report a --csv changes",
-    "report a --csv Losses", "report a --csv losses,site", "report a --csv 0", "report a --csv ", "report a --at 0 --at 0",
-    "report a --csv site --csv site", "report --at 0 a --at 1", "report a --at 01", "report a --at 4294967296", "report a --at +1",
+    "report", "report --at 0", "report a b", "report a 0", "report a --at", "report a --csv", "report a --csv change",
+    "report a --csv Losses", "report a --csv losses,site", "report a --csv step", "report a --csv 0", "report a --csv ",
+    "report a --at 0 --at 0", "report a --csv site --csv site", "report --at 0 a --at 1", "report a --at 01", "report a --at 4294967296", "report a --at +1",
     "report a --at 1a", "report a --at Top", "report a --at _a", "report a --at a.b", "report a --at " + "z" * 33, "report a --at ",
     "report a --at --csv site", "report a --csv --at 0", "report a --to 0", "report a -a 0", "report --help", "Report a", "reports a",
     "why", "why a", "why 0", "why a --at 0", "why a 0 1 2", "why a x", "why a 00", "why a 01", "why a +1", "why a 4294967296",

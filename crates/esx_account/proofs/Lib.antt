@@ -11,3 +11,5 @@ pub mod MostPages
 pub mod Refusals
 pub mod Counted
 pub mod Gathered
+pub mod Coursed
+pub mod Watched

@@ -7,10 +7,12 @@ pub use Rattle.esx_story.specs.Moments
 pub use Rattle.esx_story.specs.Order
 pub use Rattle.esx_story.specs.Waits
 pub use Rattle.esx_story.specs.Story
+pub use Rattle.esx_passages.specs.Passages
 pub use Rattle.esx_sums.specs.Losses
 pub use Rattle.esx_sums.specs.Mets
 pub use Rattle.esx_sums.specs.Rows
 pub use Rattle.esx_sums.specs.Site
+pub use Rattle.esx_figures.specs.Steps
 pub use Rattle.esx_walk.specs.Walks
 pub use Rattle.esx_survey.specs.Surveys
 pub use Rattle.esx_paths.specs.Paths
@@ -22,3 +24,5 @@ pub mod Lines
 pub mod Choosing
 pub mod Pages
 pub mod Account
+pub mod Coursing
+pub mod Watching

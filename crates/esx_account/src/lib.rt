@@ -5,15 +5,19 @@
 pub mod account;
 mod asking;
 mod choosing;
+mod coursing;
 mod lines;
 mod pages;
 mod parts;
 mod surveying;
 mod text;
+mod watching;
 
 pub use account::{Account, account_of};
 pub use choosing::chosen;
+pub use coursing::changes_of;
 pub use lines::{loss_command, loss_lines};
 pub use pages::most_pages;
 pub use surveying::survey_script;
 pub use text::survey_text;
+pub use watching::steps_of;

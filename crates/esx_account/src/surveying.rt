@@ -18,7 +18,7 @@ use esx_types::Config;
 use std::alloc::{AllocError, Global};
 
 /// The only refusal that can come of a site and events that are accepted.
-fn want_of_memory(refusal: Refusal) -> AllocError
+pub(crate) fn want_of_memory(refusal: Refusal) -> AllocError
     requires { ¬ (refusal ≢ Refusal.OutOfMemory) }
 {
     match refusal {

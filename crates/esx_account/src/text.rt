@@ -25,7 +25,7 @@ fn memory_fault(fault: TextFault) -> AllocError
 }
 
 /// The calls of the session of a text, without their replies.
-fn script_of(alloc: Global, text: &str) -> Result<Script, AllocError>
+pub(crate) fn script_of(alloc: Global, text: &str) -> Result<Script, AllocError>
     requires { (site : Config) × (entries : List Entry) × Reads text.now site entries }
     ensures site { (site : Config) (entries : List Entry) → Reads text.now site entries → IfOk result (λ script. script.site ≡ site) }
     ensures calls { (site : Config) (entries : List Entry) → Reads text.now site entries → IfOk result (λ script. script.requests ≡ map request entries) }

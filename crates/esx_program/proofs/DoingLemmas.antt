@@ -108,6 +108,8 @@ module _ {A : Type 0} (asked : Word × Option A) (some : IsSome asked.1) where
 asks_question : (what : What) → (word_of_what what ≡ codes "report") ⊎ (word_of_what what ≡ codes "why")
 asks_question whats.Report = inl refl
 asks_question (whats.Table table) = inl refl
+asks_question whats.Changes = inl refl
+asks_question whats.Steps = inl refl
 asks_question (whats.Why vm page) = inr refl
 
 -- Why a question has no answer.
@@ -157,11 +159,15 @@ no_page site entries way vm page refusals.SampleOpen is = absurd is
 no_answer : (what : What) (site : Config) (entries : List Entry) (way : Path) (r : Refusal) → HasNoAnswer what site entries way (report.Refused r) → LacksAnswer (word_of_what what) (report.Refused r)
 no_answer whats.Report site entries way r is = cc
 no_answer (whats.Table table) site entries way r is = cc
+no_answer whats.Changes site entries way r is = cc
+no_answer whats.Steps site entries way r is = cc
 no_answer (whats.Why vm page) site entries way r is = no_page site entries way vm page r is
 
 no_text_lacked : (what : What) (site : Config) (entries : List Entry) (way : Path) (e : TextFault) → HasNoAnswer what site entries way (report.Text e) → ⊥
 no_text_lacked whats.Report site entries way e is = cc
 no_text_lacked (whats.Table table) site entries way e is = cc
+no_text_lacked whats.Changes site entries way e is = cc
+no_text_lacked whats.Steps site entries way e is = cc
 no_text_lacked (whats.Why vm page) site entries way e is = cc
 
 text_may_lack : (q : Question) (bytes : List ℕ) (e : TextFault) → IsUnanswered bytes q (report.Text e) → LacksAnswer (word_of_what q.what) (report.Text e)

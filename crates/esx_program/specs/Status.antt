@@ -59,6 +59,8 @@ status_of_words words.OutOfMemory = 3
 abbrev pub word_of_what : What → List ℕ
 word_of_what whats.Report = codes "report"
 word_of_what (whats.Table table) = codes "report"
+word_of_what whats.Changes = codes "report"
+word_of_what whats.Steps = codes "report"
 word_of_what (whats.Why vm page) = codes "why"
 
 -- the word that asks for what was done

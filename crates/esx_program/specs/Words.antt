@@ -103,7 +103,7 @@ pub record AskAlike {F G : Type 0} (R : F → G → Type 0) (a : Asked F) (b : A
 abbrev pub HaveNoFault : List Text → Type 0
 HaveNoFault words = fault_of program_app words ≡ []
 
--- the table with this name
+-- the table of an account with this name
 abbrev pub table_named : Text → Option Table
 table_named text =
     if bytes_eq text (codes "losses") then Some Losses
@@ -122,7 +122,9 @@ at_named (Some text) = node_named text
 -- the table that is named, or all of them
 abbrev pub what_reported : Option Text → Option What
 what_reported None = Some whats.Report
-what_reported (Some text) = option_map (λ table. whats.Table table) (table_named text)
+what_reported (Some text) =
+    if bytes_eq text (codes "changes") then Some whats.Changes
+    else (if bytes_eq text (codes "steps") then Some whats.Steps else option_map (λ table. whats.Table table) (table_named text))
 
 -- the page that is named, or none
 abbrev pub page_named : Option Text → Option (Option ℕ)

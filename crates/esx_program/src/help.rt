@@ -27,7 +27,8 @@ replay FILE    makes them again and prints their replies, and then the table
                    esxplan replay run.session
 migrate FILE   prints a session in version 2, or differs K for the first call with another reply
                    esxplan migrate examples/old.session >new.session
-report FILE    tells which guest lost which page, and why [--at NODE] [--csv losses|guests|site]
+report FILE    tells which guest lost which page, and why [--at NODE] [--csv TABLE]
+               TABLE is losses, changes, guests, site or steps
                    esxplan report examples/scarce.session
 why FILE V [P] tells in sentences why guest V lost its pages, or its page P [--at NODE]
                    esxplan why examples/scarce.session 0

@@ -164,6 +164,8 @@ fn what_reported(csv: Option<&str>) -> Option<What>
     ensures { result ≡ what_reported (option_map (λ t. t.now) csv.entry) }
 {
     match csv {
+        Some("changes") => Some(What::Changes),
+        Some("steps") => Some(What::Steps),
         Some(text) => {
             let table = table_named(text)?;
             Some(What::Table { table })

@@ -8,10 +8,12 @@ use Rattle.esx_types.specs.declared.level.Level.{Level}
 use Rattle.esx_types.specs.declared.level.Level.TheVariants.{High, Soft, Hard, Low}
 use Rattle.esx_story.specs.declared.change.How.{How}
 use Rattle.esx_story.specs.declared.change.How.TheVariants as hows
+use Rattle.esx_story.specs.declared.change.Spot.{Spot}
+use Rattle.esx_story.specs.declared.change.Spot.TheVariants as spots
 use Rattle.esx_report.specs.declared.field.Field.{Field}
 use Rattle.esx_report.specs.declared.field.Field.TheVariants as fields
 use Rattle.esx_writing.specs.Writing.{thousandths_text}
-use Rattle.esx_report.specs.Fields.{field_text, how_text, level_text, percent_text}
+use Rattle.esx_report.specs.Fields.{field_text, how_text, level_text, spot_text, percent_text}
 use Rattle.esx_report.specs.Rows.{csv_row}
 use Rattle.esx_report.specs.Losses.{commas, field_count}
 
@@ -82,6 +84,12 @@ level_plain Soft = refl
 level_plain Hard = refl
 level_plain Low = refl
 
+spot_plain : (spot : Spot) → commas (spot_text spot) ≡ 0
+spot_plain spots.Untouched = refl
+spot_plain (spots.Here frame shared) = refl
+spot_plain (spots.Out slot) = refl
+spot_plain (spots.Lent since) = refl
+
 -- no field has a comma
 field_plain : (f : Field) → commas (field_text [] f) ≡ 0
 field_plain fields.Empty = refl
@@ -91,6 +99,7 @@ field_plain (fields.Percent part whole) = plain_if (whole == 0) (percent_text (1
 field_plain (fields.Place place all) = place_plain place all
 field_plain (fields.How how) = how_plain how
 field_plain (fields.Level level) = level_plain level
+field_plain (fields.Spot spot) = spot_plain spot
 
 more_fields : (fs : List Field) → commas (flat_map (λ f. codes "," ++ field_text [] f) fs ++ codes "\n") ≡ length fs
 more_fields [] = refl

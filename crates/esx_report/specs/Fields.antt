@@ -4,6 +4,8 @@ use Rattle.esx_types.specs.declared.level.Level.{Level}
 use Rattle.esx_types.specs.declared.level.Level.TheVariants.{High, Soft, Hard, Low}
 use Rattle.esx_story.specs.declared.change.How.{How}
 use Rattle.esx_story.specs.declared.change.How.TheVariants as hows
+use Rattle.esx_story.specs.declared.change.Spot.{Spot}
+use Rattle.esx_story.specs.declared.change.Spot.TheVariants as spots
 use Rattle.esx_writing.specs.Writing.{right_in, left_in, thousandths_text}
 use Rattle.esx_report.specs.declared.field.Field.{Field}
 use Rattle.esx_report.specs.declared.field.Field.TheVariants as fields
@@ -35,6 +37,13 @@ how_text hows.LentAway = codes "lend"
 how_text hows.TakenBack = codes "takeback"
 how_text hows.DroppedOut = codes "dropout"
 
+-- the word for the kind of place where a page is
+abbrev pub spot_text : Spot → List ℕ
+spot_text spots.Untouched = codes "untouched"
+spot_text (spots.Here frame shared) = codes "here"
+spot_text (spots.Out slot) = codes "out"
+spot_text (spots.Lent since) = codes "lent"
+
 -- so many tenths of a percent
 abbrev pub percent_text : ℕ → List ℕ
 percent_text t = decimal (t / 10) ++ (codes "." ++ (decimal (t % 10) ++ codes "%"))
@@ -48,6 +57,7 @@ field_text none (fields.Percent part whole) = if whole == 0 then none else perce
 field_text none (fields.Place place all) = decimal place ++ (codes "/" ++ decimal all)
 field_text none (fields.How how) = how_text how
 field_text none (fields.Level level) = level_text level
+field_text none (fields.Spot spot) = spot_text spot
 
 -- a field in its column
 abbrev pub cell_text : Cell → List ℕ

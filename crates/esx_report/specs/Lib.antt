@@ -1,5 +1,6 @@
 pub use Rattle.hex.specs.Hex
 pub use Rattle.esx_writing.specs.Writing
+pub mod Changes
 pub mod Ends
 pub mod Fields
 pub mod Guests
@@ -9,5 +10,6 @@ pub mod Report
 pub mod Rows
 pub mod Site
 pub mod SiteTable
+pub mod Steps
 pub mod Values
 pub mod Why

@@ -2,9 +2,9 @@
 
 ghost use Rattle.std.specs.Prelude.{◌≡◌, ◌+◌, ◌<◌, ◌≤◌, ◌*◌, ◌/◌, length, decimal};
 ghost use Rattle.esx_writing.specs.Writing.{Puts, sink_faults, thousandths_text};
-ghost use Rattle.esx_report.specs.Fields.{level_text, how_text, percent_text, field_text};
+ghost use Rattle.esx_report.specs.Fields.{level_text, how_text, spot_text, percent_text, field_text};
 
-use esx_story::How;
+use esx_story::{How, Spot};
 use esx_types::{Level, Sink, SinkFailed};
 use esx_writing::{AnswerBuffer, line, put_line};
 use itoa::Buffer;
@@ -22,6 +22,8 @@ pub enum Field {
     Place { place: u32, all: u32 },
     How(How),
     Level(Level),
+    /// The kind of place where a page is.
+    Spot(Spot),
 }
 
 /// The word for a level.
@@ -55,6 +57,18 @@ pub fn how_name(how: How) -> &'static str
         How::LentAway => "lend",
         How::TakenBack => "takeback",
         How::DroppedOut => "dropout",
+    }
+}
+
+/// The word for the kind of place where a page is.
+pub fn spot_name(spot: Spot) -> &'static str
+    ensures { result.now ≡ spot_text spot }
+{
+    match spot {
+        Spot::Untouched => "untouched",
+        Spot::Here { .. } => "here",
+        Spot::Out { .. } => "out",
+        Spot::Lent { .. } => "lent",
     }
 }
 
@@ -144,6 +158,7 @@ pub fn put_field<W: Sink>(
         ),
         Field::How(how) => put_line(sink, held, &how_name(how)),
         Field::Level(level) => put_line(sink, held, &level_name(level)),
+        Field::Spot(spot) => put_line(sink, held, &spot_name(spot)),
     }
 }
 
@@ -182,5 +197,6 @@ pub fn field_length(none: usize, field: Field) -> usize
         Field::Place { place, all } => digits(u64::from(place)) + 1 + digits(u64::from(all)),
         Field::How(how) => how_name(how).len(),
         Field::Level(level) => level_name(level).len(),
+        Field::Spot(spot) => spot_name(spot).len(),
     }
 }

@@ -5,9 +5,13 @@ ghost use Rattle.esx_formulas.specs.declared.targets.Row.{Row};
 ghost use Rattle.esx_formulas.specs.Ratio.{claim, thousandths, IsRow};
 ghost use Rattle.esx_report.specs.declared.losses.LossLine.{LossLine};
 ghost use Rattle.esx_sums.specs.declared.guest.Guest.{Guest};
+ghost use Rattle.esx_report.specs.declared.changes.ChangeLine.{ChangeLine};
+ghost use Rattle.esx_report.specs.Changes.{change_head, change_row};
 ghost use Rattle.esx_report.specs.Losses.{field_count, loss_head, loss_row, ratio};
 ghost use Rattle.esx_report.specs.LossTable.{loss_line};
 ghost use Rattle.esx_report.specs.Guests.{guest_head, guest_row, guest_line};
+ghost use Rattle.esx_report.specs.declared.steps.StepRow.{StepRow};
+ghost use Rattle.esx_report.specs.Steps.{step_head, step_row};
 ghost use Rattle.esx_writing.specs.Writing.{thousandths_text};
 ghost use Rattle.esx_report.specs.Fields.{field_text};
 ghost use Rattle.esx_report.specs.Ends.{IsTrimmed};
@@ -16,6 +20,12 @@ ghost use Rattle.esx_report.specs.Ends.{IsTrimmed};
 pub fn rows_are_as_wide_as_their_heads()
     ensures losses { (line : LossLine) → field_count (loss_row line) ≡ field_count loss_head }
     ensures guests { (guest : Guest) → field_count (guest_row guest) ≡ field_count guest_head }
+    ensures steps { (row : StepRow) → field_count (step_row row) ≡ field_count step_head }
+{}
+
+/// Each row of the table of changes has as many fields as its head.
+pub fn changes_are_as_wide_as_their_head()
+    ensures { (line : ChangeLine) → field_count (change_row line) ≡ field_count change_head }
 {}
 
 /// No row in columns has a blank at its end.

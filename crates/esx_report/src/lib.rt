@@ -3,6 +3,7 @@
 #![tactic(auto)]
 
 mod back;
+mod changes;
 mod column;
 mod csv_tables;
 mod field;
@@ -19,12 +20,14 @@ mod row;
 mod site;
 mod site_csv;
 mod site_text;
+mod steps;
 mod tables;
 mod told;
 mod values;
 mod why;
 mod words;
 
+pub use changes::{ChangeLine, put_change, put_change_head, put_changes};
 pub use column::{Cell, Column};
 pub use csv_tables::{put_guests, put_losses};
 pub use field::Field;
@@ -40,6 +43,7 @@ pub use site::{
     put_path, put_report_end, put_report_head, put_saved, put_site_heading, put_slots,
 };
 pub use site_csv::put_site;
+pub use steps::{StepRow, put_step, put_step_head, put_steps};
 pub use told::{LossesByLevel, Told};
 pub use values::{
     put_end_values, put_entered_value, put_events_value, put_extreme_values, put_path_values,

@@ -7,16 +7,20 @@ use Rattle.esx_events.specs.declared.event.Refusal.TheVariants.{NoVm, OutOfRange
 use Rattle.esx_session.specs.declared.session.Entry.{Entry}
 use Rattle.esx_paths.specs.declared.path.Path.{Path}
 use Rattle.esx_report.specs.declared.told.Told.{Told}
+use Rattle.esx_report.specs.Changes.{changes_csv}
 use Rattle.esx_report.specs.Guests.{guests_csv}
 use Rattle.esx_report.specs.Losses.{losses_csv, AreGoodLines}
 use Rattle.esx_report.specs.Report.{report_text}
 use Rattle.esx_report.specs.SiteTable.{site_csv}
+use Rattle.esx_report.specs.Steps.{steps_csv}
 use Rattle.esx_report.specs.Why.{why_all, AreGoodWhys}
 use Rattle.esx_account.specs.declared.account.Account.{Account}
 use Rattle.esx_account.specs.Account.{IsAccountOf}
 use Rattle.esx_account.specs.Choosing.{is_asked}
+use Rattle.esx_account.specs.Coursing.{AreChangesTo}
 use Rattle.esx_account.specs.Pages.{most_pages}
 use Rattle.esx_account.specs.Surveying.{events_to}
+use Rattle.esx_account.specs.Watching.{steps_to}
 use Rattle.esx_reports.specs.declared.answer.Answer.{Answer}
 use Rattle.esx_reports.specs.declared.answer.Answer.TheVariants as answers
 use Rattle.esx_reports.specs.declared.question.Table.TheVariants.{Losses, Guests, Site}
@@ -61,12 +65,16 @@ IsTextOf (answers.Table a Losses) text = text ≡ losses_csv a.losses
 IsTextOf (answers.Table a Guests) text = text ≡ guests_csv a.guests
 IsTextOf (answers.Table a Site) text = (t : Told) × IsToldOf a t × (text ≡ site_csv t)
 IsTextOf (answers.Why whys) text = text ≡ why_all whys.items
+IsTextOf (answers.Changes lines) text = text ≡ changes_csv lines.items
+IsTextOf (answers.Steps rows) text = text ≡ steps_csv rows.items
 
 -- the rows that are told in it are in their ranges
 abbrev pub IsGood : Answer → Type 0
 IsGood (answers.Report a) = AreGoodLines a.losses
 IsGood (answers.Table a table) = AreGoodLines a.losses
 IsGood (answers.Why whys) = AreGoodWhys whys.items
+IsGood (answers.Changes lines) = Unit {0}
+IsGood (answers.Steps rows) = Unit {0}
 
 -- it is the answer about the path to a node of a session
 abbrev pub IsAnswerTo : What → Config → List Entry → Path → Answer → Type 0
@@ -74,6 +82,8 @@ IsAnswerTo whats.Report site entries way (answers.Report a) = IsAccountOf site e
 IsAnswerTo (whats.Table table) site entries way (answers.Table a told) = IsAccountOf site entries way a × (told ≡ table)
 IsAnswerTo (whats.Why vm page) site entries way (answers.Why whys) =
     AreMeant site entries way vm page × ((a : Account) × IsAccountOf site entries way a × AreWhysOf a.opened a.script.requests (filter (is_asked vm page) a.losses) whys.items)
+IsAnswerTo whats.Changes site entries way (answers.Changes lines) = AreChangesTo site entries way lines.items
+IsAnswerTo whats.Steps site entries way (answers.Steps rows) = rows.items ≡ steps_to site entries way
 IsAnswerTo what site entries way _ = ⊥
 
 -- why there is none

@@ -10,7 +10,10 @@ ghost use Rattle.esx_reports.specs.Answers.{IsGood, IsTextOf, IsToldOf};
 
 use crate::question::Table;
 use esx_account::Account;
-use esx_report::{Why, put_guests, put_losses, put_report, put_site, put_whys};
+use esx_report::{
+    ChangeLine, StepRow, Why, put_changes, put_guests, put_losses, put_report, put_site, put_steps,
+    put_whys,
+};
 use esx_types::{Sink, SinkFailed};
 use esx_writing::AnswerBuffer;
 
@@ -20,6 +23,8 @@ pub enum Answer {
     Report { account: Account },
     Table { account: Account, table: Table },
     Why { whys: Vec<Why> },
+    Changes { lines: Vec<ChangeLine> },
+    Steps { rows: Vec<StepRow> },
 }
 
 /// The whole report.
@@ -85,5 +90,7 @@ pub(crate) fn put_answer<W: Sink>(
         Answer::Report { account } => put_all_tables(sink, held, account),
         Answer::Table { account, table } => put_table(sink, held, account, *table),
         Answer::Why { whys } => put_whys(sink, held, whys.as_slice()),
+        Answer::Changes { lines } => put_changes(sink, held, lines.as_slice()),
+        Answer::Steps { rows } => put_steps(sink, held, rows.as_slice()),
     }
 }

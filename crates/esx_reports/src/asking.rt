@@ -12,9 +12,9 @@ ghost use Rattle.esx_reports.specs.Answers.{AreMeant, LacksPage, IsAnswerTo, Has
 
 use crate::answer::Answer;
 use crate::fault::ReportFault;
-use crate::question::What;
+use crate::question::{Table, What};
 use crate::reasons::whys_of;
-use esx_account::{Account, account_of, chosen, most_pages};
+use esx_account::{Account, account_of, changes_of, chosen, most_pages, steps_of};
 use esx_events::Refusal;
 use esx_paths::Path;
 use std::alloc::Global;
@@ -59,6 +59,67 @@ fn why_asked(
     Ok(Answer::Why { whys })
 }
 
+/// All tables of the path.
+fn report_asked(alloc: Global, text: &str, path: &Path) -> Result<Answer, ReportFault>
+    requires { (site : Config) × (entries : List Entry) × IsPathIn text.now site entries path.now }
+    ensures answer { (site : Config) (entries : List Entry) → IsPathIn text.now site entries path.now → IfOk result (IsAnswerTo whats.Report site entries path.now) }
+    ensures none { (site : Config) (entries : List Entry) → IsPathIn text.now site entries path.now → IfErr result (HasNoAnswer whats.Report site entries path.now) }
+    ensures good { IfOk result IsGood }
+{
+    let account = account_of(alloc, text, path)?;
+    Ok(Answer::Report { account })
+}
+
+/// One table of the path.
+fn table_asked(alloc: Global, text: &str, path: &Path, table: Table) -> Result<Answer, ReportFault>
+    requires { (site : Config) × (entries : List Entry) × IsPathIn text.now site entries path.now }
+    ensures answer { (site : Config) (entries : List Entry) → IsPathIn text.now site entries path.now → IfOk result (IsAnswerTo (whats.Table table) site entries path.now) }
+    ensures none { (site : Config) (entries : List Entry) → IsPathIn text.now site entries path.now → IfErr result (HasNoAnswer (whats.Table table) site entries path.now) }
+    ensures good { IfOk result IsGood }
+{
+    let account = account_of(alloc, text, path)?;
+    Ok(Answer::Table { account, table })
+}
+
+/// Why a guest lost its pages on the path, or the one that is named.
+fn guest_asked(
+    alloc: Global,
+    text: &str,
+    path: &Path,
+    vm: u32,
+    page: Option<u32>,
+) -> Result<Answer, ReportFault>
+    requires { (site : Config) × (entries : List Entry) × IsPathIn text.now site entries path.now }
+    ensures answer { (site : Config) (entries : List Entry) → IsPathIn text.now site entries path.now → IfOk result (IsAnswerTo (whats.Why vm page) site entries path.now) }
+    ensures none { (site : Config) (entries : List Entry) → IsPathIn text.now site entries path.now → IfErr result (HasNoAnswer (whats.Why vm page) site entries path.now) }
+    ensures good { IfOk result IsGood }
+{
+    let account = account_of(alloc, text, path)?;
+    why_asked(alloc, &account, path, vm, page)
+}
+
+/// The changes of place on the path.
+fn changes_asked(alloc: Global, text: &str, path: &Path) -> Result<Answer, ReportFault>
+    requires { (site : Config) × (entries : List Entry) × IsPathIn text.now site entries path.now }
+    ensures answer { (site : Config) (entries : List Entry) → IsPathIn text.now site entries path.now → IfOk result (IsAnswerTo whats.Changes site entries path.now) }
+    ensures none { (site : Config) (entries : List Entry) → IsPathIn text.now site entries path.now → IfErr result (HasNoAnswer whats.Changes site entries path.now) }
+    ensures good { IfOk result IsGood }
+{
+    let lines = changes_of(alloc, text, path)?;
+    Ok(Answer::Changes { lines })
+}
+
+/// The steps of the path.
+fn steps_asked(alloc: Global, text: &str, path: &Path) -> Result<Answer, ReportFault>
+    requires { (site : Config) × (entries : List Entry) × IsPathIn text.now site entries path.now }
+    ensures answer { (site : Config) (entries : List Entry) → IsPathIn text.now site entries path.now → IfOk result (IsAnswerTo whats.Steps site entries path.now) }
+    ensures none { (site : Config) (entries : List Entry) → IsPathIn text.now site entries path.now → IfErr result (HasNoAnswer whats.Steps site entries path.now) }
+    ensures good { IfOk result IsGood }
+{
+    let rows = steps_of(alloc, text, path)?;
+    Ok(Answer::Steps { rows })
+}
+
 /// What is asked about the path to a node of the session of a text.
 pub(crate) fn answer_to(
     alloc: Global,
@@ -71,10 +132,11 @@ pub(crate) fn answer_to(
     ensures none { (site : Config) (entries : List Entry) → IsPathIn text.now site entries path.now → IfErr result (HasNoAnswer what site entries path.now) }
     ensures good { IfOk result IsGood }
 {
-    let account = account_of(alloc, text, path)?;
     match what {
-        What::Report => Ok(Answer::Report { account }),
-        What::Table { table } => Ok(Answer::Table { account, table }),
-        What::Why { vm, page } => why_asked(alloc, &account, path, vm, page),
+        What::Report => report_asked(alloc, text, path),
+        What::Table { table } => table_asked(alloc, text, path, table),
+        What::Why { vm, page } => guest_asked(alloc, text, path, vm, page),
+        What::Changes => changes_asked(alloc, text, path),
+        What::Steps => steps_asked(alloc, text, path),
     }
 }

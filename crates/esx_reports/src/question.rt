@@ -16,6 +16,10 @@ pub enum What {
     /// All tables, in columns.
     Report,
     Table { table: Table },
+    /// The changes of place on the path as comma-separated values.
+    Changes,
+    /// The steps of the path as comma-separated values: what changed of the figures of the site and its machines.
+    Steps,
     /// Why a guest lost its pages, or one of them if it is named.
     Why { vm: u32, page: Option<u32> },
 }

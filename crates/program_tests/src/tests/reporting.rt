@@ -230,6 +230,14 @@ fn words(rt: HostRuntime) -> Result<(), Fail> {
             "esxplan report a --at 1 --csv guests",
             Some((Some(1), guests)),
         ),
+        (
+            "esxplan report a --csv changes",
+            Some((None, What::Changes)),
+        ),
+        (
+            "esxplan report --csv steps a --at 3",
+            Some((Some(3), What::Steps)),
+        ),
         ("esxplan why a 300", Some((None, whole))),
         (
             "esxplan why --at 4294967295 a 0 2",
@@ -238,7 +246,7 @@ fn words(rt: HostRuntime) -> Result<(), Fail> {
         ("esxplan why a 0 --at 5 2", Some((Some(5), WHY_LEFT))),
         ("esxplan report", None),
         ("esxplan report a b", None),
-        ("esxplan report a --csv steps", None),
+        ("esxplan report a --csv step", None),
         ("esxplan report a --at 07", None),
         ("esxplan report a --at Left", None),
         ("esxplan report a --at 1 --at 1", None),
