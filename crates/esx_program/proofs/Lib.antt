@@ -1,4 +1,6 @@
 pub mod OutgoingLemmas
+pub mod FrontLemmas
+pub mod RecordingLemmas
 pub mod WordLemmas
 pub mod SessionLemmas
 pub mod EndLemmas

@@ -72,7 +72,7 @@ pub appends_known : (a : Option (List ℕ)) (waits : List ℕ) → Appends a (ap
 appends_known None waits = tt
 appends_known (Some xs) waits = refl
 
-first_none : (xs ys : List ℕ) → xs ++ ys ≡ [] → xs ≡ []
+pub first_none : (xs ys : List ℕ) → xs ++ ys ≡ [] → xs ≡ []
 first_none [] ys e = refl
 first_none (x ∷ xs) ys e = absurd (cc)
 
@@ -129,6 +129,25 @@ answers_come_out manner (Err d) caller session unread left a b first last e f s 
 abbrev buffered : SinkState → List ℕ → SinkState
 buffered out waits = record { contents = append_known out.contents waits; waiting = out.waiting ++ waits; failures = out.failures; flushes = out.flushes }
 
+-- the streams were left so, whatever the sink took, and where nothing waits behind it
+pub leaves_alike : (r : Result ℕ ServeFault) (unread left : SourceState) (known known' : Option (List ℕ)) (waits waits' : List ℕ) (out out' : SinkState)
+    → LeavesStreams r unread left (record { contents = known; waiting = waits; failures = out.failures; flushes = out.flushes })
+    (record { contents = known'; waiting = waits'; failures = out'.failures; flushes = out'.flushes })
+    → (waits' ≡ [] → out'.waiting ≡ []) → LeavesStreams r unread left out out'
+leaves_alike r unread left known known' waits waits' out out' s none = record {
+  found = s.found;
+  not_found = s.not_found;
+  ends = s.ends;
+  reads = s.reads;
+  pieces = s.pieces;
+  each = s.each;
+  read = s.read;
+  no_read_fault = s.no_read_fault;
+  write = s.write;
+  flushes = s.flushes;
+  sent = λ h. none (s.sent h);
+}
+
 -- a site was served through a buffer
 pub served_through : (manner : Manner) (r : Result ℕ ServeFault) (site : Config) (unread left : SourceState) (out out' : SinkState) (first last : List ℕ) → first ≡ []
     → IfOk r (λ n. (after : Session) × AnswersIn manner 0 n (at_opening site) after unread.remaining left.remaining (append_known out.contents first) (append_known out'.contents last))
@@ -140,19 +159,7 @@ served_through manner r site unread left out out' first last none ok fault s =
     record {
       ok = answers_come_out manner r 0 (at_opening site) unread.remaining left.remaining out.contents out'.contents first last none sent ok;
       fault = fault_comes_out manner r 0 (at_opening site) unread.remaining left.remaining unread.calls left.calls out.contents out'.contents first last none sent fault;
-      streams = record {
-        found = s.found;
-        not_found = s.not_found;
-        ends = s.ends;
-        reads = s.reads;
-        pieces = s.pieces;
-        each = s.each;
-        read = s.read;
-        no_read_fault = s.no_read_fault;
-        write = s.write;
-        flushes = s.flushes;
-        sent = λ h. first_none out'.waiting last (s.sent h);
-      };
+      streams = leaves_alike r unread left (append_known out.contents first) (append_known out'.contents last) (out.waiting ++ first) (out'.waiting ++ last) out out' s (first_none out'.waiting last);
     }
 
 -- there was no memory for the buffer

@@ -271,7 +271,14 @@ pub fn run_asked<
     match asked {
         Asked::Console(file, manner) => {
             let manner = *manner;
-            serve_file::<_, _, _, _, _, Brand>(rt.alloc(), file, manner, to, streams, Blank::new(4))
+            serve_file::<_, _, _, _, _, Brand, Brand, Brand, Brand>(
+                rt.alloc(),
+                file,
+                manner,
+                to,
+                streams,
+                Blank::new(4),
+            )
         }
         Asked::Record(file) => record_file(rt.alloc(), file, to, streams),
         Asked::Run(opened) => run_file(rt, opened, to, streams),

@@ -9,6 +9,7 @@ ghost use Rattle.esx_program.specs.Failing.{DoesAsked, EndsAsGiven, EndsWith, Fa
 ghost use Rattle.esx_program.specs.Given.{GivesWords, words_failure};
 ghost use Rattle.esx_program.specs.Status.{status_of, status_of_report, status_of_words, status_of_end};
 
+mod behind;
 mod commands;
 mod ends;
 mod files;
@@ -17,6 +18,7 @@ mod help;
 mod migrating;
 mod outgoing;
 mod progress;
+mod recording;
 mod reporting;
 mod running;
 mod serving;

@@ -1,19 +1,21 @@
 //! A console and a recording, at the site of the scenario in a file or at the program's own.
 
-ghost use Rattle.std.specs.Prelude.{◌≡◌, ◌≤◌, Option, IfOk, IfErr};
+ghost use Rattle.std.specs.Prelude.{◌≡◌, ◌≤◌, Option, IfOk, IfErr, false};
 ghost use Rattle.esx_types.specs.Ranges.{IsConfig};
 ghost use Rattle.esx_text.specs.States.{sink_state, source_state};
 ghost use Rattle.esx_program.specs.Doing.{EndsConsole, EndsRecord, IsSiteAsked, LacksSite};
 ghost use Rattle.esx_program.specs.Files.{MayBeLeft, Opened};
 
+use crate::behind::{Behind, Telling};
 use crate::files::scenario_of_file;
 use crate::outgoing::{Outgoing, Waiting};
+use crate::recording::record;
 use crate::site::serve_site_in_manner;
 use crate::streams::{Ended, Streams};
 use crate::{Done, Failure, SITE};
 use esx_explained::Explained;
 use esx_reading::TextFault;
-use esx_recording::record;
+use esx_recording::{Before, Questions};
 use esx_text::{Manner, give_up};
 use esx_types::{Config, Sink, Source};
 use std::alloc::Global;
@@ -43,7 +45,17 @@ fn site_asked<F: Source>(
 ///
 /// After a fault of writing the writer may lack some of the answers to the lines before it, and not of the last one
 /// alone.
-pub fn serve_file<P: Print, F: Source, I: Source + Drop, E: Drop, W: Sink + Drop, L: Ledger>(
+pub fn serve_file<
+    P: Print,
+    F: Source,
+    I: Source + Drop,
+    E: Sink + Drop,
+    W: Sink + Drop,
+    B: Before,
+    K: Ledger,
+    T: Telling,
+    L: Ledger,
+>(
     alloc: Global,
     file: &mut Option<io::Result<F>>,
     manner: Manner,
@@ -51,6 +63,7 @@ pub fn serve_file<P: Print, F: Source, I: Source + Drop, E: Drop, W: Sink + Drop
     streams: Streams<I, E, W>,
     blank: Blank,
 ) -> Ended<I, E, W>
+    requires questions { T.questions ≡ false }
     requires name { blank.name ≡ L.name }
     requires parts { blank.parts ≡ L.parts }
     requires four { 4 ≤ blank.parts }
@@ -82,12 +95,13 @@ pub fn serve_file<P: Print, F: Source, I: Source + Drop, E: Drop, W: Sink + Drop
         return Ended { ended, streams };
     };
     let mut reader = Explained::new(alloc, reader, to);
-    let mut outgoing = Outgoing::<W, L>::new(writer, waiting, blank);
+    let behind = Behind::<W, Questions<E, B, K>, T>::writer(writer);
+    let mut outgoing = Outgoing::<_, L>::new(behind, waiting, blank);
     let served = serve_site_in_manner(alloc, site, &mut reader, &mut outgoing, manner);
     let streams = Streams {
         reader: reader.into_reader(),
         errors,
-        writer: outgoing.into_sink(),
+        writer: outgoing.into_sink().into_writer(),
     };
     let ended = match served {
         Ok(_) => Ok(Done::Served),

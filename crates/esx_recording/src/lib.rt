@@ -8,4 +8,5 @@ mod questions;
 mod recording;
 mod seen;
 
-pub use recording::{Recorded, record};
+pub use questions::{Before, Questions};
+pub use recording::{Made, Recorded, make, record, tell};

@@ -24,10 +24,10 @@ use std::sync::ledger::{Blank, Ledger};
 
 /// A site that was served, the number of lines, and room to tell its session.
 #[derive(Drop)]
-struct Made {
-    console: Console<TextLog>,
-    lines: u64,
-    held: AnswerBuffer,
+pub struct Made {
+    pub console: Console<TextLog>,
+    pub lines: u64,
+    pub held: AnswerBuffer,
 }
 
 /// Opens a site over a log that is kept as the text of its session, and takes room to tell it.
@@ -41,8 +41,9 @@ fn open_with_room(alloc: Global, site: Config) -> Result<(Console<TextLog>, Answ
     Ok((console, held))
 }
 
-/// Opens a site and serves the commands that are read, as caller 0.
-fn make<R: Source, W: Sink>(
+/// Opens a site and serves the commands that are read, as caller 0. All memory but that of the calls and of the order is
+/// taken before the first read.
+pub fn make<R: Source, W: Sink>(
     alloc: Global,
     site: Config,
     reader: &mut R,
@@ -120,7 +121,7 @@ fn tell_session<W: Sink>(
 
 /// Writes the session of a site that was served, and gives the number of lines. The program ends with it, so the
 /// system takes the memory of the console back as a whole.
-fn tell<W: Sink>(made: Made, writer: &mut W) -> Result<u64, ServeFault>
+pub fn tell<W: Sink>(made: Made, writer: &mut W) -> Result<u64, ServeFault>
     requires { made.held ≡ [] }
     ensures bytes { Writes (W.contents writer.old) (W.contents writer.new) (told_text made.console) result }
     ensures ok { IfOk result (λ lines. lines ≡ made.lines) }

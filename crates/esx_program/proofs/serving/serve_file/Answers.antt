@@ -1,4 +1,4 @@
-use Rattle.std.proofs.Common.{refl, ◌∙◌}
+use Rattle.std.proofs.Common.{refl, sym, ◌∙◌}
 use Rattle.esx_text.specs.States.{sink_state, source_state}
 use Rattle.esx_program.specs.Site.{at_opening}
 use Rattle.esx_program.proofs.OutgoingLemmas.{served_at_once, served_through}
@@ -26,14 +26,16 @@ returns-clause-served g c =
     let r = c.serve_site_in_manner-served.result in
     let e = c.serve_site_in_manner-served.ensures in
     let out = c.serve_site_in_manner-served.new.writer in
+    let given = c.new-outgoing.ensures.sink ∙ c.writer-behind.ensures in
+    let back = sym c.into_sink.ensures ∙ c.into_writer.ensures in
     let served = served_through c.args.manner r site
     (source_state g.I.Source.remaining g.I.Source.calls g.I.Source.failures g.I.Source.empty_reads g.I.Source.asked c.args.streams.reader)
     (source_state g.I.Source.remaining g.I.Source.calls g.I.Source.failures g.I.Source.empty_reads g.I.Source.asked c.serve_site_in_manner-served.new.reader.reader)
     (sink_state g.W.Sink.contents g.W.Sink.waiting g.W.Sink.failures g.W.Sink.flushes c.args.streams.writer)
-    (sink_state g.W.Sink.contents g.W.Sink.waiting g.W.Sink.failures g.W.Sink.flushes out.sink) c.new-outgoing.result.waiting out.waiting
-    (c.new-outgoing.ensures.waiting ∙ c.in-Ok-new.ensures) (rw (c.new-outgoing.ensures.sink, c.new-reader.ensures) at e.ok) (rw (c.new-outgoing.ensures.sink, c.new-reader.ensures) at e.fault)
-    (rw (c.new-outgoing.ensures.sink, c.new-reader.ensures) at e.streams) in
-    rw (c.into_sink.ensures, c.into_reader.ensures)
+    (sink_state g.W.Sink.contents g.W.Sink.waiting g.W.Sink.failures g.W.Sink.flushes c.into_writer.result) c.new-outgoing.result.waiting out.waiting
+    (c.new-outgoing.ensures.waiting ∙ c.in-Ok-new.ensures) (rw (given, back, c.new-reader.ensures) at e.ok) (rw (given, back, c.new-reader.ensures) at e.fault)
+    (rw (given, back, c.new-reader.ensures) at e.streams) in
+    rw c.into_reader.ensures
     (elim c.match-served.branch [
       | in-Ok-served w ↦ rw w.ended-is (here.0, here.1, (site, here.2, w.in-Ok-served.field-0, rw w.in-Ok-served.is at served))
       | in-Err-served w ↦ rw w.ended-is (here.0, here.1, (site, here.2, rw w.in-Err-served.is at served))
