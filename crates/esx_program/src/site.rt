@@ -23,6 +23,26 @@ fn open_told(alloc: Global, config: Config) -> Result<Console<TextLog>, Refusal>
     Console::over(alloc, config, log)
 }
 
+/// Serves the commands that are read at a console over such a log, as caller 0, in some manner. It is called for a console and
+/// for a recording, so the compiler makes one loop for both.
+pub fn serve_told<R: Source, W: Sink>(
+    alloc: Global,
+    console: &mut Console<TextLog>,
+    reader: &mut R,
+    writer: &mut W,
+    manner: Manner,
+) -> Result<u64, ServeFault>
+    ensures ok { IfOk result (λ n. AnswersIn manner 0 n console.old console.new
+        (R.remaining reader.old) (R.remaining reader.new) (W.contents writer.old) (W.contents writer.new)) }
+    ensures fault { IfErr result (λ e. EndsEarlyIn manner e 0 console.old console.new
+        (R.remaining reader.old) (R.remaining reader.new) (R.calls reader.old) (R.calls reader.new) (W.contents writer.old) (W.contents writer.new)) }
+    ensures streams { LeavesStreams result
+        (source_state R.remaining R.calls R.failures R.empty_reads R.asked reader.old) (source_state R.remaining R.calls R.failures R.empty_reads R.asked reader.new)
+        (sink_state W.contents W.waiting W.failures W.flushes writer.old) (sink_state W.contents W.waiting W.failures W.flushes writer.new) }
+{
+    serve_in_manner(alloc, console, 0, reader, writer, manner)
+}
+
 /// Opens a site and serves the commands that are read, as caller 0, in some manner. Gives the number of lines.
 ///
 /// A fault comes where an end failed, where the source gave no end in `READS` reads, or where memory ran
@@ -45,7 +65,7 @@ pub fn serve_site_in_manner<R: Source, W: Sink>(
 {
     match open_told(alloc, config) {
         Ok(mut console) => {
-            let served = serve_in_manner(alloc, &mut console, 0, reader, writer, manner);
+            let served = serve_told(alloc, &mut console, reader, writer, manner);
             // The program ends with its site, and the system takes the memory back as a whole.
             mem::forget(console);
             served

@@ -9,4 +9,4 @@ mod recording;
 mod seen;
 
 pub use questions::{Before, Questions};
-pub use recording::{Made, Recorded, make, record, tell};
+pub use recording::{Made, Recorded, open_with_room, record, tell};

@@ -31,7 +31,10 @@ pub struct Made {
 }
 
 /// Opens a site over a log that is kept as the text of its session, and takes room to tell it.
-fn open_with_room(alloc: Global, site: Config) -> Result<(Console<TextLog>, AnswerBuffer), Refusal>
+pub fn open_with_room(
+    alloc: Global,
+    site: Config,
+) -> Result<(Console<TextLog>, AnswerBuffer), Refusal>
     ensures opened { IfOk result (λ p. p.0 ≡ opened_session site) }
     ensures empty { IfOk result (λ p. p.1 ≡ []) }
 {
@@ -43,7 +46,7 @@ fn open_with_room(alloc: Global, site: Config) -> Result<(Console<TextLog>, Answ
 
 /// Opens a site and serves the commands that are read, as caller 0. All memory but that of the calls and of the order is
 /// taken before the first read.
-pub fn make<R: Source, W: Sink>(
+fn make<R: Source, W: Sink>(
     alloc: Global,
     site: Config,
     reader: &mut R,
