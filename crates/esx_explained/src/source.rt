@@ -16,7 +16,6 @@ use std::fmt;
 /// How many bytes are held of a line: those of the longest line, and a carriage return.
 const ROOM: usize = LONGEST + 1;
 
-/// The lines of an input, as they are put together from its parts.
 /// Why a line is no command, with its number, as it is printed.
 #[derive(Clone, Copy)]
 struct ToldLine<'a> {
@@ -36,6 +35,7 @@ impl<'a> fmt::Display for ToldLine<'a> {
     }
 }
 
+/// The lines of an input, as they are put together from its parts.
 #[derive(Drop)]
 struct Lines {
     alloc: Global,

@@ -159,6 +159,8 @@ pub struct Recorded<E: Drop> {
 ///
 /// Where the reader or `errors` is at fault, or memory runs out, nothing is written to `writer`. All memory but that of
 /// the calls and of the order is taken before the first read.
+///
+/// It is for who uses the library: the program has its own, which is served by the loop of its console.
 pub fn record<R: Source, E: Sink + Drop, W: Sink>(
     alloc: Global,
     site: Config,
