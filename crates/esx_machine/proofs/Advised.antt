@@ -1,5 +1,5 @@
 -- Advice by the raw tables is the advice of the scene that they show.
-use Rattle.std.proofs.Common.{◌≡◌, ℕ, Bool, true, false, ◌&&◌, not, nat_lt, List, refl, ap, ◌∙◌, cond, Option, Some, None, Ok, Result}
+use Rattle.std.proofs.Common.{◌≡◌, ℕ, Bool, true, false, true≢false, ◌&&◌, not, nat_lt, List, refl, sym, ap, ◌∙◌, cond, Option, Some, None, Ok, Result}
 use Rattle.std.specs.Option.{option_map, is_some}
 use Rattle.std.specs.List.{list_any}
 use Rattle.esx_types.specs.declared.config.Config.{Config}
@@ -107,6 +107,27 @@ target_shown k t n shows =
     ap (λ (x : Tables). option_map (λ (w : VmRow). w.target) (row_at x n)) shows.tables
     ∙ ap (option_map (λ (w : VmRow). w.target)) (row_there k.config t.site n)
     ∙ same_target (vm_at t.site n)
+
+same_some : (o : Option Vm) → is_some (option_map vm_table o) ≡ is_some o
+same_some None = refl
+same_some (Some v) = refl
+
+-- a machine stands where there is a row, and nowhere else
+pub some_same : (k : Kept) (t : Scene) (n : ℕ) → Shows k t → is_some (row_at k.tables n) ≡ is_some (vm_at t.site n)
+some_same k t n shows =
+    ap (λ (x : Tables). is_some (row_at x n)) shows.tables
+    ∙ ap (λ (o : Option VmRow). is_some o) (row_there k.config t.site n)
+    ∙ same_some (vm_at t.site n)
+
+pub some_shown : (k : Kept) (t : Scene) (n : ℕ) → Shows k t → is_some (row_at k.tables n) ≡ true → is_some (vm_at t.site n) ≡ true
+some_shown k t n shows is = sym (some_same k t n shows) ∙ is
+
+no_vm : (o : Option Vm) → is_some o ≡ false → o ≡ None
+no_vm None e = refl
+no_vm (Some v) e = absurd (true≢false e)
+
+pub none_shown : (k : Kept) (t : Scene) (n : ℕ) → Shows k t → row_at k.tables n ≡ None → vm_at t.site n ≡ None
+none_shown k t n shows is = no_vm (vm_at t.site n) (sym (some_same k t n shows) ∙ ap (λ (o : Option VmRow). is_some o) is)
 
 same_standing : (o : Option Vm) → option_map standing_of (option_map vm_table o) ≡ option_map standing o
 same_standing None = refl

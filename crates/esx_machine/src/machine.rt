@@ -3,7 +3,7 @@
 use crate::advice::advise;
 use crate::equal::equal_page;
 use crate::planning::plan;
-use crate::reading::{activity, page_state, spec_of, standing_of_vm, target_of};
+use crate::reading::{activity, numbers_of, page_state, spec_of, standing_of_vm, target_of};
 use crate::record::Record;
 use crate::rows::target_rows;
 use crate::table::table_of;
@@ -38,7 +38,8 @@ impl Model for Machine {
 }
 
 impl Machine {
-    ghost use Rattle.std.specs.Prelude.{◌≡◌, ◌≢◌, ◌+◌, count_by, option_map, IfOk, IfErr};
+    ghost use Rattle.std.specs.Prelude.{◌≡◌, ◌≢◌, ◌≤◌, ◌+◌, ℕ, true, None, is_some, count_by, option_map, IfOk, IfErr};
+    ghost use Rattle.esx_types.specs.declared.config.TheConstants.{VM_NUMBERS};
     ghost use Rattle.esx_types.specs.Ranges.{IsConfig};
     ghost use Rattle.esx_types.specs.Frames.{is_free};
     ghost use Rattle.esx_model.specs.declared.scene.Scene.{Scene};
@@ -217,6 +218,15 @@ impl Machine {
         ensures { (scene : Scene) → Shows self.now scene → result ≡ option_map (λ v. v.target) (vm_at scene.site vm) }
     {
         target_of(&self.tables, vm)
+    }
+
+    /// The number behind that of the last virtual machine that stands, 0 where there is none.
+    pub fn numbers(&self) -> usize
+        ensures few { result ≤ VM_NUMBERS }
+        ensures past { (scene : Scene) (n : ℕ) → Shows self.now scene → result ≤ n → vm_at scene.site n ≡ None }
+        ensures last { (scene : Scene) (n : ℕ) → Shows self.now scene → n + 1 ≡ result → is_some (vm_at scene.site n) ≡ true }
+    {
+        numbers_of(&self.tables)
     }
 
     /// What each virtual machine has for the taxed ratio, in order of number, with its target for a floor. It looks at

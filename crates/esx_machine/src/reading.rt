@@ -1,6 +1,7 @@
-//! What questions read of one machine's row and one frame's.
+//! What questions read of one machine's row and one frame's, and how far machines stand.
 
-ghost use Rattle.std.specs.Prelude.{◌≡◌, option_map};
+ghost use Rattle.std.specs.Prelude.{◌≡◌, ◌≤◌, ◌+◌, ℕ, true, None, is_some, option_map};
+ghost use Rattle.esx_types.specs.declared.config.TheConstants.{VM_NUMBERS};
 ghost use Rattle.esx_types.specs.Frames.{frame_at};
 ghost use Rattle.esx_types.specs.Listings.{listing_at};
 ghost use Rattle.esx_model.specs.Readings.{activity_in, activity_of, state_in};
@@ -81,6 +82,15 @@ pub fn standing_of_vm(tables: &SiteTables, vm: VmId) -> Option<Standing>
         None => None,
         Some(row) => Some(row.standing()),
     }
+}
+
+/// The number behind that of the last machine, 0 where there is none.
+pub fn numbers_of(tables: &SiteTables) -> usize
+    ensures few { result ≤ VM_NUMBERS }
+    ensures past { (n : ℕ) → result ≤ n → row_at tables.now n ≡ None }
+    ensures last { (n : ℕ) → n + 1 ≡ result → is_some (row_at tables.now n) ≡ true }
+{
+    tables.machines().len()
 }
 
 fn is_hinted(listing: Listing) -> bool

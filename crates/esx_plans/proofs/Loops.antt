@@ -50,7 +50,11 @@ with_blank_at [] k n = blank_at k n
 with_blank_at (x ∷ used) k zero = refl
 with_blank_at (x ∷ used) k (suc n) = with_blank_at used k n
 
+-- the machine with each number
+pub used_at : (used all : List (Option VmRow)) → AreUsed used all → (n : ℕ) → get_or all n None ≡ get_or used n None
+used_at used all u n = ap (λ (vms : List (Option VmRow)). get_or vms n None) (sym u.blank) ∙ with_blank_at used (VM_NUMBERS - length used) n
+
 -- what is known of each machine
 pub each_used : (P : VmRow → Type 0) (used all : List (Option VmRow)) → AreUsed used all → ((n : ℕ) (v : VmRow) → get_or all n None ≡ Some v → P v) → (n : ℕ) (v : VmRow) → get_or used n None ≡ Some v → P v
 each_used P used all u each n v h =
-    each n v (ap (λ (vms : List (Option VmRow)). get_or vms n None) (sym u.blank) ∙ with_blank_at used (VM_NUMBERS - length used) n ∙ h)
+    each n v (used_at used all u n ∙ h)
