@@ -1,5 +1,5 @@
 -- Sums after one more event of their path: lives.
-use Rattle.std.proofs.Common.{zero, suc, ◌≡◌, ◌≢◌, ℕ, ◌+◌, ◌-◌, ◌<◌, ◌≤◌, ◌==◌, nat_lt, Bool, true, false, cond, List, [], ◌∷◌, ◌++◌, length, map, get_or, refl, sym, ap, ◌∙◌, subst, arith, Option, None, option_map, inl, inr}
+use Rattle.std.proofs.Common.{zero, suc, ◌≡◌, ◌≢◌, ℕ, ◌+◌, ◌-◌, ◌<◌, ◌≤◌, ◌==◌, nat_lt, Bool, true, false, cond, List, [], ◌∷◌, ◌++◌, length, map, get_or, replicate, refl, sym, ap, ◌∙◌, subst, arith, Option, None, option_map, inl, inr}
 use Rattle.std.specs.List.{AllByRecursion, filter, range_with_len}
 use Rattle.std.proofs.lemmas.Bool.{cases_eq}
 use Rattle.std.proofs.lemmas.Bool.Decides.{nat_tests}
@@ -13,6 +13,7 @@ use Rattle.esx_events.specs.declared.event.Event.{Event}
 use Rattle.esx_events.specs.declared.event.Event.TheVariants.{Admit}
 use Rattle.esx_events.specs.declared.event.Answer.{Answer}
 use Rattle.esx_model.specs.declared.scene.Vm.{Vm}
+use Rattle.esx_model.specs.declared.scene.Site.{Site}
 use Rattle.esx_model.proofs.Callers.{eqb_same, eqb_other}
 use Rattle.esx_story.specs.Moments.{Moment}
 use Rattle.esx_story.specs.Counts.{no_counts, admits, counts}
@@ -24,8 +25,8 @@ use Rattle.esx_sums.specs.Lives.{lived, lives}
 use Rattle.esx_story.specs.Waits.{Met}
 use Rattle.esx_sums.specs.Mets.{is_held, is_short, met_in}
 use Rattle.esx_sums.specs.Guests.{tally_of, tally}
-use Rattle.esx_sums.specs.Sums.{Sums, blank, tally_in, present_of, ended, ended_in, tallied}
-use Rattle.esx_sums.specs.Accounts.{is_over_of, over, IsSums, IsNext}
+use Rattle.esx_sums.specs.Sums.{Sums, blank, tally_in, present_of, all_present, ended, ended_in, tallied}
+use Rattle.esx_sums.specs.Accounts.{AreAll, is_over_of, over, IsSums, IsNext}
 use Rattle.esx_sums.proofs.Lists.{same_range}
 use Rattle.esx_sums.proofs.Along.{lives_more, before, lived_now, lived_past, met_same, met_now}
 use Rattle.esx_sums.proofs.Pushed.{IsFor, after, after_push}
@@ -41,6 +42,20 @@ present_read [] n = no_row n
 present_read (o ∷ vms) zero = refl
 present_read (o ∷ vms) (suc n) = present_read vms n
 
+blank_at : (k n : ℕ) → get_or {A = Option Present} (replicate k None) n None ≡ None
+blank_at zero n = refl
+blank_at (suc k) zero = refl
+blank_at (suc k) (suc n) = blank_at k n
+
+with_blank_at : (present : List (Option Present)) (k n : ℕ) → get_or (present ++ replicate k None) n None ≡ get_or present n None
+with_blank_at [] k zero = blank_at k zero
+with_blank_at [] k (suc n) = blank_at k (suc n)
+with_blank_at (o ∷ present) k zero = refl
+with_blank_at (o ∷ present) k (suc n) = with_blank_at present k n
+
+told_at : (present : List (Option Present)) (s : Site) (n : ℕ) → AreAll present s → get_or present n None ≡ get_or (all_present s) n None
+told_at present s n all = sym (with_blank_at present (VM_NUMBERS - length present) n) ∙ ap (λ (ps : List (Option Present)). get_or ps n None) all
+
 for_machine : (c : Config) (ms : List Moment) (x : Moment) (e : Event) (answer : Answer) (y : Changes) (sum : Sum) (present : List (Option Present)) (n : ℕ) → IsNext c ms x e answer y sum present
     → IsFor n x e y (get_or present n None)
 for_machine c ms x e answer y sum present n is = record {
@@ -49,7 +64,7 @@ for_machine c ms x e answer y sum present n is = record {
   gained = is.gained;
   moved = is.moved;
   host = is.host;
-  present = ap (λ (ps : List (Option Present)). get_or ps n None) is.stands ∙ present_read x.after.site.vms n;
+  present = told_at present x.after.site n is.stands ∙ present_read x.after.site.vms n;
 }
 
 -- The present life.

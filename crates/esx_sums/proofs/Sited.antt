@@ -1,7 +1,8 @@
 -- Sums after one more event of their path: the site and its levels.
-use Rattle.std.proofs.Common.{suc, ◌≡◌, ℕ, ◌+◌, ◌-◌, cond, List, [], ◌∷◌, ◌++◌, length, count_by, sum_by, refl, sym, ap, ◌∙◌, arith, Option, Some, None, option_map}
+use Rattle.std.proofs.Common.{zero, suc, ◌≡◌, ℕ, ◌+◌, ◌-◌, cond, List, [], ◌∷◌, ◌++◌, length, count_by, sum_by, replicate, refl, sym, ap, ◌∙◌, arith, Option, Some, None, option_map}
 use Rattle.std.proofs.lemmas.List.{length-append, length-map, map-append}
-use Rattle.std.proofs.lemmas.List.Sums.{sum_by_push}
+use Rattle.std.proofs.lemmas.List.Sums.{sum_by_push, sum_by-cons}
+use Rattle.esx_types.specs.declared.config.TheConstants.{VM_NUMBERS}
 use Rattle.esx_types.specs.declared.config.Config.{Config}
 use Rattle.esx_types.specs.declared.level.Level.{Level}
 use Rattle.esx_types.specs.declared.level.Level.TheVariants.{High, Soft, Hard, Low}
@@ -23,8 +24,8 @@ use Rattle.esx_sums.specs.declared.sums.Changes.{Changes}
 use Rattle.esx_sums.specs.Extremes.{lower, higher, least_from, most_from, least, most}
 use Rattle.esx_sums.specs.Lives.{end_of}
 use Rattle.esx_sums.specs.Site.{free_in, private_in, shared_in, pages_in, out_in, slots_in, saved_in, after_each, revoked_by, IsSiteSums, is_level, enters, level_sums, levels}
-use Rattle.esx_sums.specs.Sums.{one_if, present_of, all_present, here_of, out_of, saved_of, site_after, level_after, levels_after}
-use Rattle.esx_sums.specs.Accounts.{IsNext}
+use Rattle.esx_sums.specs.Sums.{one_if, present_of, here_of, out_of, saved_of, site_after, level_after, levels_after}
+use Rattle.esx_sums.specs.Accounts.{AreAll, IsNext}
 use Rattle.esx_sums.proofs.Lists.{count_push, sum_map}
 use Rattle.esx_sums.proofs.Along.{end_more}
 
@@ -72,11 +73,27 @@ out_is : (o : Option Vm) → out_of (option_map present_of o) ≡ out_in o
 out_is None = refl
 out_is (Some v) = refl
 
-pages_told : (t : Scene) (present : List (Option Present)) → present ≡ all_present t.site → sum_by here_of present ≡ pages_in t
-pages_told t present is = ap (sum_by here_of) is ∙ sum_map here_of (λ (o : Option Vm). option_map present_of o) resident_in t.site.vms here_is
+-- what is told of no machine adds nothing
+blank_sum : (by : Option Present → ℕ) (k : ℕ) → by None ≡ 0 → sum_by by (replicate k None) ≡ 0
+blank_sum by zero none = refl
+blank_sum by (suc k) none =
+    let a = sum_by-cons by None (replicate k None) in
+    let rest = blank_sum by k none in
+    omega (arith, a, none, rest)
 
-slots_told : (t : Scene) (present : List (Option Present)) → present ≡ all_present t.site → sum_by out_of present ≡ slots_in t
-slots_told t present is = ap (sum_by out_of) is ∙ sum_map out_of (λ (o : Option Vm). option_map present_of o) out_in t.site.vms out_is
+with_blank : (by : Option Present → ℕ) (present : List (Option Present)) (k : ℕ) → by None ≡ 0 → sum_by by present ≡ sum_by by (present ++ replicate k None)
+with_blank by [] k none = sym (blank_sum by k none)
+with_blank by (o ∷ present) k none =
+    let a = sum_by-cons by o present in
+    let b = sum_by-cons by o (present ++ replicate k None) in
+    let rest = with_blank by present k none in
+    omega (arith, a, b, rest)
+
+pages_told : (t : Scene) (present : List (Option Present)) → AreAll present t.site → sum_by here_of present ≡ pages_in t
+pages_told t present is = with_blank here_of present (VM_NUMBERS - length present) refl ∙ ap (sum_by here_of) is ∙ sum_map here_of (λ (o : Option Vm). option_map present_of o) resident_in t.site.vms here_is
+
+slots_told : (t : Scene) (present : List (Option Present)) → AreAll present t.site → sum_by out_of present ≡ slots_in t
+slots_told t present is = with_blank out_of present (VM_NUMBERS - length present) refl ∙ ap (sum_by out_of) is ∙ sum_map out_of (λ (o : Option Vm). option_map present_of o) out_in t.site.vms out_is
 
 -- The site.
 

@@ -1,11 +1,12 @@
 -- What sums say of a path.
-use Rattle.std.specs.Prelude.{◌≡◌, ◌==◌, ℕ, ◌-◌, ◌<◌, ◌≤◌, Bool, List, length, map, filter, slice_index_or, Option}
+use Rattle.std.specs.Prelude.{◌≡◌, ◌==◌, ℕ, ◌-◌, ◌<◌, ◌≤◌, ◌++◌, Bool, List, length, map, filter, replicate, slice_index_or, Option, None}
 use Rattle.std.specs.List.{AllByRecursion, range_with_len}
 use Rattle.esx_types.specs.declared.config.TheConstants.{MAX_NODES, VM_NUMBERS}
 use Rattle.esx_types.specs.declared.config.Config.{Config}
 use Rattle.esx_events.specs.declared.call.Sum.{Sum}
 use Rattle.esx_events.specs.declared.event.Event.{Event}
 use Rattle.esx_events.specs.declared.event.Answer.{Answer}
+use Rattle.esx_model.specs.declared.scene.Site.{Site}
 use Rattle.esx_story.specs.Moments.{Moment}
 use Rattle.esx_story.specs.Losses.{lost_at}
 use Rattle.esx_story.specs.Gains.{gained_at}
@@ -42,6 +43,10 @@ pub record IsSums (c : Config) (ms : List Moment) (mets : List Met) (s : Sums) :
   pub early : AllByRecursion (λ (m : Met). m.at ≤ length ms) mets
   pub small : AreSmallSums s
 
+-- what is told of the machines that stand, at their numbers; no machine stands behind the last that is told
+abbrev pub AreAll : List (Option Present) → Site → Type 0
+AreAll present s = present ++ replicate (VM_NUMBERS - length present) None ≡ all_present s
+
 -- A moment that comes, with what it changed, and what stands after it.
 pub record IsNext (c : Config) (ms : List Moment) (x : Moment) (event : Event) (answer : Answer) (changes : Changes) (sum : Sum) (present : List (Option Present)) : Type 0 where
   pub before : x.before ≡ end_of c ms
@@ -55,7 +60,7 @@ pub record IsNext (c : Config) (ms : List Moment) (x : Moment) (event : Event) (
   pub free : sum.free ≡ free_in c x.after
   pub private : sum.private ≡ private_in c x.after
   pub shared : sum.shared ≡ shared_in c x.after
-  pub stands : present ≡ all_present x.after.site
+  pub stands : AreAll present x.after.site
 
 -- The sums are of a path that may go on.
 pub record IsShort (s : Sums) : Type 0 where

@@ -17,8 +17,7 @@ use Rattle.esx_story.specs.Readings.{lost_by, gained_from}
 use Rattle.esx_story.proofs.Enough.{reading_enough}
 use Rattle.esx_sums.specs.declared.present.Present.{Present}
 use Rattle.esx_sums.specs.declared.sums.Changes.{Changes}
-use Rattle.esx_sums.specs.Accounts.{IsNext}
-use Rattle.esx_sums.specs.Sums.{all_present}
+use Rattle.esx_sums.specs.Accounts.{AreAll, IsNext}
 use Rattle.esx_sums.specs.Telling.{moved_by, IsMoveTold}
 use Rattle.esx_survey.specs.declared.before.Before.{Before}
 use Rattle.esx_survey.specs.Changes.{host_by, changes_by}
@@ -36,7 +35,7 @@ unfolding sum_of
 level_said c t = refl
 
 pub next_is : (c : Config) (es : List Event) (t u : Scene) (e : Event) (answer : Answer) (before : Before) (k : Kept) (changes : Changes) (sum : Sum) (present : List (Option Present)) → IsMoveTold → IsMade c es t u e answer before
-    → Shows k u → k.config ≡ c → changes ≡ changes_by e answer before.page before.equal → sum ≡ sum_of (book_in k) → present ≡ all_present u.site
+    → Shows k u → k.config ≡ c → changes ≡ changes_by e answer before.page before.equal → sum ≡ sum_of (book_in k) → AreAll present u.site
     → IsNext c (moments c es) (moment_of e answer t u) e answer changes sum present
 next_is c es t u e answer before k changes sum present moves made shows config changed said stands =
     let enough = reading_enough c t e (answer, u) made.sound made.goes in

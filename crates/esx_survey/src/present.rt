@@ -29,7 +29,7 @@ pub fn all_present(machine: &Machine) -> [Option<Present>; VM_NUMBERS]
     ensures { (scene : Scene) → Shows machine.now scene → result ≡ all_present scene.site }
 {
     let mut present = [None; VM_NUMBERS];
-    for number in 0..VM_NUMBERS {
+    for number in 0..machine.numbers() {
         present[number] = present_at(machine, VmId::new(number as u8));
     }
     present

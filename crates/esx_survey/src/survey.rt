@@ -55,7 +55,8 @@ fn count(sums: &mut Sums, machine: &Machine, event: &Event, answer: &Answer, bef
     let changes = changes(event, answer, before);
     let sum = machine.sum();
     let present = all_present(machine);
-    sums.go_on(event, answer, &changes, &sum, &present);
+    let standing = &present[..machine.numbers()];
+    sums.go_on(event, answer, &changes, &sum, standing);
 }
 
 /// Makes an event that there is room to count.

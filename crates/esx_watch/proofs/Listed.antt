@@ -1,7 +1,6 @@
 -- What is told of each machine, put into a list one by one.
 use Rattle.std.proofs.Common.{zero, suc, ◌≡◌, ℕ, ◌+◌, ◌<◌, ◌≤◌, List, [], ◌∷◌, ◌++◌, length, map, get_or, set, take, drop, replicate, refl, sym, ap, ◌∙◌, arith, Option, None}
 use Rattle.std.specs.Option.{option_map}
-use Rattle.std.proofs.lemmas.List.{take_all, drop_all, append-nil}
 use Rattle.esx_types.specs.declared.config.TheConstants.{VM_NUMBERS}
 use Rattle.esx_types.specs.declared.config.Config.{Config}
 use Rattle.esx_model.specs.declared.scene.Site.{Site}
@@ -39,8 +38,21 @@ all_untold (o ∷ vms) = ap (λ xs. None ∷ xs) (all_untold vms)
 pub told_none : (c : Config) (s : Site) → IsSound c s → replicate VM_NUMBERS None ≡ told_to 0 s.vms
 told_none c s sound = ap (λ k. replicate k None) (sym sound.vms) ∙ all_untold s.vms
 
-pub told_all : (c : Config) (s : Site) (n : ℕ) (all : List (Option Figures)) → IsSound c s → VM_NUMBERS ≤ n → all ≡ told_to n s.vms → all ≡ all_figures s
-told_all c s n all sound past is =
-    let count = sound.vms in
-    let whole : length s.vms ≤ n = omega (arith, past, count) in
-    is ∙ ap (λ xs. map told xs ++ map untold (drop n s.vms)) (take_all n s.vms whole) ∙ ap (λ xs. map told s.vms ++ map untold xs) (drop_all n s.vms whole) ∙ append-nil (map told s.vms)
+-- of no machine nothing is told
+none_left : (vms : List (Option Vm)) → ((m : ℕ) → get_or vms m None ≡ None) → map untold vms ≡ map told vms
+none_left [] past = refl
+none_left (o ∷ vms) past = ap (λ (p : Option Vm). told p ∷ map untold vms) (sym (past 0)) ∙ ap (λ xs. told o ∷ xs) (none_left vms (λ m. past (suc m)))
+
+told_to_last : (n : ℕ) (vms : List (Option Vm)) → ((m : ℕ) → n ≤ m → get_or vms m None ≡ None) → told_to n vms ≡ map told vms
+told_to_last zero vms past = none_left vms (λ m. past m (omega arith))
+told_to_last (suc n) [] past = refl
+told_to_last (suc n) (o ∷ vms) past = ap (λ xs. told o ∷ xs) (told_to_last n vms (λ m behind. past (suc m) (omega (arith, behind))))
+
+pub told_all : (s : Site) (n : ℕ) (all : List (Option Figures)) → ((m : ℕ) → n ≤ m → vm_at s m ≡ None) → all ≡ told_to n s.vms → all ≡ all_figures s
+told_all s n all past is = is ∙ told_to_last n s.vms past
+
+-- behind the last machine
+pub blank_at : (k n : ℕ) → get_or {A = Option Figures} (replicate k None) n None ≡ None
+blank_at zero n = refl
+blank_at (suc k) zero = refl
+blank_at (suc k) (suc n) = blank_at k n

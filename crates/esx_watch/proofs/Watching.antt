@@ -7,7 +7,7 @@ use Rattle.esx_events.specs.declared.event.Answer.{Answer}
 use Rattle.esx_events.specs.declared.event.Event.{Event}
 use Rattle.esx_model.specs.declared.scene.Scene.{Scene}
 use Rattle.esx_model.specs.declared.tables.Tables.{Tables}
-use Rattle.esx_model.specs.Replay.{opening, next, run_from, run}
+use Rattle.esx_model.specs.Replay.{opening, next, run_from}
 use Rattle.esx_model.proofs.Callers.{run_one, run_one_more, path_within, shown_within}
 use Rattle.esx_plans.specs.plan.Balloon.{CanEpochsRise}
 use Rattle.esx_machine.specs.Machine.{Shows}

@@ -1,5 +1,5 @@
 -- What a log is of, and one more event of it.
-use Rattle.std.specs.Prelude.{◌≡◌, ℕ, List, [], ◌∷◌, length, map, replicate, Option, None, option_map, Ok}
+use Rattle.std.specs.Prelude.{◌≡◌, ℕ, List, [], ◌∷◌, length, map, replicate, Option, None, Ok}
 use Rattle.esx_types.specs.declared.config.TheConstants.{VM_NUMBERS}
 use Rattle.esx_types.specs.declared.config.Config.{Config}
 use Rattle.esx_events.specs.declared.call.Sum.{Sum}

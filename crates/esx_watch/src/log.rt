@@ -1,6 +1,6 @@
 //! The log of a watch: the figures as they stand, and the steps so far.
 
-ghost use Rattle.std.specs.Prelude.{◌≡◌, ◌<◌, ◌++◌, ◌∷◌, [], List, None, replicate, vec_len, vec_capacity, IfOk, OnOk};
+ghost use Rattle.std.specs.Prelude.{◌≡◌, ◌<◌, ◌++◌, ◌∷◌, [], List, replicate, vec_len, vec_capacity, IfOk, OnOk};
 ghost use Rattle.esx_types.specs.declared.config.TheConstants.{MAX_NODES, MAX_PAGES, VM_NUMBERS};
 ghost use Rattle.esx_types.specs.declared.config.Config.{Config};
 ghost use Rattle.esx_story.specs.Moments.{Moment};
@@ -8,13 +8,13 @@ ghost use Rattle.esx_watch.specs.Logs.{log_of, opened, IsLog, IsNext};
 ghost use Rattle.esx_watch.specs.Shifting.{AreAtMost};
 ghost use Rattle.esx_watch.specs.Telling.{HasRoom};
 
-use crate::looking::all_figures;
+use crate::looking::{Guests, all_figures};
 use crate::shifting::shift;
 use crate::telling::tell_event;
 use esx_events::Sum;
+use esx_figures::Step;
 use esx_figures::laws::sharing_is_told;
 use esx_figures::steps::opening_step;
-use esx_figures::{Figures, Step};
 use esx_machine::Machine;
 use esx_types::{Rows, VM_NUMBERS, VmId};
 use std::alloc::{AllocError, Global};
@@ -25,7 +25,7 @@ use std::alloc::{AllocError, Global};
 pub(crate) struct Log {
     shared: Rows<u32>,
     site: Sum,
-    guests: [Option<Figures>; VM_NUMBERS],
+    guests: Guests,
     steps: Vec<Step>,
     events: u32,
 }
@@ -38,20 +38,13 @@ fn no_shared(alloc: Global) -> Result<Vec<u32>, AllocError>
     Ok(shared)
 }
 
-/// No machine.
-fn nobody() -> [Option<Figures>; VM_NUMBERS]
-    ensures { result ≡ replicate VM_NUMBERS None }
-{
-    [None; VM_NUMBERS]
-}
-
 impl Log {
     /// Of a site as it is opened.
     pub(crate) fn open(alloc: Global, site: Sum) -> Result<Log, AllocError>
         ensures { IfOk result (λ log. log_of log ≡ opened site) }
     {
         let shared = no_shared(alloc)?;
-        let guests = nobody();
+        let guests = Guests::nobody();
         let mut steps = Vec::new(alloc);
         let first = opening_step(site);
         steps.push(Step {

@@ -1,6 +1,7 @@
 //! What is told of each machine of a site.
 
-ghost use Rattle.std.specs.Prelude.{◌≡◌, Some, option_map};
+ghost use Rattle.std.specs.Prelude.{◌≡◌, Some, None, option_map, replicate, slice_index_or};
+ghost use Rattle.esx_types.specs.declared.config.TheConstants.{VM_NUMBERS};
 ghost use Rattle.esx_model.specs.declared.scene.Scene.{Scene};
 ghost use Rattle.esx_model.specs.declared.scene.Vm.{Vm};
 ghost use Rattle.esx_model.specs.Site.{vm_at};
@@ -9,11 +10,13 @@ ghost use Rattle.esx_machine.specs.Machine.{Shows};
 ghost use Rattle.esx_figures.specs.Figures.{figures, all_figures};
 ghost use Rattle.esx_figures.specs.Sharing.{shared_of};
 ghost use Rattle.esx_watch.specs.Logs.{all_shared};
+ghost use Rattle.esx_watch.specs.Looking.{IsBlankFrom};
 
 use crate::shifting::shared_at;
 use esx_figures::Figures;
 use esx_machine::Machine;
 use esx_types::{VM_NUMBERS, VmId};
+use std::marker::Model;
 
 /// The active share of the memory of a machine that is there.
 fn active_of(machine: &Machine, vm: VmId) -> u32
@@ -42,14 +45,63 @@ fn figures_of(machine: &Machine, vm: VmId, shared: u32) -> Option<Figures>
     }
 }
 
+/// What is told of each machine, seen as the list of it by number. It knows a number from which on nothing is told.
+#[derive(Drop)]
+pub(crate) struct Guests {
+    all: [Option<Figures>; VM_NUMBERS],
+    numbers: usize,
+}
+
+impl Model for Guests {
+    ghost use Rattle.std.specs.Prelude.{List, Option};
+    ghost use Rattle.esx_figures.specs.declared.figures.Figures.{Figures};
+    ghost use Rattle.esx_watch.specs.Looking.{IsBlankFrom};
+
+    ghost Value = { List (Option Figures) };
+
+    ghost view = { λ a. a.all };
+
+    ghost invariant = { λ a. IsBlankFrom a.all a.numbers };
+}
+
+impl Guests {
+    /// No machine.
+    pub(crate) fn nobody() -> Guests
+        ensures { result ≡ replicate VM_NUMBERS None }
+    {
+        Guests {
+            all: [None; VM_NUMBERS],
+            numbers: 0,
+        }
+    }
+
+    /// A number from which on nothing is told.
+    pub(crate) fn numbers(&self) -> usize
+        ensures { IsBlankFrom self.now result }
+    {
+        self.numbers
+    }
+
+    /// What is told of the machine with a number.
+    pub(crate) fn at(&self, number: usize) -> Option<Figures>
+        ensures { result ≡ slice_index_or self.now number None }
+    {
+        match self.all.get(number) {
+            Some(figures) => *figures,
+            None => None,
+        }
+    }
+}
+
 /// What is told of each machine, at its number. It takes no memory.
-pub(crate) fn all_figures(machine: &Machine, shared: &[u32]) -> [Option<Figures>; VM_NUMBERS]
+pub(crate) fn all_figures(machine: &Machine, shared: &[u32]) -> Guests
     ensures { (scene : Scene) → Shows machine.now scene → shared.now ≡ all_shared scene.site → result ≡ all_figures scene.site }
 {
     let mut all = [None; VM_NUMBERS];
-    for number in 0..VM_NUMBERS {
+    let numbers = machine.numbers();
+    for number in 0..numbers {
         let count = shared_at(shared, number);
         all[number] = figures_of(machine, VmId::new(number as u8), count);
     }
-    all
+    Guests { all, numbers }
 }

@@ -1,14 +1,15 @@
 //! The steps of an event.
 
-ghost use Rattle.std.specs.Prelude.{◌≡◌, ◌++◌, ◌+◌, ◌<◌, ◌≤◌, None, vec_len, vec_capacity, slice_index_or};
+ghost use Rattle.std.specs.Prelude.{◌≡◌, ◌++◌, ◌+◌, ◌<◌, ◌≤◌, vec_len, vec_capacity};
 ghost use Rattle.esx_types.specs.declared.config.TheConstants.{VM_NUMBERS};
 ghost use Rattle.esx_figures.specs.Steps.{told, guests_told, or_site};
 ghost use Rattle.esx_watch.specs.Telling.{HasRoom};
 
+use crate::looking::Guests;
 use esx_events::Sum;
+use esx_figures::Step;
 use esx_figures::steps::{guest_step, site_step};
-use esx_figures::{Figures, Step};
-use esx_types::{VM_NUMBERS, VmId};
+use esx_types::VmId;
 
 /// Adds a step, if there is one.
 fn tell(steps: &mut Vec<Step>, step: Option<Step>)
@@ -27,31 +28,19 @@ fn tell(steps: &mut Vec<Step>, step: Option<Step>)
     }
 }
 
-fn figures_at(guests: &[Option<Figures>], number: usize) -> Option<Figures>
-    ensures { result ≡ slice_index_or guests.now number None }
-{
-    match guests.get(number) {
-        Some(figures) => *figures,
-        None => None,
-    }
-}
-
 /// Adds the steps of the machines whose figures changed.
-fn tell_guests(
-    steps: &mut Vec<Step>,
-    at: u32,
-    site: Sum,
-    before: &[Option<Figures>],
-    after: &[Option<Figures>],
-)
+fn tell_guests(steps: &mut Vec<Step>, at: u32, site: Sum, before: &Guests, after: &Guests)
     requires { HasRoom (vec_len steps.old) (vec_capacity steps.old) }
     ensures told { steps.new.items ≡ steps.old.items ++ guests_told at site before.now after.now VM_NUMBERS }
     ensures capacity { vec_capacity steps.new ≡ vec_capacity steps.old }
 {
-    for number in 0..VM_NUMBERS {
+    let numbers_before = before.numbers();
+    let numbers_now = after.numbers();
+    let last = numbers_before.max(numbers_now);
+    for number in 0..last {
         let vm = VmId::new(number as u8);
-        let was = figures_at(before, number);
-        let is = figures_at(after, number);
+        let was = before.at(number);
+        let is = after.at(number);
         tell(steps, guest_step(at, site, vm, &was, &is));
     }
 }
@@ -62,8 +51,8 @@ pub(crate) fn tell_event(
     at: u32,
     site_before: &Sum,
     site: &Sum,
-    before: &[Option<Figures>],
-    after: &[Option<Figures>],
+    before: &Guests,
+    after: &Guests,
 )
     requires { HasRoom (vec_len steps.old) (vec_capacity steps.old) }
     ensures { steps.new.items ≡ steps.old.items ++ or_site at site_before.now site.now (guests_told at site.now before.now after.now VM_NUMBERS) }

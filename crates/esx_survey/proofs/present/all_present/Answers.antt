@@ -15,10 +15,11 @@ loop-number-init c = record {
 
 pub loop-number-preserved : goal.loop-number-preserved
 loop-number-preserved c = record {
-  told = λ scene shows. told_more c.args.machine.now.config scene.site c.loop-number.number c.present_at.result c.loop-number.present shows.sound c.loop-number-test.true
+  told = λ scene shows. told_more c.args.machine.now.config scene.site c.loop-number.number c.present_at.result c.loop-number.present shows.sound (let few = c.numbers-number-end.ensures.few in let below = c.loop-number-test.true in omega (arith, few, below))
       (c.present_at.ensures scene shows ∙ ap (λ (n : ℕ). option_map present_of (vm_at scene.site n)) c.new.ensures.value) (c.loop-number.invariant.told scene shows);
   long = length-set c.loop-number.present c.loop-number.number c.present_at.result ∙ c.loop-number.invariant.long;
 }
 
 pub returns : goal.returns
-returns c = λ scene shows. told_all c.args.machine.now.config scene.site c.loop-number.number c.loop-number.present shows.sound (omega arith) (c.loop-number.invariant.told scene shows)
+returns c = λ scene shows. told_all scene.site c.loop-number.number c.loop-number.present
+    (λ m behind. c.numbers-number-end.ensures.past scene m shows (let over = c.loop-number-test.false in omega (arith, behind, over))) (c.loop-number.invariant.told scene shows)

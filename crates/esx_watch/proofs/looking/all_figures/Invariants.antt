@@ -1,4 +1,4 @@
-use Rattle.std.proofs.Common.{◌≡◌, length}
+use Rattle.std.proofs.Common.{◌≡◌, ◌≤◌, ℕ, length, get_or, None}
 use Rattle.esx_types.specs.declared.config.TheConstants.{VM_NUMBERS}
 use Rattle.esx_model.specs.declared.scene.Scene.{Scene}
 use Rattle.esx_machine.specs.Machine.{Shows}
@@ -10,4 +10,5 @@ abbrev pub invariant-loop-number : goal.invariant-loop-number
 invariant-loop-number l = record {
   told : (scene : Scene) → Shows l.machine scene → l.shared ≡ all_shared scene.site → l.all ≡ told_to l.number scene.site.vms;
   long : length l.all ≡ VM_NUMBERS;
+  past : (n : ℕ) → l.numbers ≤ n → get_or l.all n None ≡ None;
 }
