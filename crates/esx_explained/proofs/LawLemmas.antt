@@ -1,12 +1,12 @@
 -- How the console answers lines that are known, and others.
-use Rattle.std.proofs.Common.{ℕ, List, [], ◌≡◌}
+use Rattle.std.proofs.Common.{ℕ, List, ◌≡◌}
 use Rattle.esx_events.specs.declared.call.Call.{Call}
 use Rattle.esx_text.specs.declared.own.OwnWord.{OwnWord}
 use Rattle.esx_text.specs.Lines.{IsSilent}
 use Rattle.esx_text.specs.Own.{own_line}
 use Rattle.esx_text.specs.PageOut.{AsksOut}
 use Rattle.esx_model.specs.Console.{Session}
-use Rattle.esx_text.specs.Answers.{IsAnswered, IsAsked, unknown_text}
+use Rattle.esx_text.specs.Answers.{IsAnswered, IsAsked}
 use Rattle.esx_text.specs.Answers.IsAnswered.{silent as answer_silent, asked as answer_asked, own as answer_own, pageout as answer_pageout, unknown as answer_unknown}
 use Rattle.esx_explained.specs.Known.{IsKnown}
 use Rattle.esx_explained.specs.Known.IsOwn.{by_word, by_page}

@@ -4,3 +4,4 @@ pub mod DistanceLemmas
 pub mod NearLemmas
 pub mod LineLemmas
 pub mod LawLemmas
+pub mod InputLemmas

@@ -1,7 +1,7 @@
 -- Lines that are known, and what is amiss with others.
-use Rattle.std.proofs.Common.{◌≡◌, ◌<◌, ◌≤◌, ◌^◌, ◌+◌, ℕ, List, [], ◌∷◌, drop, length, decimal, codes, refl, sym, ap, ◌∙◌, subst, arith}
-use Rattle.std.proofs.Common.{inl, inr, zero, suc, ◌==◌, ◌≢◌, Option, MatchOption, Bor}
-use Rattle.std.specs.List.{All, AllByRecursion}
+use Rattle.std.proofs.Common.{◌≡◌, ◌<◌, ◌≤◌, ◌+◌, ℕ, List, [], ◌∷◌, drop, length, codes, refl, sym, ap, ◌∙◌, subst, arith}
+use Rattle.std.proofs.Common.{inl, inr, zero, suc, ◌==◌, ◌≢◌, Option, Some, None, MatchOption, Bor, IsTrue}
+use Rattle.std.specs.List.{All}
 use Rattle.std.proofs.lemmas.List.{length-drop, drop-drop}
 use Rattle.std.specs.Str.{IsUtf8}
 use Rattle.std.proofs.lemmas.Str.{IsUtf8-from_ascii}
@@ -13,11 +13,13 @@ use Rattle.esx_explained.specs.declared.reason.Explanation.{Explanation}
 use Rattle.esx_explained.specs.declared.reason.Explanation.TheVariants.{TooLong, NotText, Unknown, Operands, NoEvents, Tried, TooManyEvents, Other}
 use Rattle.esx_explained.specs.Words.{command_word}
 use Rattle.esx_explained.specs.Amiss.{StandsAt}
-use Rattle.esx_explained.specs.Tried.{parts, IsTextOf}
+use Rattle.esx_explained.specs.declared.tried.AmissEvent.{AmissEvent}
+use Rattle.esx_explained.specs.declared.tried.AmissEvent.TheVariants as event
+use Rattle.esx_explained.specs.Tried.{parts, is_blank, IsTextOf, IsEventText, IsEventPart, IsAmissEvent, IsAmissPart}
 use Rattle.esx_explained.specs.Reasons.{IsSaidOf, Explains}
 use Rattle.esx_events.specs.declared.call.Call.{Call}
-use Rattle.esx_reading.specs.Fields.{fields, joined}
-use Rattle.esx_reading.proofs.FieldLemmas.{IsField, joined_of_fields, fields_of_joined, ascii_joined, no_space_in_decimal, no_space_in_known}
+use Rattle.esx_reading.specs.Fields.{fields}
+use Rattle.esx_reading.proofs.FieldLemmas.{no_space_in_known}
 use Rattle.esx_words.proofs.CommandLemmas.{ascii_command}
 use Rattle.esx_text.specs.declared.own.OwnWord.TheVariants.{Session, Order}
 use Rattle.esx_text.specs.Lines.{IsSilent}
@@ -83,6 +85,15 @@ pub text_behind : (at : ℕ) (part : List ℕ) (r : Option (Bor (List ℕ))) →
     → MatchOption r ((text : List ℕ) → IsTextOf at part text → ⊥) (λ text. IsTextOf at part text.now)
 text_behind zero part r not h = absurd (not refl)
 text_behind (suc at) part r not h = h
+
+-- what is amiss with the text of an event is amiss with its part
+pub amiss_part_of : (at : ℕ) (part text : List ℕ) (found : Option AmissEvent) → (IsTrue (is_blank part) → ⊥) → IsTextOf at part text
+    → MatchOption found (IsEventText text) (λ e. IsAmissEvent text e) → MatchOption found (IsEventPart at part) (λ e. IsAmissPart at part e)
+amiss_part_of at part text None words is h = (text, is, h)
+amiss_part_of at part text (Some event.Missing) words is h = absurd h
+amiss_part_of at part text (Some event.NoSpace) words is h = absurd h
+amiss_part_of at part text (Some (event.Unknown word)) words is h = (words, text, is, h)
+amiss_part_of at part text (Some (event.Operands c a)) words is h = (text, is, h)
 
 -- behind some parts of a text there is one more
 pub more_parts : (text rest : List ℕ) (at : ℕ) → drop at (parts text) ≡ parts rest → at < length (parts text)

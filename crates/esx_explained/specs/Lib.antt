@@ -16,3 +16,4 @@ pub mod Amiss
 pub mod Tried
 pub mod Reasons
 pub mod Telling
+pub mod Input

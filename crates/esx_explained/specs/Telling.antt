@@ -126,6 +126,7 @@ amiss_text c (Wrong at word) = wants c ++ (codes ": " ++ (told_word word.now ++ 
 
 -- what is amiss with an event
 abbrev pub event_text : AmissEvent → List ℕ
+event_text event.Missing = codes "E is missing"
 event_text event.NoSpace = codes "no space stands before it"
 event_text (event.Unknown word) = told_word word.now ++ codes " is no event"
 event_text (event.Operands c a) = amiss_text c a

@@ -1,7 +1,8 @@
 //! A source that explains the lines that it gives.
 
-ghost use Rattle.std.specs.Prelude.{◌≡◌, [], IfSome, IfOk, false};
-ghost use Rattle.esx_text.specs.Lines.{line_of};
+ghost use Rattle.std.specs.Prelude.{◌≡◌, ◌==◌, ◌<◌, IfSome, IfNone, IfOk, length, position};
+ghost use Rattle.esx_text.specs.Lines.{HasNoFeed, line_of};
+ghost use Rattle.esx_explained.specs.Input.{at_start, next_line, after, at_end, after_part};
 ghost use Rattle.esx_explained.specs.Known.{IsKnown};
 ghost use Rattle.esx_explained.specs.Reasons.{Explains};
 ghost use Rattle.esx_explained.specs.Telling.{held_line, next_number};
@@ -12,6 +13,7 @@ use esx_text::LONGEST;
 use esx_types::{Source, SourceFailed};
 use std::alloc::{AllocError, Global};
 use std::fmt;
+use std::marker::Model;
 
 /// How many bytes are held of a line: those of the longest line, and a carriage return.
 const ROOM: usize = LONGEST + 1;
@@ -44,6 +46,18 @@ struct Lines {
     count: u64,
 }
 
+impl Model for Lines {
+    ghost use Rattle.std.specs.Prelude.{◌≤◌, vec_len, vec_capacity};
+    ghost use Rattle.esx_explained.specs.declared.source.TheConstants.{ROOM};
+    ghost use Rattle.esx_explained.specs.Input.{ReadSoFar};
+
+    ghost Value = { ReadSoFar };
+
+    ghost view = { λ l. record { count = l.count; front = l.held.items; long = l.long } };
+
+    ghost invariant = { λ l. (vec_len l.held ≤ ROOM) × (ROOM ≤ vec_capacity l.held) };
+}
+
 /// A piece without the carriage return at its end.
 fn without_return(piece: &[u8]) -> &[u8]
     ensures { result.now ≡ line_of piece.now }
@@ -62,10 +76,18 @@ fn without_return(piece: &[u8]) -> &[u8]
     }
 }
 
+/// Where the first line feed stands.
+fn line_end(bytes: &[u8]) -> Option<usize>
+    ensures place { result ≡ position (λ b. b == 10) bytes.now }
+    ensures within { IfSome result (λ at. at < length bytes.now) }
+{
+    bytes.iter().position(|byte| *byte == b'\n')
+}
+
 impl Lines {
     /// It takes the room for the longest line.
     fn new(alloc: Global) -> Result<Lines, AllocError>
-        ensures { IfOk result (λ l. (l.held.items ≡ []) × (l.long ≡ false) × (l.count ≡ 0)) }
+        ensures { IfOk result (λ l. l ≡ at_start) }
     {
         let held = Vec::with_capacity(alloc, ROOM)?;
         Ok(Lines {
@@ -76,22 +98,24 @@ impl Lines {
         })
     }
 
-    /// A part of a line. Of a line that is too long the bytes behind the longest are left out.
+    /// A part of a line. Of a line that is too long the bytes behind the longest are left out. It takes no memory.
     fn add(&mut self, part: &[u8])
-        ensures { self.new.count ≡ self.old.count }
+        requires { HasNoFeed part.now }
+        ensures { self.new ≡ after self.old part.now }
     {
-        let room = ROOM.saturating_sub(self.held.len());
-        if part.len() > room {
-            self.long = true;
+        let room = ROOM - self.held.len();
+        if part.len() <= room {
+            self.held.extend_from_slice(part).unwrap();
+            return;
         }
-        let (kept, _) = part.split_at(part.len().min(room));
-        // There is room for it.
-        let _ = self.held.extend_from_slice(kept);
+        let (kept, _) = part.split_at(room);
+        self.held.extend_from_slice(kept).unwrap();
+        self.long = true;
     }
 
     /// What is held of the line, without a carriage return at its end where a line feed stands behind it.
     fn line(&self, is_ended: bool) -> &[u8]
-        ensures { result.now ≡ held_line self.now.held.items self.now.long is_ended }
+        ensures { result.now ≡ held_line self.now.front self.now.long is_ended }
     {
         let held = self.held.as_slice();
         if is_ended && !self.long {
@@ -103,8 +127,8 @@ impl Lines {
     /// What is printed of the line, if it is no command. What memory is wanting for is left out.
     fn told(&self, is_ended: bool) -> Option<ToldLine<'_>>
         ensures number { IfSome result (λ t. t.number ≡ next_number self.now.count) }
-        ensures unknown { IfSome result (λ t. IsKnown (held_line self.now.held.items self.now.long is_ended) → ⊥) }
-        ensures explains { IfSome result (λ t. Explains (held_line self.now.held.items self.now.long is_ended) t.explanation) }
+        ensures unknown { IfSome result (λ t. IsKnown (held_line self.now.front self.now.long is_ended) → ⊥) }
+        ensures explains { IfSome result (λ t. Explains (held_line self.now.front self.now.long is_ended) t.explanation) }
     {
         let number = self.count.saturating_add(1);
         match explained(self.alloc, self.line(is_ended)) {
@@ -121,8 +145,7 @@ impl Lines {
 
     /// The line is over: tells why it is no command, where it is none, and begins the next.
     fn end<P: Print>(&mut self, to: &P, is_ended: bool)
-        ensures count { self.new.count ≡ next_number self.old.count }
-        ensures empty { (self.new.held.items ≡ []) × (self.new.long ≡ false) }
+        ensures { self.new ≡ next_line self.old }
     {
         if let Some(told) = self.told(is_ended) {
             // What cannot be told is left out.
@@ -134,22 +157,49 @@ impl Lines {
     }
 
     /// The bytes that were read.
-    fn look<P: Print>(&mut self, to: &P, bytes: &[u8]) {
+    fn look<P: Print>(&mut self, to: &P, bytes: &[u8])
+        ensures { self.new ≡ after self.old bytes.now }
+    {
         let mut rest = bytes;
-        while let Some(at) = rest.iter().position(|byte| *byte == b'\n') {
-            let (part, later) = rest.split_at(at);
+        while let Some(at) = line_end(rest) {
+            let (part, _) = rest.split_at(at);
+            let (_, later) = rest.split_at(at + 1);
             self.add(part);
             self.end(to, true);
-            rest = &later[1..];
+            rest = later;
         }
         self.add(rest);
     }
 
     /// The input is over: what is left of it is a line, unless it is empty.
-    fn finish<P: Print>(&mut self, to: &P) {
+    fn finish<P: Print>(&mut self, to: &P)
+        ensures { self.new ≡ at_end self.old }
+    {
         if !self.held.is_empty() {
             self.end(to, false);
         }
+    }
+
+    /// What a read gave: the next bytes, or none at the end.
+    fn look_at<P: Print>(&mut self, to: &P, part: &[u8])
+        ensures { self.new ≡ after_part self.old part.now }
+    {
+        if part.is_empty() {
+            self.finish(to);
+        } else {
+            self.look(to, part);
+        }
+    }
+}
+
+/// The lines of which nothing is read, where there is somebody to tell and memory for the longest.
+fn lines_told<P>(alloc: Global, to: Option<&P>) -> Option<Lines>
+    ensures start { IfSome result (λ l. l ≡ at_start) }
+    ensures nobody { IfNone to.entry (result ≡ None) }
+{
+    match to {
+        Some(_) => Lines::new(alloc).ok(),
+        None => None,
     }
 }
 
@@ -170,10 +220,7 @@ impl<'a, R: Source + Drop, P: Print> Explained<'a, R, P> {
     pub fn new(alloc: Global, reader: R, to: Option<&'a P>) -> Explained<'a, R, P>
         ensures { result.reader ≡ reader }
     {
-        let lines = match to {
-            Some(_) => Lines::new(alloc).ok(),
-            None => None,
-        };
+        let lines = lines_told(alloc, to);
         Explained { reader, to, lines }
     }
 
@@ -186,6 +233,11 @@ impl<'a, R: Source + Drop, P: Print> Explained<'a, R, P> {
 }
 
 impl<'a, R: Source + Drop, P: Print> Source for Explained<'a, R, P> {
+    ghost use Rattle.std.specs.Prelude.{◌≡◌, ◌+◌, ◌≤◌, IfOk, IfSome, length};
+    ghost use Rattle.std.specs.Io.KnownBytes.{ReadConsumes};
+    ghost use Rattle.esx_types.specs.Ends.{call_failures, gave_nothing};
+    ghost use Rattle.esx_explained.specs.Input.{after_read};
+
     ghost remaining = { λ s. R.remaining s.reader };
 
     ghost calls = { λ s. R.calls s.reader };
@@ -196,14 +248,21 @@ impl<'a, R: Source + Drop, P: Print> Source for Explained<'a, R, P> {
 
     ghost asked = { λ s. R.asked s.reader };
 
-    fn read(&mut self, buffer: &mut [u8]) -> Result<usize, SourceFailed> {
+    fn read(&mut self, buffer: &mut [u8]) -> Result<usize, SourceFailed>
+        ensures bound { IfOk result (λ n. n ≤ length buffer.new) }
+        ensures bytes { ReadConsumes (R.remaining self.old.reader) (R.remaining self.new.reader) result buffer.new }
+        ensures calls { R.calls self.new.reader ≡ R.calls self.old.reader + 1 }
+        ensures failures { R.failures self.new.reader ≡ R.failures self.old.reader + call_failures result }
+        ensures empty_reads { R.empty_reads self.new.reader ≡ R.empty_reads self.old.reader + gave_nothing result }
+        ensures asked { R.asked self.new.reader ≡ R.asked self.old.reader + length buffer.old }
+
+        // Where there is somebody to tell, the lines are those of what was read before and of this.
+        ensures lines { IfSome self.old.to (λ to. self.new.lines ≡ after_read self.old.lines result buffer.new) }
+        ensures to { self.new.to ≡ self.old.to }
+    {
         let read = self.reader.read(buffer);
         if let (Ok(count), Some(to), Some(lines)) = (&read, self.to, &mut self.lines) {
-            if *count == 0 {
-                lines.finish(to);
-            } else {
-                lines.look(to, &buffer[..*count]);
-            }
+            lines.look_at(to, &buffer[..*count]);
         }
         read
     }

@@ -231,6 +231,7 @@ impl<'a> fmt::Display for AmissEvent<'a> {
 
     fn fmt<W: fmt::Write>(&self, f: &mut fmt::Formatter<W>) -> fmt::Result {
         match *self {
+            AmissEvent::Missing => write!(f, "E is missing"),
             AmissEvent::NoSpace => write!(f, "no space stands before it"),
             AmissEvent::Unknown { word } => {
                 let told = Told { word };

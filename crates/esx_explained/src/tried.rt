@@ -2,7 +2,7 @@
 
 ghost use Rattle.std.specs.Prelude.{◌≡◌, ◌∷◌, [], ℕ, List, IsTrue, IfSome, IfNone, MatchOption};
 ghost use Rattle.esx_explained.specs.Words.{command_word, is_event};
-ghost use Rattle.esx_explained.specs.Tried.{parts, IsTextOf, IsEventText, IsEventPart, IsAmissEvent, IsAmissPart};
+ghost use Rattle.esx_explained.specs.Tried.{parts, IsTextOf, IsEventText, IsEventPart, IsAmissEvent, IsAmissPart, is_blank};
 
 use crate::amiss::{Amiss, amiss_operands};
 use crate::command::{Command, command_of};
@@ -11,6 +11,8 @@ use esx_reading::Fields;
 /// What is amiss with one of the events that are tried.
 #[derive(Clone, Copy, Debug, PartialEq, Eq)]
 pub enum AmissEvent<'a> {
+    /// Nothing stands there, or nothing but spaces.
+    Missing,
     /// No space stands between it and the semicolon before it.
     NoSpace,
     /// No event has its first word.
@@ -59,10 +61,21 @@ fn text_of(at: usize, part: &str) -> Option<&str>
     part.strip_prefix(' ')
 }
 
+/// Has it nothing but spaces?
+fn is_blank(part: &str) -> bool
+    ensures { result ≡ is_blank part.now }
+{
+    part.as_bytes().iter().all(|byte| *byte == b' ')
+}
+
 /// What is amiss with the part of a text at a place, if anything is.
+#[tactic(auto, using(crate::proofs::LineLemmas::amiss_part_of))]
 pub fn amiss_part(at: usize, part: &str) -> Option<AmissEvent<'_>>
     ensures { MatchOption result (IsEventPart at part.now) (λ e. IsAmissPart at part.now e) }
 {
+    if is_blank(part) {
+        return Some(AmissEvent::Missing);
+    }
     match text_of(at, part) {
         Some(text) => amiss_event(text),
         None => Some(AmissEvent::NoSpace),

@@ -4,7 +4,7 @@ use esx_explained::explained;
 use std::rt::HostRuntime;
 use std::test::Fail;
 
-const TOLD: [(&str, &str); 25] = [
+const TOLD: [(&str, &str); 30] = [
     ("admitt 0", "\"admitt\" is no command; the nearest is admit"),
     (
         "READ 0 1 0 4",
@@ -53,6 +53,11 @@ const TOLD: [(&str, &str); 25] = [
         "admit wants V MIN MAX OVERHEAD SHARES BALLOON [TAU]: \"01\" is no TAU, a number from 0 to 4294967295",
     ),
     ("whatif", "whatif wants E; E; ..: E is missing"),
+    ("whatif ", "whatif, event 1: E is missing"),
+    ("whatif ask 0;", "whatif, event 2: E is missing"),
+    ("whatif ask 0; ", "whatif, event 2: E is missing"),
+    ("whatif ; ask 0", "whatif, event 1: E is missing"),
+    ("whatif ask 0;  ; ask 1", "whatif, event 2: E is missing"),
     (
         "whatif ask 0;ask 1",
         "whatif, event 2: no space stands before it",

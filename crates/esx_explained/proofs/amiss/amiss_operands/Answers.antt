@@ -1,5 +1,4 @@
-use Rattle.std.proofs.Common.{◌≤◌, ◌<◌, ◌∙◌, subst, sym, arith, ℕ, length}
-use Rattle.esx_explained.specs.Operands.{least_of}
+use Rattle.std.proofs.Common.{◌<◌, ◌∙◌, subst, sym, arith, ℕ}
 use Rattle.esx_explained.specs.Amiss.{MayBe, MayBeBefore}
 use Rattle.esx_explained.proofs.LineLemmas.{one_read, all_read, each_more}
 use Rattle.esx_explained.proofs.amiss.amiss_operands.Goals as goal

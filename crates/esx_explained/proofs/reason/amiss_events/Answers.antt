@@ -1,4 +1,4 @@
-use Rattle.std.proofs.Common.{rules, ◌≡◌, ◌∷◌, [], ℕ, List, ◌+◌, ◌<◌, ◌≤◌, length, drop, sym, ap, ◌∙◌, subst, arith, refl}
+use Rattle.std.proofs.Common.{rules, ◌≡◌, ◌∷◌, [], ℕ, List, ◌<◌, length, drop, sym, ◌∙◌, subst, arith, refl}
 use Rattle.esx_explained.specs.Tried.{parts, IsEventPart, AreEventsBefore}
 use Rattle.esx_events.specs.declared.events.TheConstants.{MAX_EVENTS}
 use Rattle.esx_explained.proofs.LineLemmas.{one_read, last_read, each_more, more_parts}
