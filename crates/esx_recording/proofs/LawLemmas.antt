@@ -1,14 +1,15 @@
 -- The lines of a text, one behind the other.
-use Rattle.std.proofs.Common.{◌≡◌, ℕ, Bool, true, false, List, [], ◌∷◌, ◌++◌, ◌<◌, ◌^◌, ◌==◌, if◌then◌else◌, refl, sym, ◌∙◌, ap, append_assoc, arith, codes, decimal}
+use Rattle.std.proofs.Common.{◌≡◌, ℕ, Bool, true, false, List, [], ◌∷◌, ◌++◌, ◌==◌, if◌then◌else◌, refl, sym, ◌∙◌, ap, append_assoc, arith, codes, decimal}
 use Rattle.std.specs.List.{AllByRecursion, filter, flat_map}
 use Rattle.std.proofs.lemmas.List.Elements.{recursion_from_All}
-use Rattle.std.proofs.lemmas.Fmt.{decimal_by_steps}
+use Rattle.std.proofs.lemmas.Bool.{and_parts}
 use Rattle.esx_text.specs.Answers.{unknown_text}
 use Rattle.esx_text.specs.Lines.{HasNoFeed}
 use Rattle.esx_recording.specs.declared.place.Place.{Place}
 use Rattle.esx_recording.specs.declared.place.Place.TheVariants.{Start}
 use Rattle.esx_recording.specs.Laws.{KeepsQuestions, asks}
 use Rattle.esx_recording.specs.Questions.{IsOfOneLine, kept_at, kept_in, line_begun, place_after, question_lines, question_lines_from}
+use Rattle.esx_recording.proofs.ByteLemmas.{decimal_lacks, is_other, lacks}
 use Rattle.esx_recording.proofs.QuestionLemmas.{lines_joined, of_one_line, place_behind_more}
 
 -- no line feed stands in the bytes
@@ -62,17 +63,16 @@ lines_kept (line ∷ ended) rest (here, each) last =
 pub keeps_questions : (text : List ℕ) → KeepsQuestions text
 keeps_questions text ended rest e = rw e.whole (lines_kept ended rest (recursion_from_All HasNoFeed ended e.each) e.last)
 
-lacks_more : (bytes more : List ℕ) → Lacks bytes → Lacks more → Lacks (bytes ++ more)
-lacks_more [] more lacks others = others
-lacks_more (b ∷ bs) more (no_feed, lacks) others = (no_feed, lacks_more bs more lacks others)
+no_feed : is_other 10 10 ≡ true → ⊥
+no_feed e = cc
 
-number_lacks : (n : ℕ) → n < 2 ^ 64 → Lacks (decimal n)
-number_lacks = decimal_by_steps (λ n digits. Lacks digits) (λ n small. (λ e. omega (arith, e), tt)) (λ n digits large lacks. lacks_more digits _ lacks (λ e. omega (arith, e), tt))
+lacks_feeds : (bytes : List ℕ) → lacks 10 bytes ≡ true → Lacks bytes
+lacks_feeds [] h = tt
+lacks_feeds (b ∷ bs) h =
+    let p = and_parts (is_other 10 b) (lacks 10 bs) h in
+    (λ e. no_feed (rw e at p.0), lacks_feeds bs p.1)
 
--- the words before the number
-words_lack : Lacks (codes "? line ")
-words_lack = (λ e. omega (arith, e), (λ e. omega (arith, e), (λ e. omega (arith, e), (λ e. omega (arith, e), (λ e. omega (arith, e), (λ e. omega (arith, e), (λ e. omega (arith, e), tt)))))))
-
-pub keeps_unknown : (number : ℕ) → number < 2 ^ 64 → question_lines (unknown_text number) ≡ unknown_text number
-keeps_unknown number small =
-    of_one_line Start (unknown_text number) (of_one_ended (codes "? line " ++ decimal number) (lacks_more (codes "? line ") (decimal number) words_lack (number_lacks number small)))
+pub keeps_unknown : (number : ℕ) → question_lines (unknown_text number) ≡ unknown_text number
+keeps_unknown number =
+    let text = codes "? line " ++ decimal number in
+    of_one_line Start (unknown_text number) (of_one_ended text (lacks_feeds text (decimal_lacks 10 (λ d small e. omega (arith, e)) number)))

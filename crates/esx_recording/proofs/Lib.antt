@@ -1,3 +1,5 @@
+pub mod ByteLemmas
 pub mod QuestionLemmas
 pub mod RecordingLemmas
 pub mod LawLemmas
+pub mod ReplyLemmas

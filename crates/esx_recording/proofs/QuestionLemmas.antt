@@ -1,11 +1,12 @@
 -- Lines that begin with a question mark, and what is passed on of them.
-use Rattle.std.proofs.Common.{◌≡◌, ℕ, Bool, true, false, List, [], ◌∷◌, ◌++◌, ◌==◌, if◌then◌else◌, refl, sym, ◌∙◌, ap, subst, append_assoc, take, length, arith, suc, zero, eq-eqb, eqb-true}
+use Rattle.std.proofs.Common.{◌≡◌, ℕ, Bool, true, false, List, [], ◌∷◌, ◌++◌, ◌==◌, if◌then◌else◌, refl, sym, ◌∙◌, ap, subst, append_assoc, take, length, arith, suc, zero, eq-eqb}
 use Rattle.std.specs.Io.KnownBytes.{Appends, Keeps}
 use Rattle.std.proofs.Common.{Option, None, Some}
 use Rattle.memchr.specs.Find.{Nowhere, Passes, is_byte}
 use Rattle.esx_recording.specs.declared.place.Place.{Place}
 use Rattle.esx_recording.specs.declared.place.Place.TheVariants.{Start, Question, Other}
 use Rattle.esx_recording.specs.Questions.{IsOfOneLine, behind, kept_at, kept_in, line_begun, place_after, place_behind, question_lines, question_lines_from, within}
+use Rattle.esx_recording.proofs.ByteLemmas.{no_match}
 
 pub place_joined : (place : Place) (text more : List ℕ) → place_after place (text ++ more) ≡ place_after (place_after place text) more
 place_joined place [] more = refl
@@ -31,13 +32,6 @@ stays : (place : Place) (b c : ℕ) → within (within place b) c ≡ within pla
 stays Start b c = stays_begun (b == 63) c
 stays Question b c = refl
 stays Other b c = refl
-
-no_match : (b c : ℕ) → (b ≡ c → ⊥) → (b == c) ≡ false
-no_match b c ne = decided (b == c) refl
-  where
-    decided : (t : Bool) → (b == c) ≡ t → (b == c) ≡ false
-    decided true e = absurd (ne (eqb-true b c e))
-    decided false e = e
 
 goes_on : (place : Place) (b : ℕ) → (b ≡ 10 → ⊥) → behind place b ≡ within place b
 goes_on place b ne = ap (λ t. place_behind t (within place b)) (no_match b 10 ne)

@@ -1,6 +1,8 @@
 pub use Rattle.esx_types.specs.Ends
 pub use Rattle.esx_console.specs.Calls
 pub use Rattle.esx_writing.specs.Writing
+pub use Rattle.esx_replies.specs.Replies
+pub use Rattle.esx_replies.specs.Told
 pub use Rattle.esx_text.specs.Lines
 pub use Rattle.esx_text.specs.Answers
 pub use Rattle.esx_text.specs.Own

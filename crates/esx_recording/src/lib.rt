@@ -1,4 +1,5 @@
-//! A site served as the console serves it, where the session is told at its end, and not the answers.
+//! What a recording is made of: a site that is opened with room to tell its session, a sink that passes on only the lines of
+//! the answers that begin with a question mark, and the session, told at the end.
 #![tactic(auto)]
 
 pub mod laws;
@@ -9,4 +10,4 @@ mod recording;
 mod seen;
 
 pub use questions::{Before, Questions};
-pub use recording::{Made, Recorded, open_with_room, record, tell};
+pub use recording::{Made, Recorded, open_with_room, tell};
