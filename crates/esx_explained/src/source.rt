@@ -213,12 +213,15 @@ pub struct Explained<'a, R: Source + Drop, P> {
 }
 
 impl<'a, R: Source + Drop, P: Print> Explained<'a, R, P> {
-    ghost use Rattle.std.specs.Prelude.{◌≡◌};
+    ghost use Rattle.std.specs.Prelude.{◌≡◌, IfSome};
+    ghost use Rattle.esx_explained.specs.Input.{at_start};
 
     /// Takes the room for a line, where there is somebody to tell. Without `to`, or without memory for that room, nothing
     /// is told.
     pub fn new(alloc: Global, reader: R, to: Option<&'a P>) -> Explained<'a, R, P>
-        ensures { result.reader ≡ reader }
+        ensures reader { result.reader ≡ reader }
+        ensures to { result.to ≡ to.entry }
+        ensures start { IfSome result.lines (λ l. l ≡ at_start) }
     {
         let lines = lines_told(alloc, to);
         Explained { reader, to, lines }

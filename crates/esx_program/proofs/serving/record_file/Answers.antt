@@ -11,6 +11,6 @@ returns g c =
     let e = c.record-recorded.ensures in
     rw c.into_reader.ensures
     (elim c.match-recorded.branch [
-      | in-Ok-ended w ↦ rw w.ended-is (here.0, here.1, (c.in-Ok.site, here.2, w.in-Ok-ended.field-0, rw (w.in-Ok-ended.is, c.new-reader.ensures) at e.ok))
-      | in-Err-ended w ↦ rw w.ended-is (here.0, here.1, (c.in-Ok.site, here.2, rw (w.in-Err-ended.is, c.new-reader.ensures) at e.fault))
+      | in-Ok-ended w ↦ rw w.ended-is (here.0, here.1, (c.in-Ok.site, here.2, w.in-Ok-ended.field-0, rw (w.in-Ok-ended.is, c.new-reader.ensures.reader) at e.ok))
+      | in-Err-ended w ↦ rw w.ended-is (here.0, here.1, (c.in-Ok.site, here.2, rw (w.in-Err-ended.is, c.new-reader.ensures.reader) at e.fault))
     ])

@@ -33,8 +33,8 @@ returns-clause-served g c =
     (source_state g.I.Source.remaining g.I.Source.calls g.I.Source.failures g.I.Source.empty_reads g.I.Source.asked c.serve_site_in_manner-served.new.reader.reader)
     (sink_state g.W.Sink.contents g.W.Sink.waiting g.W.Sink.failures g.W.Sink.flushes c.args.streams.writer)
     (sink_state g.W.Sink.contents g.W.Sink.waiting g.W.Sink.failures g.W.Sink.flushes c.into_writer.result) c.new-outgoing.result.waiting out.waiting
-    (c.new-outgoing.ensures.waiting ∙ c.in-Ok-new.ensures) (rw (given, back, c.new-reader.ensures) at e.ok) (rw (given, back, c.new-reader.ensures) at e.fault)
-    (rw (given, back, c.new-reader.ensures) at e.streams) in
+    (c.new-outgoing.ensures.waiting ∙ c.in-Ok-new.ensures) (rw (given, back, c.new-reader.ensures.reader) at e.ok) (rw (given, back, c.new-reader.ensures.reader) at e.fault)
+    (rw (given, back, c.new-reader.ensures.reader) at e.streams) in
     rw c.into_reader.ensures
     (elim c.match-served.branch [
       | in-Ok-served w ↦ rw w.ended-is (here.0, here.1, (site, here.2, w.in-Ok-served.field-0, rw w.in-Ok-served.is at served))
