@@ -1,16 +1,9 @@
 -- Texts in which a byte stands nowhere.
-use Rattle.std.proofs.Common.{◌≡◌, ◌+◌, ◌/◌, ◌%◌, ◌<◌, ℕ, zero, suc, Bool, true, false, List, [], ◌∷◌, refl, sym, ◌∙◌, ap, decimal, ◌==◌, if◌then◌else◌, arith, eqb-true}
+use Rattle.std.proofs.Common.{◌≡◌, ◌+◌, ◌/◌, ◌%◌, ◌<◌, ℕ, zero, suc, Bool, true, false, List, [], ◌∷◌, refl, sym, ◌∙◌, ap, decimal, ◌==◌, if◌then◌else◌, arith}
 use Rattle.std.specs.Prelude.{not}
 use Rattle.std.specs.List.{list_all}
 use Rattle.std.specs.Fmt.{digits, digits_onto, digit_glyph}
-use Rattle.std.proofs.lemmas.Bool.{and_from, lt-ltb}
-
-pub no_match : (b c : ℕ) → (b ≡ c → ⊥) → (b == c) ≡ false
-no_match b c ne = decided (b == c) refl
-  where
-    decided : (t : Bool) → (b == c) ≡ t → (b == c) ≡ false
-    decided true e = absurd (ne (eqb-true b c e))
-    decided false e = e
+use Rattle.std.proofs.lemmas.Bool.{and_from, lt-ltb, ne_eqb}
 
 abbrev pub is_other : ℕ → ℕ → Bool
 is_other mark b = not (b == mark)
@@ -20,7 +13,7 @@ abbrev pub lacks : ℕ → List ℕ → Bool
 lacks mark = list_all (is_other mark)
 
 pub differs : (mark b : ℕ) → (b ≡ mark → ⊥) → is_other mark b ≡ true
-differs mark b ne = ap not (no_match b mark ne)
+differs mark b ne = ap not (ne_eqb b mark ne)
 
 glyph_is : (d : ℕ) → d < 10 → digit_glyph false d ≡ 48 + d
 glyph_is d small = ap (λ v. if v then 48 + d else 87 + d) (lt-ltb d 10 small)

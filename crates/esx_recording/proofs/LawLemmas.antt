@@ -63,14 +63,14 @@ lines_kept (line ∷ ended) rest (here, each) last =
 pub keeps_questions : (text : List ℕ) → KeepsQuestions text
 keeps_questions text ended rest e = rw e.whole (lines_kept ended rest (recursion_from_All HasNoFeed ended e.each) e.last)
 
-no_feed : is_other 10 10 ≡ true → ⊥
-no_feed e = cc
+feed_is_feed : is_other 10 10 ≡ true → ⊥
+feed_is_feed e = cc
 
 lacks_feeds : (bytes : List ℕ) → lacks 10 bytes ≡ true → Lacks bytes
 lacks_feeds [] h = tt
 lacks_feeds (b ∷ bs) h =
     let p = and_parts (is_other 10 b) (lacks 10 bs) h in
-    (λ e. no_feed (rw e at p.0), lacks_feeds bs p.1)
+    (λ e. feed_is_feed (rw e at p.0), lacks_feeds bs p.1)
 
 pub keeps_unknown : (number : ℕ) → question_lines (unknown_text number) ≡ unknown_text number
 keeps_unknown number =

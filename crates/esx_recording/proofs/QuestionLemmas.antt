@@ -6,7 +6,7 @@ use Rattle.memchr.specs.Find.{Nowhere, Passes, is_byte}
 use Rattle.esx_recording.specs.declared.place.Place.{Place}
 use Rattle.esx_recording.specs.declared.place.Place.TheVariants.{Start, Question, Other}
 use Rattle.esx_recording.specs.Questions.{IsOfOneLine, behind, kept_at, kept_in, line_begun, place_after, place_behind, question_lines, question_lines_from, within}
-use Rattle.esx_recording.proofs.ByteLemmas.{no_match}
+use Rattle.std.proofs.lemmas.Bool.{ne_eqb}
 
 pub place_joined : (place : Place) (text more : List ℕ) → place_after place (text ++ more) ≡ place_after (place_after place text) more
 place_joined place [] more = refl
@@ -34,7 +34,7 @@ stays Question b c = refl
 stays Other b c = refl
 
 goes_on : (place : Place) (b : ℕ) → (b ≡ 10 → ⊥) → behind place b ≡ within place b
-goes_on place b ne = ap (λ t. place_behind t (within place b)) (no_match b 10 ne)
+goes_on place b ne = ap (λ t. place_behind t (within place b)) (ne_eqb b 10 ne)
 
 kept_last : (place : Place) (b : ℕ) → kept_in place (b ∷ []) ++ [] ≡ kept_in place (b ∷ [])
 kept_last Start b = refl
