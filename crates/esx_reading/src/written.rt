@@ -182,6 +182,7 @@ fn many_written_bytes(alloc: Global, field: &str) -> Result<Option<SmallBytes>, 
 }
 
 /// The same bytes as `written_bytes` has. Up to `FEW` of them take no memory.
+#[inline(always)]
 pub fn small_written_bytes(alloc: Global, field: &str) -> Result<Option<SmallBytes>, AllocError>
     ensures found { IfOk result (λ found. IfSome found (λ bytes. IsWritten bytes × (field.now ≡ encode_lower bytes))) }
     ensures only { IfOk result (λ found. IfNone found ((bytes : List ℕ) → IsWritten bytes → field.now ≡ encode_lower bytes → ⊥)) }

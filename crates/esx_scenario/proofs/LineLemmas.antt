@@ -1,6 +1,6 @@
 -- Lines of a trace, field by field.
-use Rattle.std.proofs.Common.{◌≡◌, ◌≢◌, ◌<◌, ◌^◌, ℕ, List, [], ◌∷◌, length, Bool, true, false, Option, Some, None, Result, Ok, Err, refl, sym, codes, decimal, arith, nat_le, nat_lt, le-leb}
-use Rattle.std.specs.Prelude.{◌&&◌, IfOk, IfSome, IfNone}
+use Rattle.std.proofs.Common.{◌≡◌, ◌≢◌, ◌<◌, ◌^◌, ℕ, List, [], ◌∷◌, length, Bool, true, false, Option, Some, None, Result, Ok, Err, refl, sym, ap, ◌∙◌, codes, decimal, arith, nat_le, nat_lt, le-leb}
+use Rattle.std.specs.Prelude.{◌&&◌, if◌then◌else◌, IfOk, IfSome, IfNone}
 use Rattle.std.specs.Str.{bytes_eq}
 use Rattle.std.proofs.lemmas.Bool.{and_parts, lt-ltb}
 use Rattle.std.specs.Str.Parse.{digits_value}
@@ -36,9 +36,6 @@ not_true false h = refl
 
 other_bytes : (xs ys : List ℕ) → xs ≢ ys → bytes_eq xs ys ≡ false
 other_bytes xs ys ne = not_true (bytes_eq xs ys) (λ t. ne ((bytes_eq-Decides xs ys).0 t))
-
-both : (a b : Bool) → a ≡ true → b ≡ true → (a && b) ≡ true
-both a b e h = rw e h
 
 pub number_found : (text : List ℕ) (n : ℕ) → n < 2 ^ 32 → text ≡ decimal n → number_in text ≡ Some n
 unfolding number_in
@@ -86,31 +83,72 @@ pub bytes_read : {E : Type 0} (text : List ℕ) (r : Result (Option (List ℕ)) 
 bytes_read text (Ok read) found only = read_as text read found only
 bytes_read text (Err e) found only = tt
 
-pub read_is : (fields : List (List ℕ)) (page at len : List ℕ) → fields ≡ page ∷ at ∷ len ∷ []
-    → read_in fields ≡ (number_in page >>= λ page. number_in at >>= λ at. number_in len >>= λ len. Some (Read page at len))
+number_by : (text : List ℕ) (v n : ℕ) (b : Bool) → (bytes_eq text (decimal v) && nat_lt v (2 ^ 32)) ≡ b → (if b then Some v else None) ≡ Some n → (n < 2 ^ 32) × (text ≡ decimal n)
+number_by text v n true t e =
+    let p = and_parts (bytes_eq text (decimal v)) (nat_lt v (2 ^ 32)) t in
+    let same : v ≡ n = cc in
+    let small : v < 2 ^ 32 = ltb-true v (2 ^ 32) p.1 in
+    (omega (arith, small, same), (bytes_eq-Decides text (decimal v)).0 p.0 ∙ ap decimal same)
+number_by text v n false t e = cc
+
+-- the number that a field was read as
+number_has : (text : List ℕ) (n : ℕ) → number_in text ≡ Some n → (n < 2 ^ 32) × (text ≡ decimal n)
+unfolding number_in
+number_has text n e = number_by text (digits_value 10 text) n (bytes_eq text (decimal (digits_value 10 text)) && nat_lt (digits_value 10 text) (2 ^ 32)) refl e
+
+pub read_found : (fields : List (List ℕ)) (page at len : ℕ) → page < 2 ^ 32 → at < 2 ^ 32 → len < 2 ^ 32
+    → fields ≡ decimal page ∷ decimal at ∷ decimal len ∷ [] → read_in fields ≡ Some (Read page at len)
 unfolding read_in
-read_is fields page at len e = rw e refl
+read_found fields page at len p a l e =
+    rw e (next_some _ _ page _ (number_found _ page p refl) (next_some _ _ at _ (number_found _ at a refl) (next_some _ _ len _ (number_found _ len l refl) refl)))
 
-pub write_is : (fields : List (List ℕ)) (page at bytes : List ℕ) → fields ≡ page ∷ at ∷ bytes ∷ []
-    → write_in fields ≡ (number_in page >>= λ page. number_in at >>= λ at. bytes_in bytes >>= λ bytes. Some (Write page at bytes))
-unfolding write_in
-write_is fields page at bytes e = rw e refl
+-- three fields that are not all numbers
+read_by : (a b c : List ℕ) (p q r : Option ℕ) → number_in a ≡ p → number_in b ≡ q → number_in c ≡ r
+    → ((page at len : ℕ) → page < 2 ^ 32 → at < 2 ^ 32 → len < 2 ^ 32 → a ∷ b ∷ c ∷ [] ≡ decimal page ∷ decimal at ∷ decimal len ∷ [] → ⊥)
+    → (p >>= λ page. q >>= λ at. r >>= λ len. Some (Read page at len)) ≡ None
+unfolding ◌>>=◌
+read_by a b c None q r ea eb ec nothing = refl
+read_by a b c (Some n) None r ea eb ec nothing = refl
+read_by a b c (Some n) (Some m) None ea eb ec nothing = refl
+read_by a b c (Some n) (Some m) (Some k) ea eb ec nothing =
+    let x = number_has a n ea in let y = number_has b m eb in let z = number_has c k ec in
+    absurd (nothing n m k x.0 y.0 z.0 (rw (x.1, y.1, z.1) refl))
 
-pub read_other : (fields : List (List ℕ)) → ((page at len : List ℕ) → fields ≡ page ∷ at ∷ len ∷ [] → ⊥) → read_in fields ≡ None
+pub read_missing : (fields : List (List ℕ))
+    → ((page at len : ℕ) → page < 2 ^ 32 → at < 2 ^ 32 → len < 2 ^ 32 → fields ≡ decimal page ∷ decimal at ∷ decimal len ∷ [] → ⊥) → read_in fields ≡ None
 unfolding read_in
-read_other [] nothing = refl
-read_other (a ∷ []) nothing = refl
-read_other (a ∷ b ∷ []) nothing = refl
-read_other (a ∷ b ∷ c ∷ []) nothing = absurd (nothing a b c refl)
-read_other (a ∷ b ∷ c ∷ d ∷ rest) nothing = refl
+read_missing [] nothing = refl
+read_missing (a ∷ []) nothing = refl
+read_missing (a ∷ b ∷ []) nothing = refl
+read_missing (a ∷ b ∷ c ∷ []) nothing = read_by a b c (number_in a) (number_in b) (number_in c) refl refl refl nothing
+read_missing (a ∷ b ∷ c ∷ d ∷ rest) nothing = refl
 
-pub write_other : (fields : List (List ℕ)) → ((page at bytes : List ℕ) → fields ≡ page ∷ at ∷ bytes ∷ [] → ⊥) → write_in fields ≡ None
+-- two numbers and what the bytes of a third field are
+pub write_is : (fields : List (List ℕ)) (page at : ℕ) (bytes : List ℕ) → page < 2 ^ 32 → at < 2 ^ 32 → fields ≡ decimal page ∷ decimal at ∷ bytes ∷ []
+    → write_in fields ≡ (bytes_in bytes >>= λ bytes. Some (Write page at bytes))
 unfolding write_in
-write_other [] nothing = refl
-write_other (a ∷ []) nothing = refl
-write_other (a ∷ b ∷ []) nothing = refl
-write_other (a ∷ b ∷ c ∷ []) nothing = absurd (nothing a b c refl)
-write_other (a ∷ b ∷ c ∷ d ∷ rest) nothing = refl
+write_is fields page at bytes p a e =
+    rw e (next_some _ _ page _ (number_found _ page p refl) (next_some _ _ at _ (number_found _ at a refl) refl))
+
+-- three fields of which not both of the first two are numbers
+write_by : (a b c : List ℕ) (p q : Option ℕ) → number_in a ≡ p → number_in b ≡ q
+    → ((page at : ℕ) (bytes : List ℕ) → page < 2 ^ 32 → at < 2 ^ 32 → a ∷ b ∷ c ∷ [] ≡ decimal page ∷ decimal at ∷ bytes ∷ [] → ⊥)
+    → (p >>= λ page. q >>= λ at. bytes_in c >>= λ bytes. Some (Write page at bytes)) ≡ None
+unfolding ◌>>=◌
+write_by a b c None q ea eb nothing = refl
+write_by a b c (Some n) None ea eb nothing = refl
+write_by a b c (Some n) (Some m) ea eb nothing =
+    let x = number_has a n ea in let y = number_has b m eb in
+    absurd (nothing n m c x.0 y.0 (rw (x.1, y.1) refl))
+
+pub write_missing : (fields : List (List ℕ))
+    → ((page at : ℕ) (bytes : List ℕ) → page < 2 ^ 32 → at < 2 ^ 32 → fields ≡ decimal page ∷ decimal at ∷ bytes ∷ [] → ⊥) → write_in fields ≡ None
+unfolding write_in
+write_missing [] nothing = refl
+write_missing (a ∷ []) nothing = refl
+write_missing (a ∷ b ∷ []) nothing = refl
+write_missing (a ∷ b ∷ c ∷ []) nothing = write_by a b c (number_in a) (number_in b) refl refl nothing
+write_missing (a ∷ b ∷ c ∷ d ∷ rest) nothing = refl
 
 pub ask_alone : (fields : List (List ℕ)) → fields ≡ [] → ask_in fields ≡ Some Ask
 unfolding ask_in
@@ -121,25 +159,25 @@ unfolding ask_in
 ask_other [] ne = absurd (ne refl)
 ask_other (a ∷ rest) ne = refl
 
-pub lend_is : (fields : List (List ℕ)) (page : List ℕ) → fields ≡ page ∷ [] → lend_in fields ≡ (number_in page >>= λ page. Some (Lend page))
+pub lend_found : (fields : List (List ℕ)) (page : ℕ) → page < 2 ^ 32 → fields ≡ decimal page ∷ [] → lend_in fields ≡ Some (Lend page)
 unfolding lend_in
-lend_is fields page e = rw e refl
+lend_found fields page p e = rw e (next_some _ _ page _ (number_found _ page p refl) refl)
 
-pub lend_other : (fields : List (List ℕ)) → ((page : List ℕ) → fields ≡ page ∷ [] → ⊥) → lend_in fields ≡ None
+pub lend_missing : (fields : List (List ℕ)) → ((page : ℕ) → page < 2 ^ 32 → fields ≡ decimal page ∷ [] → ⊥) → lend_in fields ≡ None
 unfolding lend_in
-lend_other [] nothing = refl
-lend_other (a ∷ []) nothing = absurd (nothing a refl)
-lend_other (a ∷ b ∷ rest) nothing = refl
+lend_missing [] nothing = refl
+lend_missing (a ∷ []) nothing = next_none (number_in a) _ (number_missing a (λ n small e. nothing n small (rw e refl)))
+lend_missing (a ∷ b ∷ rest) nothing = refl
 
-pub take_back_is : (fields : List (List ℕ)) (page : List ℕ) → fields ≡ page ∷ [] → take_back_in fields ≡ (number_in page >>= λ page. Some (TakeBack page))
+pub take_back_found : (fields : List (List ℕ)) (page : ℕ) → page < 2 ^ 32 → fields ≡ decimal page ∷ [] → take_back_in fields ≡ Some (TakeBack page)
 unfolding take_back_in
-take_back_is fields page e = rw e refl
+take_back_found fields page p e = rw e (next_some _ _ page _ (number_found _ page p refl) refl)
 
-pub take_back_other : (fields : List (List ℕ)) → ((page : List ℕ) → fields ≡ page ∷ [] → ⊥) → take_back_in fields ≡ None
+pub take_back_missing : (fields : List (List ℕ)) → ((page : ℕ) → page < 2 ^ 32 → fields ≡ decimal page ∷ [] → ⊥) → take_back_in fields ≡ None
 unfolding take_back_in
-take_back_other [] nothing = refl
-take_back_other (a ∷ []) nothing = absurd (nothing a refl)
-take_back_other (a ∷ b ∷ rest) nothing = refl
+take_back_missing [] nothing = refl
+take_back_missing (a ∷ []) nothing = next_none (number_in a) _ (number_missing a (λ n small e. nothing n small (rw e refl)))
+take_back_missing (a ∷ b ∷ rest) nothing = refl
 
 pub line_of_none : (all : List (List ℕ)) → all ≡ [] → line_in all ≡ None
 unfolding line_in

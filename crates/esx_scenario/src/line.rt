@@ -1,74 +1,61 @@
 //! Lines of a trace.
 
-ghost use Rattle.std.specs.Prelude.{◌≡◌, ◌∷◌, [], ℕ, List, IfOk, IfSome, IfNone, true};
-ghost use Rattle.esx_scenario.specs.Lines.{IsWithin, ask_in, bytes_in, is_within, lend_in, line_in, line_of, number_in, read_in, take_back_in, write_in};
+ghost use Rattle.std.specs.Prelude.{◌≡◌, ◌<◌, ◌^◌, ◌∷◌, [], ℕ, List, IfOk, IfSome, IfNone, decimal};
+ghost use Rattle.esx_scenario.specs.Lines.{IsWithin, ask_in, bytes_in, is_within, lend_in, line_in, line_of, read_in, take_back_in, write_in};
 
 use crate::plan::TraceLine;
-use esx_reading::{Fields, number_of, written_bytes};
-use esx_types::Bytes;
+use esx_reading::{Fields, small_written_bytes};
+use esx_types::SmallBytes;
 use std::alloc::{AllocError, Global};
 
-/// The number of 32 bits of a field.
-fn number_of_field(field: &str) -> Option<u32>
-    ensures { result ≡ number_in field.now }
+/// The bytes of a field, 1 to `MAX_PAGE` of them.
+fn bytes_of_field(alloc: Global, field: &str) -> Result<Option<SmallBytes>, AllocError>
+    ensures { IfOk result (λ found. found ≡ bytes_in field.now) }
 {
-    let number = number_of(field)?;
-    if number < 1 << 32 {
-        Some(number as u32)
+    small_written_bytes(alloc, field)
+}
+
+/// The number of 32 bits that is the only field left.
+fn only_number(fields: &mut Fields) -> Option<u32>
+    ensures some { IfSome result (λ n. fields.old ≡ decimal n ∷ []) }
+    ensures none { IfNone result ((n : ℕ) → n < 2 ^ 32 → fields.old ≡ decimal n ∷ [] → ⊥) }
+{
+    let number = fields.number()?;
+    if fields.is_empty() {
+        Some(number)
     } else {
         None
     }
-}
-
-/// The bytes of a field, 1 to `MAX_PAGE` of them.
-fn bytes_of_field(alloc: Global, field: &str) -> Result<Option<Bytes>, AllocError>
-    ensures { IfOk result (λ found. found ≡ bytes_in field.now) }
-{
-    written_bytes(alloc, field)
-}
-
-/// The only field that is left.
-fn only_field<'a>(fields: &mut Fields<'a>) -> Option<&'a str>
-    ensures some { IfSome result (λ field. fields.old ≡ field.now ∷ []) }
-    ensures none { IfNone result ((field : List ℕ) → fields.old ≡ field ∷ [] → ⊥) }
-{
-    let field = fields.next()?;
-    if fields.is_empty() { Some(field) } else { None }
-}
-
-/// The only three fields that are left.
-fn three_fields<'a>(fields: &mut Fields<'a>) -> Option<(&'a str, &'a str, &'a str)>
-    ensures some { IfSome result (λ found. fields.old ≡ found.0.now ∷ found.1.now ∷ found.2.now ∷ []) }
-    ensures none { IfNone result ((first second third : List ℕ) → fields.old ≡ first ∷ second ∷ third ∷ [] → ⊥) }
-{
-    let first = fields.next()?;
-    let second = fields.next()?;
-    let third = only_field(fields)?;
-    Some((first, second, third))
 }
 
 /// The operands of `read`.
 fn read_of(fields: &mut Fields) -> Option<TraceLine>
     ensures { result ≡ read_in fields.old }
 {
-    let (page, at, len) = three_fields(fields)?;
-    let page = number_of_field(page)?;
-    let at = number_of_field(at)?;
-    let len = number_of_field(len)?;
-    Some(TraceLine::Read { page, at, len })
+    let (page, at) = fields.pair()?;
+    let len = fields.number()?;
+    if fields.is_empty() {
+        Some(TraceLine::Read { page, at, len })
+    } else {
+        None
+    }
+}
+
+/// Two numbers of 32 bits and the only field behind them.
+fn place_and_digits<'a>(fields: &mut Fields<'a>) -> Option<(u32, u32, &'a str)>
+    ensures some { IfSome result (λ p. (p.0 < 2 ^ 32) × (p.1 < 2 ^ 32) × (fields.old ≡ decimal p.0 ∷ decimal p.1 ∷ p.2.now ∷ [])) }
+    ensures none { IfNone result ((n m : ℕ) (text : List ℕ) → n < 2 ^ 32 → m < 2 ^ 32 → fields.old ≡ decimal n ∷ decimal m ∷ text ∷ [] → ⊥) }
+{
+    let (page, at) = fields.pair()?;
+    let digits = fields.only()?;
+    Some((page, at, digits))
 }
 
 /// The operands of `write`.
 fn write_of(alloc: Global, fields: &mut Fields) -> Result<Option<TraceLine>, AllocError>
     ensures { IfOk result (λ found. found ≡ write_in fields.old) }
 {
-    let Some((page, at, digits)) = three_fields(fields) else {
-        return Ok(None);
-    };
-    let Some(page) = number_of_field(page) else {
-        return Ok(None);
-    };
-    let Some(at) = number_of_field(at) else {
+    let Some((page, at, digits)) = place_and_digits(fields) else {
         return Ok(None);
     };
     match bytes_of_field(alloc, digits)? {
@@ -92,7 +79,7 @@ fn ask_of(fields: &mut Fields) -> Option<TraceLine>
 fn lend_of(fields: &mut Fields) -> Option<TraceLine>
     ensures { result ≡ lend_in fields.old }
 {
-    let page = number_of_field(only_field(fields)?)?;
+    let page = only_number(fields)?;
     Some(TraceLine::Lend { page })
 }
 
@@ -100,7 +87,7 @@ fn lend_of(fields: &mut Fields) -> Option<TraceLine>
 fn take_back_of(fields: &mut Fields) -> Option<TraceLine>
     ensures { result ≡ take_back_in fields.old }
 {
-    let page = number_of_field(only_field(fields)?)?;
+    let page = only_number(fields)?;
     Some(TraceLine::TakeBack { page })
 }
 

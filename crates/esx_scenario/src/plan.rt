@@ -4,7 +4,7 @@ ghost use Rattle.std.specs.Prelude.{◌≡◌};
 ghost use Rattle.esx_types.specs.Ranges.{IsConfig};
 ghost use Rattle.esx_scenario.specs.Plans.{Plan, IsPlan};
 
-use esx_types::{Bytes, Config, Rows, VmId, VmSpec};
+use esx_types::{Config, Rows, SmallBytes, VmId, VmSpec};
 use std::marker::Model;
 
 /// The most turns of a worker.
@@ -27,12 +27,24 @@ pub struct Settings {
 #[derive(Debug, Drop)]
 pub enum TraceLine {
     /// Reads `len` bytes of a page from byte `at` on.
-    Read { page: u32, at: u32, len: u32 },
+    Read {
+        page: u32,
+        at: u32,
+        len: u32,
+    },
     /// Writes bytes into a page from byte `at` on.
-    Write { page: u32, at: u32, bytes: Bytes },
+    Write {
+        page: u32,
+        at: u32,
+        bytes: SmallBytes,
+    },
     Ask,
-    Lend { page: u32 },
-    TakeBack { page: u32 },
+    Lend {
+        page: u32,
+    },
+    TakeBack {
+        page: u32,
+    },
 }
 
 /// A virtual machine of a scenario: its number, what it asks for, and what it does.

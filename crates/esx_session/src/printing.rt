@@ -245,8 +245,6 @@ pub fn print_session(alloc: Global, site: &Config, log: &[Line]) -> Result<Strin
     ensures { IfOk result (λ text. string_bytes text ≡ session_text site.now (map logged log.now)) }
 {
     let bytes = session_bytes::<Brand>(alloc, site, log, Blank::new(4))?;
-    match String::from_utf8(bytes) {
-        Ok(text) => Ok(text),
-        Err(_) => unreachable!(),
-    }
+    // Its bytes are proved to be UTF-8, and are not tested.
+    Ok(unsafe { String::from_utf8_unchecked(bytes) })
 }

@@ -28,12 +28,12 @@ pub fn draw_word(rng: &mut Pcg64) -> u64
     rng.next_word()
 }
 
-/// The generator's next words, so many of them.
+/// The generator's next words, so many of them. Room for all, 8 bytes a word, is asked for before the first is drawn.
 pub fn draw_words(alloc: Global, rng: &mut Pcg64, count: u32) -> Result<Vec<u64>, AllocError>
     ensures words { IfOk result (λ words. words.items ≡ words_of count rng.old) }
     ensures rng { OnOk result (rng.new ≡ after_words count rng.old) }
 {
-    let mut words = Vec::new(alloc);
+    let mut words = Vec::with_capacity(alloc, count as usize)?;
     for _ in 0..count {
         words.push(draw_word(rng))?;
     }

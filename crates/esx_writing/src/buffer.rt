@@ -62,12 +62,17 @@ impl AnswerBuffer {
         self.count = end;
     }
 
-    /// Adds a number where there is room for the longest one.
+    /// Adds a number where there is room for the longest one. One digit is made by itself.
     #[inline(always)]
     pub fn push_number(&mut self, number: u64)
         requires { length self.old + DIGITS ≤ ROOM }
         ensures { self.new ≡ self.old ++ decimal number }
     {
+        if number < 10 {
+            self.bytes[self.count] = b'0' + number as u8;
+            self.count += 1;
+            return;
+        }
         let mut room = [0u8; 2 * DIGITS];
         let start = write_digits(number, &mut room, DIGITS);
         self.bytes[self.count..self.count + DIGITS].copy_from_slice(&room[start..start + DIGITS]);
