@@ -245,9 +245,16 @@ impl Machine {
         equal_page(&self.tables, event)
     }
 
-    /// Reads what an access of a page is to read, so that it is near when the access comes. What it gives means nothing.
-    pub fn look_at(&self, vm: VmId, page: u32) -> u8 {
-        self.tables.look_at(vm, page)
+    /// Reads where a page is, so that this is near when an access comes. What it gives is for `look_at` alone.
+    #[inline(always)]
+    pub fn look_for(&self, vm: VmId, page: u32) -> u32 {
+        self.tables.look_for(vm, page)
+    }
+
+    /// Reads a frame's row and the byte of its page at a place, as an access is to. What it gives means nothing.
+    #[inline(always)]
+    pub fn look_at(&self, frame: u32, at: u32) -> u8 {
+        self.tables.look_at(frame, at)
     }
 
     /// What lets a write to a page go on, or why its virtual machine can make none.

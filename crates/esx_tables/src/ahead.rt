@@ -4,15 +4,22 @@ use crate::tables::SiteTables;
 use esx_types::{MapRow, VmId};
 
 impl SiteTables {
-    /// Reads where a page is, the row of its frame, and its first byte. What it gives means nothing: it is there so that
-    /// nobody leaves the reads out.
-    pub fn look_at(&self, vm: VmId, page: u32) -> u8 {
+    /// Reads where a page is. What it gives is for `look_at` alone: the page's frame, or one that no site has.
+    #[inline(always)]
+    pub fn look_for(&self, vm: VmId, page: u32) -> u32 {
         let Some(row) = self.vm(vm) else {
-            return 0;
+            return u32::MAX;
         };
         match row.page(page) {
-            MapRow::Here { frame } => self.bytes(frame).first().copied().unwrap_or(0),
-            _ => 0,
+            MapRow::Here { frame } => frame,
+            _ => u32::MAX,
         }
+    }
+
+    /// Reads the row of a frame, and the byte of its page at a place. What it gives means nothing: it is there so that nobody
+    /// leaves the reads out.
+    #[inline(always)]
+    pub fn look_at(&self, frame: u32, at: u32) -> u8 {
+        self.bytes(frame).get(at as usize).copied().unwrap_or(0)
     }
 }

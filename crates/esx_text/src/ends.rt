@@ -6,7 +6,7 @@ ghost use Rattle.esx_text.specs.Lines.{EndsAt, HasLines, HasNoFeed};
 use crate::line::line_end;
 use std::marker::Model;
 
-/// How many ends are found at once at most, and for how many lines a site with few frames in use is not asked again.
+/// How many ends are found at once at most, and for how many lines a site with little in use is not asked again.
 pub const LINES: usize = 16;
 
 /// The lines whose ends were found, seen as the list of their lengths.
