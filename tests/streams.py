@@ -254,6 +254,27 @@ def samples(draw):
             yield draw.choice(["rebalance", "table", f"swapout {vm} {word(draw)}", f"tax {draw.choice([0, 50, 99])}", "where"])
 
 
+# Much in use.
+
+def much_in_use(draw):
+    """So many long pages in frames that accesses are looked at ahead: first touches, then runs of accesses to all pages, to the
+    same few and to none, with other lines between them."""
+    size, page = 1200, 4096
+    yield site(size + 60, page, size)
+    yield from opened([(1, size, 1, 1000, 0)])
+
+    def access(number):
+        at = draw.randrange(page - 8)
+        return draw.choice([f"read 0 {number} {at} 8", f"write 0 {number} {at} {draw.getrandbits(64):016x}"])
+
+    yield from map(access, range(size))
+    for _ in range(60):
+        numbers, number = draw.choice([range(size), range(size), range(4), [size]]), draw.randrange(size)
+        yield from [access(draw.choice(numbers)) for _ in range(draw.choice([1, 2, 15, 16, 17, 48]))]
+        yield draw.choice([f"scan 0 {number}", "undo 3", "redo 2", "where", f"page 0 {number}", f"read 9 {number} 0 1",
+                           f"read 0 {number} 4095 1", f"read 0 {number} 4096 1", f"write 0 {number} 0 {'ab' * page}"])
+
+
 # Many machines.
 
 def targets(draw):

@@ -94,6 +94,7 @@ def drawn(seed, times):
     draw = random.Random(seed)
     yield draw, "many contents", streams.many_contents(draw, 17000)
     yield draw, "long prunes", streams.long_prunes(draw, 1500)
+    yield draw, "much in use", streams.much_in_use(draw)
     yield draw, "verbs", streams.verbs(draw, reader.EVENTS, {**reader.OTHERS, **reader.CONSOLE_WORDS})
 
 
