@@ -163,3 +163,90 @@ impl Prints {
         }
     }
 }
+
+#[cfg(test)]
+mod tests {
+    use super::*;
+    use std::test::Fail;
+
+    /// Prints of so many places, none of which waits.
+    fn known(alloc: Global, places: u32) -> Result<Prints, Fail> {
+        let mut prints = Prints::new(alloc)?;
+        'earn: for _question in 0..places {
+            prints.begin(alloc, places);
+        }
+        'pass: for place in 0..places {
+            prints.pass(place);
+        }
+        Ok(prints)
+    }
+
+    #[test]
+    fn begins_once_enough_was_earned(rt: HostRuntime) -> Result<(), Fail> {
+        let alloc = rt.alloc();
+        let mut prints = Prints::new(alloc)?;
+        assert!(rt; !prints.begin(alloc, 48 + 1));
+        assert!(rt; !prints.begin(alloc, 48 + 1));
+        assert!(rt; prints.begin(alloc, 48 + 1));
+        assert_eq!(rt; prints.waiting(), Some(0));
+        assert_eq!(rt; prints.credit(), 72);
+        Ok(())
+    }
+
+    #[test]
+    fn tells_what_was_noted(rt: HostRuntime) -> Result<(), Fail> {
+        let mut prints = known(rt.alloc(), 8)?;
+        assert_eq!(rt; prints.waiting(), None);
+        assert!(rt; !prints.has(&[7; 256]));
+        prints.note(3, &[7; 256]);
+        assert!(rt; prints.has(&[7; 256]));
+        assert!(rt; !prints.has(&[8; 256]));
+        assert!(rt; !prints.has(&[7; 255]));
+        assert!(rt; !prints.has(&[]));
+        Ok(())
+    }
+
+    #[test]
+    fn a_touched_place_waits_until_it_is_noted(rt: HostRuntime) -> Result<(), Fail> {
+        let mut prints = known(rt.alloc(), 8)?;
+        prints.touch(5);
+        prints.touch(2);
+        prints.touch(8);
+        assert_eq!(rt; prints.waiting(), Some(2));
+        prints.note(2, &[1]);
+        assert_eq!(rt; prints.waiting(), Some(5));
+        prints.pass(5);
+        assert_eq!(rt; prints.waiting(), None);
+        Ok(())
+    }
+
+    #[test]
+    fn begins_anew_for_other_places_and_after_many_notes(rt: HostRuntime) -> Result<(), Fail> {
+        let alloc = rt.alloc();
+        let mut prints = known(alloc, 8)?;
+        prints.note(0, &[1]);
+        assert!(rt; prints.begin(alloc, 9));
+        assert_eq!(rt; prints.waiting(), Some(0));
+        assert!(rt; !prints.has(&[1]));
+        prints.pass(0);
+        'notes: for number in 0..50_000u32 {
+            prints.note(1, &number.to_le_bytes());
+        }
+        'earn: for _question in 0..9 {
+            prints.begin(alloc, 9);
+        }
+        assert_eq!(rt; prints.waiting(), Some(0));
+        assert!(rt; !prints.has(&49_999u32.to_le_bytes()));
+        Ok(())
+    }
+
+    #[test]
+    fn looks_are_spent(rt: HostRuntime) -> Result<(), Fail> {
+        let mut prints = known(rt.alloc(), 8)?;
+        'spend: for _look in 0..100 {
+            prints.note(1, &[1]);
+        }
+        assert!(rt; prints.is_spent());
+        Ok(())
+    }
+}

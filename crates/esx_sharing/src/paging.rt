@@ -1,7 +1,9 @@
 //! Pages leave for the swap area.
 
-ghost use Rattle.std.specs.Prelude.{◌≡◌, ◌≢◌, IfOk, IfErr, IfSome};
-ghost use Rattle.esx_types.specs.Frames.{frame_at};
+ghost use Rattle.std.specs.Prelude.{◌≡◌, ◌≢◌, ℕ, IfOk, IfErr, IfSome};
+ghost use Rattle.esx_types.specs.declared.table.Listing.TheVariants.{Unlisted};
+ghost use Rattle.esx_types.specs.Frames.{bytes_of, frame_at};
+ghost use Rattle.esx_types.specs.Listings.{listing_at};
 ghost use Rattle.esx_types.specs.Slots.{least_slot};
 ghost use Rattle.esx_model.specs.event.Paging.{is_too_early};
 ghost use Rattle.esx_changes.specs.Planned.{Plans};
@@ -183,6 +185,21 @@ pub fn leave_frame(
             frame_to_slot(tables, alloc, vm, page, frame)
         }
     }
+}
+
+/// The same, of a page whose bytes no frame has that stands under a key: there is no page to share with.
+pub fn leave_unlike(
+    tables: &SiteTables,
+    alloc: Global,
+    vm: VmId,
+    page: u32,
+    frame: u32,
+) -> Result<Plan, Refusal>
+    requires { (other : ℕ) → listing_at tables.now.listings other ≢ Unlisted
+        → bytes_of (frame_at tables.now.frames other) ≢ bytes_of (frame_at tables.now.frames frame) }
+    ensures { Plans result (leave_frame tables.now vm page frame (frame_at tables.now.frames frame)) }
+{
+    frame_to_slot(tables, alloc, vm, page, frame)
 }
 
 /// The page that a swap-out draws, and its frame; or why it is refused before it looks.
