@@ -1,5 +1,5 @@
 -- What callers cite: where no place waits, a content whose print was not noted is at no place that counts.
-use Rattle.std.proofs.Common.{◌≡◌, ◌≢◌, ℕ, ◌<◌, Bool, true, false, List, length, ap, sym, ◌∙◌, inl, inr}
+use Rattle.std.proofs.Common.{◌≡◌, ◌≢◌, ℕ, ◌<◌, Bool, true, false, List, length, ap, ◌∙◌, inl, inr}
 use Rattle.esx_prints.specs.Prints.{has_print, Covers, NoneWaits}
 
 pub has_none : (counts : ℕ → Bool) (contents : ℕ → List ℕ) (prints : List Bool × List Bool) (bytes : List ℕ) (place : ℕ)

@@ -1,5 +1,5 @@
 -- Where no listed frame has the bytes of a page, it goes to a slot when it leaves its frame.
-use Rattle.std.proofs.Common.{◌≡◌, ◌≢◌, ℕ, Bool, true, false, List, Option, Some, None, refl, sym, ap, ◌∙◌, inl, inr, if◌then◌else◌, ◌&&◌, ◌==◌}
+use Rattle.std.proofs.Common.{◌≡◌, ◌≢◌, ℕ, Bool, true, false, List, Option, Some, None, refl, sym, ap, ◌∙◌, if◌then◌else◌, ◌&&◌, ◌==◌}
 use Rattle.std.specs.List.{position_from}
 use Rattle.std.specs.Str.{bytes_eq}
 use Rattle.std.proofs.lemmas.Slice.Eq.{bytes_eq-Decides}
@@ -15,7 +15,7 @@ use Rattle.esx_lists.proofs.Positions.{first_found}
 use Rattle.esx_model.specs.declared.look.Look.{Look}
 use Rattle.esx_model.specs.declared.look.Look.TheVariants.{Changed, OtherBytes, Nothing}
 use Rattle.esx_model.specs.declared.tables.Tables.{Tables}
-use Rattle.esx_sharing.specs.Sharing.{look_at_shared, look_at_hinted, look_at_hint, look_by_key, look_in}
+use Rattle.esx_sharing.specs.Sharing.{look_at_hinted, look_at_hint, look_by_key, look_in}
 use Rattle.esx_sharing.specs.Paging.{leave_frame, leave_by, to_slot}
 
 -- what a page goes to a slot for
@@ -36,7 +36,7 @@ unlike bytes others other = is_not (bytes_eq bytes others) ((bytes_eq-Decides by
 -- a frame that stands under something
 there : (under : Listing → Bool) (listings : List Listing) (g : ℕ) → under Unlisted ≡ false → position_from under 0 listings ≡ Some g → listing_at listings g ≢ Unlisted
 there under listings g none found = λ unlisted.
-    let passes : under (listing_at listings g) ≡ true = (first_found under listings g Unlisted found).1.0 in
+    let passes : under (listing_at listings g) ≡ true = (first_found under listings g Unlisted found).1 in
     let fails : under (listing_at listings g) ≡ false = ap under unlisted ∙ none in
     cc
 
@@ -48,23 +48,21 @@ by_hint t n page f row bytes short others g (Hinted m q own) differs =
     rw differs (either t n page f row ((m == n) && (q == page)) Nothing (if hint_key others == short then OtherBytes else Changed) refl
     (either t n page f row (hint_key others == short) OtherBytes Changed refl refl))
 
+module _ (t : Tables) (n page f : ℕ) (bytes : List ℕ) (none : (other : ℕ) → listing_at t.listings other ≢ Unlisted → bytes_of (frame_at t.frames other) ≢ bytes) where
+  by_hinted : (hinted : Option ℕ) → position_from (is_hinted_under (hint_key bytes)) 0 t.listings ≡ hinted → Goes t n page f (frames.Private bytes) (look_at_hint t n page bytes (hint_key bytes) hinted)
+  by_hinted None is = refl
+  by_hinted (Some g) is =
+      by_hint t n page f (frames.Private bytes) bytes (hint_key bytes) (bytes_of (frame_at t.frames g)) g (listing_at t.listings g)
+      (unlike bytes (bytes_of (frame_at t.frames g)) (none g (there (is_hinted_under (hint_key bytes)) t.listings g refl is)))
+
+  by_shared : (found : Option ℕ) → position_from (is_shared_under (content_key bytes)) 0 t.listings ≡ found → Goes t n page f (frames.Private bytes) (look_by_key t n page bytes (content_key bytes) found)
+  by_shared None is = by_hinted (position_from (is_hinted_under (hint_key bytes)) 0 t.listings) refl
+  by_shared (Some g) is = rw (unlike bytes (bytes_of (frame_at t.frames g)) (none g (there (is_shared_under (content_key bytes)) t.listings g refl is))) refl
+
 pub leaves_unlike : (t : Tables) (n page f : ℕ) (row : FrameRow) → ((other : ℕ) → listing_at t.listings other ≢ Unlisted → bytes_of (frame_at t.frames other) ≢ bytes_of row)
     → to_slot n page f row (least_slot t.slots) ≡ leave_frame t n page f row
 unfolding look_in
 leaves_unlike t n page f frames.Free none = refl
 leaves_unlike t n page f frames.Overhead none = refl
 leaves_unlike t n page f (frames.Shared count bytes) none = refl
-leaves_unlike t n page f (frames.Private bytes) none =
-    let row = frames.Private bytes in
-    let key = content_key bytes in
-    let short = hint_key bytes in
-    let hint : (hinted : Option ℕ) → position_from (is_hinted_under short) 0 t.listings ≡ hinted → Goes t n page f row (look_at_hint t n page bytes short hinted) = λ hinted is. elim hinted [
-      | None ↦ refl
-      | Some g ↦ by_hint t n page f row bytes short (bytes_of (frame_at t.frames g)) g (listing_at t.listings g)
-          (unlike bytes (bytes_of (frame_at t.frames g)) (none g (there (is_hinted_under short) t.listings g refl is)))
-    ] in
-    let shared : (found : Option ℕ) → position_from (is_shared_under key) 0 t.listings ≡ found → Goes t n page f row (look_by_key t n page bytes key found) = λ found is. elim found [
-      | None ↦ hint (position_from (is_hinted_under short) 0 t.listings) refl
-      | Some g ↦ rw (unlike bytes (bytes_of (frame_at t.frames g)) (none g (there (is_shared_under key) t.listings g refl is))) refl
-    ] in
-    shared (position_from (is_shared_under key) 0 t.listings) refl
+leaves_unlike t n page f (frames.Private bytes) none = by_shared t n page f bytes none (position_from (is_shared_under (content_key bytes)) 0 t.listings) refl

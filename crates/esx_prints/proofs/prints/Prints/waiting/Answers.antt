@@ -1,4 +1,4 @@
-use Rattle.std.proofs.Common.{true, sym, subst, arith, length}
+use Rattle.std.proofs.Common.{true, sym, subst, arith}
 use Rattle.esx_lists.proofs.Positions.{none_passes, first_found}
 use Rattle.esx_prints.specs.Prints.{NoneWaits}
 use Rattle.esx_prints.proofs.prints.Prints.waiting.Goals as goal
