@@ -157,6 +157,21 @@ fn frame_to_slot(
     }
 }
 
+/// A page goes to a slot where no frame that stands under a key has its bytes: there is no page to share with.
+pub fn leave_unlike(
+    tables: &SiteTables,
+    alloc: Global,
+    vm: VmId,
+    page: u32,
+    own: u32,
+) -> Result<Plan, Refusal>
+    requires { (other : ℕ) → listing_at tables.now.listings other ≢ Unlisted
+        → bytes_of (frame_at tables.now.frames other) ≢ bytes_of (frame_at tables.now.frames own) }
+    ensures { Plans result (leave_frame tables.now vm page own (frame_at tables.now.frames own)) }
+{
+    frame_to_slot(tables, alloc, vm, page, own)
+}
+
 /// A page that can be shared is shared; any other goes to a slot. Where nothing stands under a key there is no page to
 /// share with, and its bytes are not hashed.
 pub fn leave_frame(
@@ -170,7 +185,7 @@ pub fn leave_frame(
     ensures { Plans result (leave_frame tables.now vm page frame (frame_at tables.now.frames frame)) }
 {
     if tables.lists_none() {
-        return frame_to_slot(tables, alloc, vm, page, frame);
+        return leave_unlike(tables, alloc, vm, page, frame);
     }
     let found = look_by_frame(tables, vm, page, frame);
     match found.look {
@@ -185,21 +200,6 @@ pub fn leave_frame(
             frame_to_slot(tables, alloc, vm, page, frame)
         }
     }
-}
-
-/// The same, of a page whose bytes no frame has that stands under a key: there is no page to share with.
-pub fn leave_unlike(
-    tables: &SiteTables,
-    alloc: Global,
-    vm: VmId,
-    page: u32,
-    frame: u32,
-) -> Result<Plan, Refusal>
-    requires { (other : ℕ) → listing_at tables.now.listings other ≢ Unlisted
-        → bytes_of (frame_at tables.now.frames other) ≢ bytes_of (frame_at tables.now.frames frame) }
-    ensures { Plans result (leave_frame tables.now vm page frame (frame_at tables.now.frames frame)) }
-{
-    frame_to_slot(tables, alloc, vm, page, frame)
 }
 
 /// The page that a swap-out draws, and its frame; or why it is refused before it looks.

@@ -8,5 +8,5 @@ pub returns : goal.returns
 returns c =
     let t = c.args.tables.now in
     subst (Plans c.frame_to_slot.result)
-    (leaves_unlike t c.args.vm c.args.page c.args.frame (frame_at t.frames c.args.frame) c.requires)
+    (leaves_unlike t c.args.vm c.args.page c.args.own (frame_at t.frames c.args.own) c.requires)
     c.frame_to_slot.ensures
