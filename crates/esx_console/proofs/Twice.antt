@@ -63,6 +63,12 @@ both_heard old new call heard (Ok both) is hears = λ h holds.
     subst P (sym is) (hears h holds, hears h holds)
 both_heard old new call heard (Err e) is hears = tt
 
+-- the same, where what is heard rests on what holds at no error
+pub both_heard_where : {E P : Type 0} (old new : Kept) (call : Call) (heard : Heard) (r : Result (Heard × Heard) E) → IfOk r (λ both. both ≡ (heard, heard)) → IfOk r (λ both. P)
+    → (P → (h : History) → Holds old h → Hears new h call heard) → IfOk r (λ both. (h : History) → Holds old h → Hears new h call both.0 × Hears new h call both.1)
+both_heard_where {E = E} old new call heard (Ok both) is p hears = both_heard {E = E} old new call heard (Ok both) is (hears p)
+both_heard_where old new call heard (Err e) is p hears = tt
+
 -- what is said by the one of two, and the jump of the other
 pub by_copy : (new : Kept) (h : History) (call : Call) (heard copy : Heard) → Hears new h call heard → Hears new h call copy
     → Hears new h call (record { said = copy.said; jumped = heard.jumped })

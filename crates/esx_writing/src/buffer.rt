@@ -1,6 +1,6 @@
 //! What is written, held back in a buffer of fixed size. No memory is taken on the way.
 
-ghost use Rattle.std.specs.Prelude.{◌≡◌, ◌+◌, ◌≤◌, ◌*◌, ◌++◌, [], length, decimal, IfOk, OnOk, OnErr, IsUtf8};
+ghost use Rattle.std.specs.Prelude.{◌≡◌, ◌+◌, ◌<◌, ◌≤◌, ◌*◌, ◌++◌, ◌∷◌, [], length, take, decimal, IfOk, OnOk, OnErr, IsUtf8};
 ghost use Rattle.hex.specs.Hex.{encode_lower};
 ghost use Rattle.esx_writing.specs.Writing.{Writes, Puts, sink_faults};
 
@@ -33,6 +33,52 @@ impl Model for AnswerBuffer {
     ghost invariant = { λ a. (vec_len a.bytes ≡ ROOM) × (a.count ≤ ROOM) };
 }
 
+/// Writes a digit behind the first `count` bytes.
+#[inline(always)]
+fn write_digit(bytes: &mut [u8], count: usize, digit: u8)
+    requires digit { digit < 10 }
+    requires room { count < length bytes.old }
+    ensures { take (count + 1) bytes.new ≡ take count bytes.old ++ (48 + digit) ∷ [] }
+{
+    bytes[count] = b'0' + digit;
+}
+
+/// Writes a number of two digits behind the first `count` bytes.
+#[inline(always)]
+fn write_two_digits(bytes: &mut [u8], count: usize, number: u32)
+    requires least { 10 ≤ number }
+    requires most { number < 100 }
+    requires room { count + 2 ≤ length bytes.old }
+    ensures { take (count + 2) bytes.new ≡ take count bytes.old ++ decimal number }
+{
+    write_digit(bytes, count, (number / 10) as u8);
+    write_digit(bytes, count + 1, (number % 10) as u8);
+}
+
+/// Writes a number of three digits behind the first `count` bytes.
+#[inline(always)]
+fn write_three_digits(bytes: &mut [u8], count: usize, number: u32)
+    requires least { 100 ≤ number }
+    requires most { number < 1000 }
+    requires room { count + 3 ≤ length bytes.old }
+    ensures { take (count + 3) bytes.new ≡ take count bytes.old ++ decimal number }
+{
+    write_two_digits(bytes, count, number / 10);
+    write_digit(bytes, count + 2, (number % 10) as u8);
+}
+
+/// Writes a number of four digits behind the first `count` bytes.
+#[inline(always)]
+fn write_four_digits(bytes: &mut [u8], count: usize, number: u32)
+    requires least { 1000 ≤ number }
+    requires most { number < 10000 }
+    requires room { count + 4 ≤ length bytes.old }
+    ensures { take (count + 4) bytes.new ≡ take count bytes.old ++ decimal number }
+{
+    write_three_digits(bytes, count, number / 10);
+    write_digit(bytes, count + 3, (number % 10) as u8);
+}
+
 impl AnswerBuffer {
     pub fn new(alloc: Global) -> Result<AnswerBuffer, AllocError>
         ensures { IfOk result (λ b. b ≡ []) }
@@ -62,7 +108,7 @@ impl AnswerBuffer {
         self.count = end;
     }
 
-    /// Adds a number where there is room for the longest one. One digit is made by itself.
+    /// Adds a number where there is room for the longest. Up to four digits are made one by one.
     #[inline(always)]
     pub fn push_number(&mut self, number: u64)
         requires { length self.old + DIGITS ≤ ROOM }
@@ -71,6 +117,21 @@ impl AnswerBuffer {
         if number < 10 {
             self.bytes[self.count] = b'0' + number as u8;
             self.count += 1;
+            return;
+        }
+        if number < 100 {
+            write_two_digits(&mut self.bytes, self.count, number as u32);
+            self.count += 2;
+            return;
+        }
+        if number < 1000 {
+            write_three_digits(&mut self.bytes, self.count, number as u32);
+            self.count += 3;
+            return;
+        }
+        if number < 10000 {
+            write_four_digits(&mut self.bytes, self.count, number as u32);
+            self.count += 4;
             return;
         }
         let mut room = [0u8; 2 * DIGITS];

@@ -1,14 +1,15 @@
 //! Calls that are heard twice. A copy that fails could take no change back, so that of what is said to an event or a mark
 //! is had before the change stays.
 
-ghost use Rattle.std.specs.Prelude.{◌≡◌, IfOk, OnErr};
+ghost use Rattle.std.specs.Prelude.{◌≡◌, ◌≢◌, IfOk, OnErr, false};
 ghost use Rattle.esx_model.specs.History.{History};
 ghost use Rattle.esx_events.specs.declared.call.Call.TheVariants as calls;
+ghost use Rattle.esx_events.specs.declared.call.Said.TheVariants as said;
 ghost use Rattle.esx_journal.specs.Journal.{Holds};
 ghost use Rattle.esx_console.specs.Hearing.{Hears, IsShort};
 
 use crate::hearing::{Heard, answered, hear, unchanged};
-use esx_events::{Call, Event, Name, Said};
+use esx_events::{Call, Event, Name, Refusal, Said};
 use esx_journal::Journal;
 use std::alloc::{AllocError, Global};
 
@@ -37,6 +38,17 @@ fn with_copy(heard: Heard) -> Result<(Heard, Heard), AllocError>
     Ok((heard, copy))
 }
 
+/// What is heard of an event or a mark that was refused, twice. It is made anew, since a copy would wait for what was just
+/// written.
+#[inline(always)]
+fn unchanged_twice(refusal: Refusal) -> Result<(Heard, Heard), AllocError>
+    ensures value { IfOk result (λ both. both ≡ (record { said = said.Refused refusal; jumped = false }, record { said = said.Refused refusal; jumped = false })) }
+    ensures other { IfOk result (λ both. refusal ≢ Refusal.OutOfMemory) }
+    ensures memory { OnErr result (refusal ≡ Refusal.OutOfMemory) }
+{
+    Ok((unchanged(refusal)?, unchanged(refusal)?))
+}
+
 fn event_twice(journal: &mut Journal, event: &Event) -> Result<(Heard, Heard), AllocError>
     ensures ok { IfOk result (λ both. (h : History) → Holds journal.old h → Hears journal.new h (calls.Do event.now) both.0 × Hears journal.new h (calls.Do event.now) both.1) }
     ensures err { (h : History) → Holds journal.old h → OnErr result (journal.new ≡ journal.old) }
@@ -46,7 +58,7 @@ fn event_twice(journal: &mut Journal, event: &Event) -> Result<(Heard, Heard), A
             answered(Said::Done { answer }),
             answered(Said::Done { answer: copy }),
         )),
-        Err(refusal) => with_copy(unchanged(refusal)?),
+        Err(refusal) => unchanged_twice(refusal),
     }
 }
 
@@ -62,7 +74,7 @@ fn mark_twice(journal: &mut Journal, name: &Name) -> Result<(Heard, Heard), Allo
             answered(Said::Marked { name: said, node }),
             answered(Said::Marked { name: copy, node }),
         )),
-        Err(refusal) => with_copy(unchanged(refusal)?),
+        Err(refusal) => unchanged_twice(refusal),
     }
 }
 

@@ -17,8 +17,8 @@ write_digits-start-requires c = (length-decimal-le 20 c.args.number (omega arith
 
 pub returns : goal.returns
 returns c =
-    let within : c.self.inside.count ≤ length c.deref_mut.result.now = omega (arith, c.deref_mut.ensures.len, c.self.invariant) in
-    let fits : c.self.inside.count + 20 ≤ c.self.inside.bytes.len = omega (arith, c.requires, c.self.invariant, ap length c.self.view_is, length-take-le c.self.inside.count c.deref_mut.result.now within, ap length (ap (take c.self.inside.count) c.deref_mut.ensures.value)) in
-    digits_held c.deref_mut.result.now _ _ _ _ _ (decimal c.args.number) c.self.inside.count c.write_digits-start.result _ within c.copy_from_slice.ensures.after
+    let within : c.self.inside.count ≤ length c.deref_mut-2.result.now = omega (arith, c.deref_mut-2.ensures.len, c.self.invariant) in
+    let fits : c.self.inside.count + 20 ≤ c.self.inside.bytes.len = omega (arith, c.requires, c.self.invariant, ap length c.self.view_is, length-take-le c.self.inside.count c.deref_mut-2.result.now within, ap length (ap (take c.self.inside.count) c.deref_mut-2.ensures.value)) in
+    digits_held c.deref_mut-2.result.now _ _ _ _ _ (decimal c.args.number) c.self.inside.count c.write_digits-start.result _ within c.copy_from_slice.ensures.after
     c.write_digits-start.ensures.written c.write_digits-start.ensures.start fits
-    ∙ ap (λ v. v ++ decimal c.args.number) (ap (take c.self.inside.count) c.deref_mut.ensures.value ∙ c.self.view_is)
+    ∙ ap (λ v. v ++ decimal c.args.number) (ap (take c.self.inside.count) c.deref_mut-2.ensures.value ∙ c.self.view_is)
