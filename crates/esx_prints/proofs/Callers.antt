@@ -1,4 +1,4 @@
--- What callers cite: where no place waits, a content whose print was not noted is at no place that counts.
+-- What callers cite: where no known place waits, a content whose print was not noted is at no known place that counts.
 use Rattle.std.proofs.Common.{◌≡◌, ◌≢◌, ℕ, ◌<◌, Bool, true, false, List, length, ap, ◌∙◌, inl, inr}
 use Rattle.esx_prints.specs.Prints.{has_print, Covers, NoneWaits}
 

@@ -8,23 +8,24 @@ use std::alloc::{AllocError, Global};
 use std::hash::{FoldHasher, Hasher};
 use std::marker::Model;
 
-/// How many prints there are.
+/// How many prints there are, of the 17 bits that `print` takes.
 const PRINTS: usize = 131072;
 
-/// After so many notes all is begun anew, so that few contents have the print of another.
+/// After so many notes all is begun anew: until then at most one content in four has a print that another left.
 const NOTES: u32 = 32768;
 
 /// What is earned at each question, in looks at places that do not count.
 const EARNED: u32 = 24;
 
-/// What a note takes.
+/// What a note takes of it.
 const NOTE: u32 = 4;
 
-/// Contents at places, of which each that counts was noted by its print or waits for it. It tells of a content that no
-/// place that counts has it, where none waits and its print was not noted; where it was, another may have the same.
+/// Contents at places, of which each that counts was noted by its print or waits for it; a place that is not known
+/// waits. Where no known place waits, a content whose print was not noted is at no known place that counts; one whose
+/// print was noted may be at one, or have the print of another.
 ///
-/// A print is some bits of a hash that is fast, and not one that nobody can make collide. What a question may take is
-/// earned by the questions before it.
+/// A print is some bits of a hash that is fast, and not of one that nobody can make collide. Each question earns some
+/// looks; it is for who looks to stop where none is left.
 #[derive(Drop)]
 pub struct Prints {
     waiting: FreeIndex,
@@ -68,8 +69,8 @@ impl Prints {
         })
     }
 
-    /// A question about so many places begins: is all known that it needs? The memory for it is taken once enough was
-    /// earned to look at each place; where that is refused nothing is known.
+    /// A question about so many places begins: are these the places that are known? Where they are not, or much was noted,
+    /// all is begun anew, once as many looks were earned; where memory is refused for it all stays as it was.
     pub fn begin(&mut self, alloc: Global, places: u32) -> bool
         ensures covers { (counts : ℕ → Bool) (contents : ℕ → List ℕ) → Covers counts contents self.old → Covers counts contents self.new }
         ensures places { result ≡ true → length self.new.0 ≡ places }
@@ -116,12 +117,12 @@ impl Prints {
         }
     }
 
-    /// Is what was earned used up?
+    /// Is no look left of those that were earned?
     pub fn is_spent(&self) -> bool {
         self.credit == 0
     }
 
-    /// What was earned, and not used.
+    /// How many looks are left.
     pub fn credit(&self) -> u32 {
         self.credit
     }
