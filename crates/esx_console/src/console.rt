@@ -150,13 +150,15 @@ impl<L: Log> Console<L> {
         self.machine().book()
     }
 
-    /// Reads where a page is, so that this is near when an access comes. What it gives is for `look_at` alone.
+    /// Reads where a page is, any page of any number, so that this is near when an access comes. What it gives is for
+    /// `look_at` alone: the page's frame, or `u32::MAX` where it is in none.
     #[inline(always)]
     pub fn look_for(&self, vm: VmId, page: u32) -> u32 {
         self.machine().look_for(vm, page)
     }
 
-    /// Reads a frame's row and the byte of its page at a place, as an access is to. What it gives means nothing.
+    /// Reads a frame's row and the byte of its page that stands so many bytes behind its first, or 0 where there is none,
+    /// as an access is to: any numbers may be asked for. What it gives means nothing.
     #[inline(always)]
     pub fn look_at(&self, frame: u32, at: u32) -> u8 {
         self.machine().look_at(frame, at)

@@ -7,6 +7,7 @@ use Rattle.esx_index.specs.contracts.free.FreeIndex as FreeIndex
 use Rattle.esx_index.proofs.free.FreeIndex.TheLaws.TheKnot as Knot
 use Rattle.esx_frames.specs.contracts.frames.FrameTable as FrameTable
 use Rattle.esx_swap.specs.contracts.slots.Slots as Slots
+use Rattle.esx_prints.specs.contracts.prints.Prints as Prints
 use Rattle.esx_tables.specs.contracts.vm_table.VmTable as VmTable
 use Rattle.esx_tables.specs.contracts.tables.SiteTables as SiteTables
 use Rattle.esx_tables.specs.contracts.change.Change as Change
@@ -51,6 +52,12 @@ slots_send = search (index_send, sendable, below.crosses) depth 60 fits 8000
 slots_sync : IsSync Slots.the_row
 slots_sync = search (index_sync, sendable, below.crosses) depth 60 fits 8000
 
+prints_send : IsSend Prints.the_row
+prints_send = search (index_send, sendable, below.crosses) depth 60 fits 8000
+
+prints_sync : IsSync Prints.the_row
+prints_sync = search (index_sync, sendable, below.crosses) depth 60 fits 8000
+
 vm_send : IsSend VmTable.the_row
 vm_send = search (sendable, below.crosses) depth 60 fits 8000
 
@@ -58,10 +65,10 @@ vm_sync : IsSync VmTable.the_row
 vm_sync = search (sendable, below.crosses) depth 60 fits 8000
 
 tables_send : IsSend SiteTables.the_row
-tables_send = search (index_send, frames_send, slots_send, vm_send, sendable, below.crosses) depth 60 fits 8000
+tables_send = search (index_send, frames_send, slots_send, prints_send, vm_send, sendable, below.crosses) depth 60 fits 8000
 
 tables_sync : IsSync SiteTables.the_row
-tables_sync = search (index_sync, frames_sync, slots_sync, vm_sync, sendable, below.crosses) depth 60 fits 8000
+tables_sync = search (index_sync, frames_sync, slots_sync, prints_sync, vm_sync, sendable, below.crosses) depth 60 fits 8000
 
 change_send : IsSend Change.the_row
 change_send = search (vm_send, sendable, below.crosses) depth 60 fits 8000

@@ -1,10 +1,10 @@
 -- A hash value taken on from group to group, and the end of a message with its padding.
 use Rattle.std.proofs.Common.{◌≡◌, ℕ, zero, suc, ◌+◌, ◌-◌, ◌*◌, ◌/◌, ◌%◌, ◌^◌, ◌<◌, ◌≤◌, List, [], ◌∷◌, ◌++◌, length, take, drop, replicate, slice_index, slice_set, arith, refl, sym, ap, ◌∙◌, length-append, length-drop}
 use Rattle.std.proofs.Math.Seq.{take-append-add}
-use Rattle.std.proofs.lemmas.List.{append_assoc, drop-append-le, drop-drop, drop-replicate, length-take-le, length-replicate, set_at, take-append-drop, take-replicate}
+use Rattle.std.proofs.lemmas.List.{append_assoc, drop-append-le, drop-drop, drop-replicate, length-take-le, length-replicate, set_at, take_all, take-append-drop, take-replicate}
 use Rattle.std.proofs.lemmas.Slice.{take-put_mid}
 use Rattle.std.specs.Int.{w32, w64, from_be_bytes, to_be_bytes}
-use Rattle.sha2.specs.Sha256.{digest_bytes, final_hash, hash_after, padded_message, padding}
+use Rattle.sha2.specs.Sha256.{compress, digest_bytes, final_hash, hash_after, padded_message, padding}
 use Rattle.sha2.proofs.Absorbing256.{hash_after-append}
 use Rattle.esx_formulas.specs.Key.{from_bytes}
 use borrow.Rule.Slice.PartMut.{put_mid}
@@ -21,10 +21,15 @@ hash_after-more h p m (suc n) =
     rw (e, hash_after-more h p m n, drop-drop (n * 64) (m * 64) p, at) refl
 
 -- only the blocks that are counted are read
-hash_after-take : (h p : List ℕ) (k n : ℕ) → n * 64 ≤ k → k ≤ length p → hash_after h (take k p) n ≡ hash_after h p n
+pub hash_after-take : (h p : List ℕ) (k n : ℕ) → n * 64 ≤ k → k ≤ length p → hash_after h (take k p) n ≡ hash_after h p n
 hash_after-take h p k n fits le =
     let long : n * 64 ≤ length (take k p) = omega (arith, length-take-le k p le) in
     sym (hash_after-append h (take k p) (drop k p) n long) ∙ ap (λ (l : List ℕ). hash_after h l n) (take-append-drop k p)
+
+-- a block alone
+pub one_block : (h b : List ℕ) → length b ≡ 64 → compress h b ≡ hash_after h b 1
+unfolding hash_after
+one_block h b long = ap (compress h) (sym (take_all 64 b (omega arith)))
 
 -- one more group of four blocks
 pub group_more : (h p s : List ℕ) (i a w : ℕ) → a ≡ 256 * i → w ≡ 256 → a + 256 ≤ length p → s ≡ hash_after h p (4 * i)
@@ -37,17 +42,16 @@ group_more h p s i a w ea ew fits held =
     let whole : hash_after (hash_after h p (4 * i)) (drop (4 * i * 64) p) 4 ≡ hash_after h p (4 * i + 4) = sym (hash_after-more h p (4 * i) 4) in
     rw (ew, first, held, at, whole, next) refl
 
--- some of the first four blocks
-pub first_blocks : (s p : List ℕ) (n : ℕ) → n ≤ 4 → 256 ≤ length p → hash_after s (take 256 p) n ≡ hash_after s p n
-first_blocks s p n few fits = hash_after-take s p 256 n (omega arith) fits
-
 -- the first four blocks, and one after them
-pub five_blocks : (s p : List ℕ) (n : ℕ) → n ≡ 5 → length p ≡ 512 → hash_after (hash_after s (take 256 p) 4) (take 256 (drop 256 p)) 1 ≡ hash_after s p n
+pub five_blocks : (s p : List ℕ) (n : ℕ) → n ≡ 5 → length p ≡ 512
+    → hash_after (hash_after s (take 256 p) 4) (take 64 (drop 256 p)) 1 ≡ hash_after s p n
 five_blocks s p n e long =
-    let rest : 256 ≤ length (drop 256 p) = omega (arith, length-drop 256 p) in
-    let first : hash_after s (take 256 p) 4 ≡ hash_after s p 4 = first_blocks s p 4 (omega arith) (omega arith) in
-    let second : hash_after (hash_after s p 4) (take 256 (drop 256 p)) 1 ≡ hash_after (hash_after s p 4) (drop 256 p) 1 = first_blocks (hash_after s p 4) (drop 256 p) 1 (omega arith) rest in
-    rw (e, first, second) (sym (hash_after-more s p 4 1))
+    let h : List ℕ = hash_after s p 4 in
+    let q : List ℕ = drop 256 p in
+    let rest : 64 ≤ length q = omega (arith, length-drop 256 p) in
+    let four : hash_after s (take 256 p) 4 ≡ h = hash_after-take s p 256 4 (omega arith) (omega arith) in
+    let fifth : hash_after h (take 64 q) 1 ≡ hash_after h q 1 = hash_after-take h q 64 1 (omega arith) rest in
+    rw (e, four, fifth) (sym (hash_after-more s p 4 1))
 
 -- the hash value of a message, from that of its groups and its end
 pub whole_message : (h m rest tail s : List ℕ) (g n : ℕ) → s ≡ hash_after h m (4 * g) → 256 * g ≤ length m → rest ≡ drop (256 * g) m

@@ -4,6 +4,7 @@ ghost use Rattle.std.specs.Prelude.{◌≡◌, ◌+◌, ◌*◌, ◌/◌, ◌%�
 ghost use Rattle.sha2.specs.Sha256.{final_hash, hash_after, initial_hash_256, padding};
 ghost use Rattle.esx_formulas.specs.Key.{content_key};
 
+use crate::block::schedule;
 use crate::lanes::schedules;
 use crate::rounds::compress;
 
@@ -30,6 +31,15 @@ fn absorb(state: &mut [u32; 8], sums: &mut [[u32; 4]; 64], blocks: &[u8], count:
     }
 }
 
+/// Takes in one block.
+fn absorb_one(state: &mut [u32; 8], sums: &mut [[u32; 4]; 64], block: &[u8])
+    requires { length block.now ≡ 64 }
+    ensures { state.new ≡ hash_after state.old block.now 1 }
+{
+    schedule(block, sums);
+    compress(state, sums, 0);
+}
+
 /// The end of a message of `total` bytes that has this rest after its groups of four blocks, with its padding.
 fn padded(rest: &[u8], total: u64) -> [u8; 512]
     requires short { length rest.now < 256 }
@@ -50,11 +60,13 @@ fn absorb_tail(state: &mut [u32; 8], sums: &mut [[u32; 4]; 64], tail: &[u8; 512]
     requires { count ≤ 5 }
     ensures { state.new ≡ hash_after state.old tail.now count }
 {
-    if count <= 4 {
+    if count == 1 {
+        absorb_one(state, sums, &tail[..64]);
+    } else if count <= 4 {
         absorb(state, sums, &tail[..256], count);
     } else {
         absorb(state, sums, &tail[..256], 4);
-        absorb(state, sums, &tail[256..], 1);
+        absorb_one(state, sums, &tail[256..320]);
     }
 }
 

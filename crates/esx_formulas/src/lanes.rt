@@ -10,7 +10,7 @@ use crate::rounds::ROUND_CONSTANTS;
 use std::simd::u32x4;
 
 #[inline(always)]
-fn word_at(bytes: &[u8], at: usize) -> u32
+pub(crate) fn word_at(bytes: &[u8], at: usize) -> u32
     requires { at + 4 ≤ length bytes.now }
     ensures { result ≡ word_at bytes.now at }
 {

@@ -4,6 +4,7 @@
 #![tactic(auto)]
 
 pub mod activity;
+mod block;
 mod digest;
 #[cfg(test)]
 mod digest_tests;

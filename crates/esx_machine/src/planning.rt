@@ -13,7 +13,7 @@ ghost use Rattle.esx_plans.specs.plan.Event.{ArePlannable, plan_of};
 use esx_events::{Event, Refusal};
 use esx_plans::Plan;
 use esx_plans::plan::event::plan_event;
-use esx_sharing::paging::{leave_frame, leaving_page, plan_swap_out};
+use esx_sharing::paging::{leave_frame, leave_unlike, leaving_page, plan_swap_out};
 use esx_sharing::sharing::{scan_frame, scanned_frame};
 use esx_tables::SiteTables;
 use esx_types::{Config, Level, VmId};
@@ -44,20 +44,18 @@ fn scan_with_key(
 }
 
 /// Keeps the key of a page that is going to be looked for before it goes to the least slot, and makes room for it there,
-/// so that it goes along. Where nothing stands under a key no page is looked for.
+/// so that it goes along.
 fn keep_leaving_key(tables: &mut SiteTables, frame: u32)
     ensures { tables.new ≡ tables.old }
 {
-    if tables.lists_none() {
-        return;
-    }
     tables.learn_key(frame);
     if let Some(slot) = tables.least_slot() {
         tables.make_key_room(slot);
     }
 }
 
-/// The plan of a swap-out, where pages have `length` bytes. Its page is drawn once; the key of a long one is kept.
+/// The plan of a swap-out, where pages have `length` bytes. Its page is drawn once. That of a long one is hashed only where
+/// a frame that stands under a key may have the same bytes, and its key is kept then.
 fn swap_out_with_key(
     tables: &mut SiteTables,
     alloc: Global,
@@ -75,7 +73,10 @@ fn swap_out_with_key(
     let Some((page, frame)) = leaving_page(tables, level, vm, word) else {
         return plan_swap_out(tables, alloc, level, vm, word);
     };
-    if KEY_GOES_ALONG_FROM <= length {
+    if KEY_GOES_ALONG_FROM <= length && !tables.lists_none() {
+        if !tables.may_be_listed(alloc, frame) {
+            return leave_unlike(tables, alloc, vm, page, frame);
+        }
         keep_leaving_key(tables, frame);
     }
     leave_frame(tables, alloc, vm, page, frame)

@@ -1,7 +1,9 @@
 //! Pages leave for the swap area.
 
-ghost use Rattle.std.specs.Prelude.{◌≡◌, ◌≢◌, IfOk, IfErr, IfSome};
-ghost use Rattle.esx_types.specs.Frames.{frame_at};
+ghost use Rattle.std.specs.Prelude.{◌≡◌, ◌≢◌, ℕ, IfOk, IfErr, IfSome};
+ghost use Rattle.esx_types.specs.declared.table.Listing.TheVariants.{Unlisted};
+ghost use Rattle.esx_types.specs.Frames.{bytes_of, frame_at};
+ghost use Rattle.esx_types.specs.Listings.{listing_at};
 ghost use Rattle.esx_types.specs.Slots.{least_slot};
 ghost use Rattle.esx_model.specs.event.Paging.{is_too_early};
 ghost use Rattle.esx_changes.specs.Planned.{Plans};
@@ -155,6 +157,21 @@ fn frame_to_slot(
     }
 }
 
+/// A page goes to a slot where no frame that stands under a key has its bytes: there is no page to share with.
+pub fn leave_unlike(
+    tables: &SiteTables,
+    alloc: Global,
+    vm: VmId,
+    page: u32,
+    own: u32,
+) -> Result<Plan, Refusal>
+    requires { (other : ℕ) → listing_at tables.now.listings other ≢ Unlisted
+        → bytes_of (frame_at tables.now.frames other) ≢ bytes_of (frame_at tables.now.frames own) }
+    ensures { Plans result (leave_frame tables.now vm page own (frame_at tables.now.frames own)) }
+{
+    frame_to_slot(tables, alloc, vm, page, own)
+}
+
 /// A page that can be shared is shared; any other goes to a slot. Where nothing stands under a key there is no page to
 /// share with, and its bytes are not hashed.
 pub fn leave_frame(
@@ -168,7 +185,7 @@ pub fn leave_frame(
     ensures { Plans result (leave_frame tables.now vm page frame (frame_at tables.now.frames frame)) }
 {
     if tables.lists_none() {
-        return frame_to_slot(tables, alloc, vm, page, frame);
+        return leave_unlike(tables, alloc, vm, page, frame);
     }
     let found = look_by_frame(tables, vm, page, frame);
     match found.look {

@@ -4,3 +4,4 @@ pub mod Kept
 pub mod Summed
 pub mod Copied
 pub mod Promised
+pub mod Noted

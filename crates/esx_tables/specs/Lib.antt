@@ -10,3 +10,4 @@ pub mod Fields
 pub mod Changes
 pub mod Sizes
 pub mod Kept
+pub mod Listed

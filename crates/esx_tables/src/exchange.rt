@@ -4,15 +4,15 @@ ghost use Rattle.std.specs.Prelude.{◌≡◌, ◌<◌, IfSome, length, not, rev
 ghost use Rattle.esx_types.specs.Slots.{held_bytes, is_empty, slot_at};
 ghost use Rattle.esx_formulas.specs.Key.{content_key};
 ghost use Rattle.esx_tables.specs.Changes.{slots_traded, traded, exchanged, in_order};
-ghost use Rattle.esx_tables.specs.declared.change.Change.TheVariants.{FrameAt, ListingAt, FrameWithSlot, OfVm};
+ghost use Rattle.esx_tables.specs.declared.change.Change.TheVariants.{FrameAt, MarkAt, BytesAt, ListingAt, FrameWithSlot, OfVm};
 ghost use Rattle.esx_tables.specs.declared.change.VmPart.TheVariants.{PageAt};
 
 use crate::change::Change;
 use crate::record::Record;
 use crate::tables::SiteTables;
-use esx_frames::FrameTable;
+use esx_frames::{FrameTable, Mark};
 use esx_swap::Slots;
-use esx_types::{FrameRow, Listing, MapRow, SlotRow, VmId};
+use esx_types::{FrameRow, Listing, MapRow, SlotRow, SmallBytes, VmId};
 
 impl SiteTables {
     /// Makes a change, and leaves in it what leads back. Where there is no such place nothing changes.
@@ -23,12 +23,12 @@ impl SiteTables {
     {
         match change {
             Change::FrameAt { frame, row } => self.trade_frame(*frame, row),
-            Change::MarkAt { frame, mark } => self.frames.trade_mark(*frame, mark),
+            Change::MarkAt { frame, mark } => self.trade_mark(*frame, mark),
             Change::BytesAt {
                 frame,
                 offset,
                 bytes,
-            } => self.frames.trade_bytes(*frame, *offset, bytes),
+            } => self.trade_bytes(*frame, *offset, bytes),
             Change::ListingAt { frame, listing } => self.trade_listing(*frame, listing),
             Change::SlotAt { slot, row } => self.slots.trade(*slot, row),
             Change::FrameWithSlot { frame, slot } => self.trade_frame_with_slot(*frame, *slot),
@@ -44,7 +44,30 @@ impl SiteTables {
         ensures tables { self.new ≡ (traded self.old (FrameAt frame row.old)).0 }
         ensures row { FrameAt frame row.new ≡ (traded self.old (FrameAt frame row.old)).1 }
     {
+        self.prints.touch(frame);
         self.frames.trade(frame, row);
+    }
+
+    /// Trades the mark of a page in a frame. Where no page is nothing changes.
+    #[inline(always)]
+    #[tactic(auto, unfolding(crate::specs::Changes::traded))]
+    fn trade_mark(&mut self, frame: u32, mark: &mut Mark)
+        ensures tables { self.new ≡ (traded self.old (MarkAt frame mark.old)).0 }
+        ensures mark { MarkAt frame mark.new ≡ (traded self.old (MarkAt frame mark.old)).1 }
+    {
+        self.prints.touch(frame);
+        self.frames.trade_mark(frame, mark);
+    }
+
+    /// Trades bytes of a page in a frame. Where no page is, or where they do not fit, nothing changes.
+    #[inline(always)]
+    #[tactic(auto, unfolding(crate::specs::Changes::traded))]
+    fn trade_bytes(&mut self, frame: u32, offset: u32, bytes: &mut SmallBytes)
+        ensures tables { self.new ≡ (traded self.old (BytesAt frame offset bytes.old)).0 }
+        ensures bytes { BytesAt frame offset bytes.new ≡ (traded self.old (BytesAt frame offset bytes.old)).1 }
+    {
+        self.prints.touch(frame);
+        self.frames.trade_bytes(frame, offset, bytes);
     }
 
     /// Trades what a frame stands under. Where there is no such frame nothing changes.
@@ -53,6 +76,7 @@ impl SiteTables {
         ensures tables { self.new ≡ (traded self.old (ListingAt frame listing.old)).0 }
         ensures listing { ListingAt frame listing.new ≡ (traded self.old (ListingAt frame listing.old)).1 }
     {
+        self.prints.touch(frame);
         self.listings.trade(frame, listing);
     }
 
@@ -63,6 +87,7 @@ impl SiteTables {
         ensures tables { self.new ≡ (traded self.old (FrameWithSlot frame slot)).0 }
         ensures change { FrameWithSlot frame slot ≡ (traded self.old (FrameWithSlot frame slot)).1 }
     {
+        self.prints.touch(frame);
         trade_slots(&mut self.frames, &mut self.slots, frame, slot);
     }
 

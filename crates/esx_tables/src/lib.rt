@@ -6,6 +6,7 @@ mod change;
 mod copy;
 mod exchange;
 pub mod laws;
+mod listed;
 mod machines;
 mod period;
 mod record;

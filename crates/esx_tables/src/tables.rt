@@ -19,6 +19,7 @@ use crate::vm_table::VmTable;
 use esx_formulas::content_key;
 use esx_frames::{Counts, FrameTable};
 use esx_keys::Listings;
+use esx_prints::Prints;
 use esx_swap::Slots;
 use esx_types::{Config, FrameRow, Listing, SlotRow, VmId};
 use std::alloc::{AllocError, Global};
@@ -26,7 +27,7 @@ use std::marker::Model;
 
 /// Every table of a site, and the idle memory tax.
 ///
-/// No change takes memory but `learn_key` and `make_key_room`, which go on without it; the first one of a high row also
+/// No change takes memory but `learn_key`, `make_key_room` and `may_be_listed`, which go on without it; the first one of a high row also
 /// writes the rows below it that were never written. A reading of one row, of a count or of the least free frame or slot
 /// takes the same time whatever the size of the site.
 #[derive(Drop)]
@@ -36,6 +37,7 @@ pub struct SiteTables {
     pub(crate) vms: Machines,
     pub(crate) listings: Listings,
     pub(crate) tau: u32,
+    pub(crate) prints: Prints,
 }
 
 impl Model for SiteTables {
@@ -44,6 +46,10 @@ impl Model for SiteTables {
     ghost Value = { Tables };
 
     ghost view = { λ a. record { frames = a.frames; slots = a.slots; vms = a.vms; listings = a.listings; tau = a.tau } };
+
+    ghost use Rattle.esx_tables.specs.Listed.{AreNoted};
+
+    ghost invariant = { λ a. AreNoted a.frames a.listings a.prints };
 }
 
 fn bytes_of(row: &FrameRow) -> &[u8]
@@ -53,6 +59,16 @@ fn bytes_of(row: &FrameRow) -> &[u8]
         FrameRow::Free | FrameRow::Overhead => &[],
         FrameRow::Private { bytes } => bytes.as_slice(),
         FrameRow::Shared { bytes, .. } => bytes.as_slice(),
+    }
+}
+
+/// The bytes of the page in a frame of a table; none where no page is.
+pub(crate) fn bytes_in(frames: &FrameTable, frame: u32) -> &[u8]
+    ensures { result.now ≡ bytes_of (frame_at frames.now frame) }
+{
+    match frames.get(frame) {
+        Some(row) => bytes_of(row),
+        None => &[],
     }
 }
 
@@ -77,6 +93,7 @@ impl SiteTables {
             vms: Machines::none(alloc)?,
             listings: Listings::new(alloc, config.frames)?,
             tau: config.tau,
+            prints: Prints::new(alloc)?,
         })
     }
 
@@ -126,10 +143,7 @@ impl SiteTables {
     pub fn bytes(&self, frame: u32) -> &[u8]
         ensures { result.now ≡ bytes_of (frame_at self.now.frames frame) }
     {
-        match self.frames.get(frame) {
-            Some(row) => bytes_of(row),
-            None => &[],
-        }
+        bytes_in(&self.frames, frame)
     }
 
     /// The key of the bytes in a frame. It is not worked out anew where it is kept, or that of an equal page is found.

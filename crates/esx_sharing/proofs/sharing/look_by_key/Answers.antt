@@ -1,4 +1,4 @@
-use Rattle.std.proofs.Common.{◌≡◌, ℕ, Option, None, sym, ap, ◌∙◌}
+use Rattle.std.proofs.Common.{◌≡◌, ℕ, None, sym, ap, ◌∙◌}
 use Rattle.std.specs.List.{position_from}
 use Rattle.esx_types.specs.Listings.{is_shared_under, is_hinted_under}
 use Rattle.esx_sharing.specs.Sharing.{look_at_hint, look_by_key}
