@@ -1,15 +1,19 @@
 //! The prints: a mark for each that was noted, and the places whose contents wait for it.
 
-ghost use Rattle.std.specs.Prelude.{◌≡◌, ◌≢◌, ℕ, Bool, List, true, false, IfOk, IfNone, OnOk, length};
-ghost use Rattle.esx_prints.specs.Prints.{print, has_print, Covers, NoneWaits};
+ghost use Rattle.std.specs.Prelude.{◌≡◌, ◌≢◌, ℕ, ◌+◌, ◌-◌, ◌^◌, min, Bool, List, true, false, IfOk, IfNone, OnOk, length};
+ghost use Rattle.std.specs.List.{position_from};
+ghost use Rattle.esx_prints.specs.Prints.{Noted, print, has_print, Covers, NoneWaits, none_known, touched, passed, noted};
 
 use esx_index::FreeIndex;
 use std::alloc::{AllocError, Global};
 use std::hash::{FoldHasher, Hasher};
 use std::marker::Model;
 
-/// How many prints there are, of the 17 bits that `print` takes.
-const PRINTS: usize = 131072;
+/// How many bits of a content's hash are its print.
+const BITS: u32 = 17;
+
+/// How many prints there are.
+const PRINTS: usize = 1 << BITS;
 
 /// After so many notes all is begun anew: until then at most one content in four has a print that another left.
 const NOTES: u32 = 32768;
@@ -32,15 +36,16 @@ pub struct Prints {
     places: u32,
     marks: Vec<bool>,
     notes: u32,
-    credit: u32,
+    looks: u32,
 }
 
 impl Model for Prints {
-    ghost use Rattle.std.specs.Prelude.{List, Bool, ◌≡◌, ◌<◌, ◌^◌, length};
+    ghost use Rattle.std.specs.Prelude.{◌≡◌, ◌<◌, ◌^◌, length};
+    ghost use Rattle.esx_prints.specs.Prints.{Noted};
 
-    ghost Value = { List Bool × List Bool };
+    ghost Value = { Noted };
 
-    ghost view = { λ a. (a.waiting, a.marks.items) };
+    ghost view = { λ a. record { waiting = a.waiting; marks = a.marks.items; looks = a.looks } };
 
     ghost invariant = { λ a. (a.places ≡ length a.waiting) × (a.places < 2 ^ 32) };
 }
@@ -52,40 +57,43 @@ fn print(bytes: &[u8]) -> usize
 {
     let mut hasher = FoldHasher::default();
     hasher.write(bytes);
-    (hasher.finish() >> 47) as usize
+    (hasher.finish() >> (64 - BITS)) as usize
 }
 
 impl Prints {
     /// No place is known, and no memory is taken.
     pub fn new(alloc: Global) -> Result<Prints, AllocError>
-        ensures { IfOk result (λ prints. (counts : ℕ → Bool) (contents : ℕ → List ℕ) → Covers counts contents prints) }
+        ensures { IfOk result (λ prints. prints ≡ none_known) }
     {
         Ok(Prints {
             waiting: FreeIndex::new(alloc, 0)?,
             places: 0,
             marks: Vec::new(alloc),
             notes: 0,
-            credit: 0,
+            looks: 0,
         })
     }
 
-    /// A question about so many places begins: are these the places that are known? Where they are not, or much was noted,
-    /// all is begun anew, once as many looks were earned; where memory is refused for it all stays as it was.
+    /// A question about so many places begins, and earns some looks: are these the places that are known? Where they are
+    /// not, or much was noted, all is begun anew, once as many looks are left; where memory is refused for it all stays
+    /// as it was.
     pub fn begin(&mut self, alloc: Global, places: u32) -> bool
         ensures covers { (counts : ℕ → Bool) (contents : ℕ → List ℕ) → Covers counts contents self.old → Covers counts contents self.new }
-        ensures places { result ≡ true → length self.new.0 ≡ places }
+        ensures places { result ≡ true → length self.new.waiting ≡ places }
+        ensures looks { self.new.looks ≡ min (self.old.looks + EARNED) (2 ^ 32 - 1) }
     {
-        self.credit = self.credit.saturating_add(EARNED);
+        self.looks = self.looks.saturating_add(EARNED);
         if self.places == places && !self.marks.is_empty() && self.notes < NOTES {
             return true;
         }
-        self.credit >= places && self.begin_anew(alloc, places).is_ok()
+        self.looks >= places && self.begin_anew(alloc, places).is_ok()
     }
 
     /// All places wait, and nothing was noted.
     fn begin_anew(&mut self, alloc: Global, places: u32) -> Result<(), AllocError>
         ensures covers { (counts : ℕ → Bool) (contents : ℕ → List ℕ) → Covers counts contents self.old → Covers counts contents self.new }
-        ensures places { OnOk result (length self.new.0 ≡ places) }
+        ensures places { OnOk result (length self.new.waiting ≡ places) }
+        ensures looks { self.new.looks ≡ self.old.looks }
     {
         let waiting = FreeIndex::new(alloc, places as usize)?;
         let marks = vec![in alloc; false; PRINTS]?;
@@ -98,7 +106,8 @@ impl Prints {
 
     /// The content of a place, or whether it counts, may be another from now on.
     pub fn touch(&mut self, place: u32)
-        ensures { (was counts : ℕ → Bool) (old contents : ℕ → List ℕ)
+        ensures prints { self.new ≡ touched place self.old }
+        ensures covers { (was counts : ℕ → Bool) (old contents : ℕ → List ℕ)
             → ((at : ℕ) → at ≢ place → counts at ≡ true → was at ≡ true) → ((at : ℕ) → at ≢ place → contents at ≡ old at)
             → Covers was old self.old → Covers counts contents self.new }
     {
@@ -109,7 +118,8 @@ impl Prints {
 
     /// The least place that waits.
     pub fn waiting(&self) -> Option<u32>
-        ensures { IfNone result (NoneWaits self.now) }
+        ensures least { result ≡ position_from (λ waits. waits) 0 self.now.waiting }
+        ensures none { IfNone result (NoneWaits self.now) }
     {
         match self.waiting.least() {
             Some(place) => Some(place as u32),
@@ -117,22 +127,19 @@ impl Prints {
         }
     }
 
-    /// Is no look left of those that were earned?
-    pub fn is_spent(&self) -> bool {
-        self.credit == 0
-    }
-
-    /// How many looks are left.
-    pub fn credit(&self) -> u32 {
-        self.credit
+    /// How many looks are left of those that were earned.
+    pub fn looks(&self) -> u32
+        ensures { result ≡ self.now.looks }
+    {
+        self.looks
     }
 
     /// A place that does not count waits no more.
     pub fn pass(&mut self, place: u32)
+        ensures prints { self.new ≡ passed place self.old }
         ensures covers { (counts : ℕ → Bool) (contents : ℕ → List ℕ) → counts place ≡ false → Covers counts contents self.old → Covers counts contents self.new }
-        ensures places { length self.new.0 ≡ length self.old.0 }
     {
-        self.credit = self.credit.saturating_sub(1);
+        self.looks = self.looks.saturating_sub(1);
         if place < self.places {
             self.waiting.set(place as usize, false);
         }
@@ -140,16 +147,16 @@ impl Prints {
 
     /// The content of a place is noted, and it waits no more.
     pub fn note(&mut self, place: u32, bytes: &[u8])
+        ensures prints { self.new ≡ noted place bytes.now self.old }
         ensures covers { (counts : ℕ → Bool) (contents : ℕ → List ℕ) → contents place ≡ bytes.now → Covers counts contents self.old → Covers counts contents self.new }
-        ensures places { length self.new.0 ≡ length self.old.0 }
     {
-        self.credit = self.credit.saturating_sub(NOTE);
+        self.looks = self.looks.saturating_sub(NOTE);
         let print = print(bytes);
         if place < self.places && print < self.marks.len() {
             if !self.marks[print] {
-                self.marks[print] = true;
                 self.notes = self.notes.saturating_add(1);
             }
+            self.marks[print] = true;
             self.waiting.set(place as usize, false);
         }
     }
@@ -190,7 +197,7 @@ mod tests {
         assert!(rt; !prints.begin(alloc, 48 + 1));
         assert!(rt; prints.begin(alloc, 48 + 1));
         assert_eq!(rt; prints.waiting(), Some(0));
-        assert_eq!(rt; prints.credit(), 72);
+        assert_eq!(rt; prints.looks(), 72);
         Ok(())
     }
 
@@ -247,7 +254,7 @@ mod tests {
         'spend: for _look in 0..100 {
             prints.note(1, &[1]);
         }
-        assert!(rt; prints.is_spent());
+        assert!(rt; prints.looks() == 0);
         Ok(())
     }
 }

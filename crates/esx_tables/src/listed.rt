@@ -53,11 +53,11 @@ fn may_be_listed(
 fn note_waiting(prints: &mut Prints, frames: &FrameTable, listings: &Listings) -> bool
     requires { AreNoted frames.now listings.now prints.old }
     ensures noted { AreNoted frames.now listings.now prints.new }
-    ensures places { length prints.new.0 ≡ length prints.old.0 }
+    ensures places { length prints.new.waiting ≡ length prints.old.waiting }
     ensures none { result ≡ true → NoneWaits prints.new }
 {
-    'waiting: for _look in 0..prints.credit() {
-        if prints.is_spent() {
+    'waiting: for _look in 0..prints.looks() {
+        if prints.looks() == 0 {
             return false;
         }
         match prints.waiting() {
@@ -72,7 +72,7 @@ fn note_waiting(prints: &mut Prints, frames: &FrameTable, listings: &Listings) -
 fn note(prints: &mut Prints, frames: &FrameTable, listings: &Listings, frame: u32)
     requires { AreNoted frames.now listings.now prints.old }
     ensures noted { AreNoted frames.now listings.now prints.new }
-    ensures places { length prints.new.0 ≡ length prints.old.0 }
+    ensures places { length prints.new.waiting ≡ length prints.old.waiting }
 {
     match listings.get(frame) {
         Listing::Unlisted => prints.pass(frame),

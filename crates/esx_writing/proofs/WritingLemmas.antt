@@ -1,7 +1,7 @@
 -- Writing in parts.
 use Rattle.std.proofs.Common.{◌≡◌, ◌≤◌, ◌-◌, ◌^◌, decimal, true, ℕ, List, [], ◌∷◌, ◌++◌, Option, None, Some, Result, Ok, Err, refl, sym, ◌∙◌, ap, append_assoc, append-nil, take, drop, ◌+◌, ◌<◌, ◌/◌, ◌%◌, arith, length, get_or, add-one, drop-cons}
 use Rattle.std.proofs.lemmas.List.{take-append-drop, length-take-le, take-take}
-use Rattle.std.proofs.lemmas.Fmt.{IsAscii-decimal, decimal_step}
+use Rattle.std.proofs.lemmas.Fmt.{IsAscii-decimal, decimal_digit, decimal_step}
 use Rattle.std.proofs.Math.Seq.{take-append-add, take-append_seam}
 use Rattle.std.specs.Result.{IsErr}
 use Rattle.esx_types.specs.Ends.{write_failures}
@@ -192,7 +192,7 @@ utf8_number n small = IsUtf8-from_ascii (decimal n) (IsAscii-decimal n small)
 
 -- a number's last digit behind those before it
 pub last_digit : (before front bytes : List ℕ) (end after n : ℕ) → 10 ≤ n → n < 2 ^ 64 → after ≡ end + 1 → front ≡ before ++ decimal (n / 10)
-    → take (end + 1) bytes ≡ front ++ (48 + n % 10) ∷ [] → take after bytes ≡ before ++ decimal n
+    → take (end + 1) bytes ≡ front ++ decimal (n % 10) → take after bytes ≡ before ++ decimal n
 last_digit before front bytes end after n long small one first last =
-    ap (λ k. take k bytes) one ∙ last ∙ ap (λ v. v ++ (48 + n % 10) ∷ []) first ∙ append_assoc before (decimal (n / 10)) ((48 + n % 10) ∷ [])
+    ap (λ k. take k bytes) one ∙ last ∙ ap (λ v. front ++ v) (decimal_digit (n % 10) (omega arith)) ∙ ap (λ v. v ++ (48 + n % 10) ∷ []) first ∙ append_assoc before (decimal (n / 10)) ((48 + n % 10) ∷ [])
     ∙ ap (λ v. before ++ v) (sym (decimal_step n long small))

@@ -38,7 +38,7 @@ impl Model for AnswerBuffer {
 fn write_digit(bytes: &mut [u8], count: usize, digit: u8)
     requires digit { digit < 10 }
     requires room { count < length bytes.old }
-    ensures { take (count + 1) bytes.new ≡ take count bytes.old ++ (48 + digit) ∷ [] }
+    ensures { take (count + 1) bytes.new ≡ take count bytes.old ++ decimal digit }
 {
     bytes[count] = b'0' + digit;
 }
@@ -108,17 +108,27 @@ impl AnswerBuffer {
         self.count = end;
     }
 
-    /// Adds a number where there is room for the longest. Up to four digits are made one by one.
+    /// Adds a number where there is room for the longest.
     #[inline(always)]
     pub fn push_number(&mut self, number: u64)
         requires { length self.old + DIGITS ≤ ROOM }
         ensures { self.new ≡ self.old ++ decimal number }
     {
         if number < 10 {
-            self.bytes[self.count] = b'0' + number as u8;
+            write_digit(&mut self.bytes, self.count, number as u8);
             self.count += 1;
             return;
         }
+        self.push_longer(number);
+    }
+
+    /// The same of two digits or more. Up to four are made one by one.
+    #[inline(never)]
+    fn push_longer(&mut self, number: u64)
+        requires least { 10 ≤ number }
+        requires room { length self.old + DIGITS ≤ ROOM }
+        ensures { self.new ≡ self.old ++ decimal number }
+    {
         if number < 100 {
             write_two_digits(&mut self.bytes, self.count, number as u32);
             self.count += 2;

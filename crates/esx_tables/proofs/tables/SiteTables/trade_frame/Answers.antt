@@ -6,5 +6,5 @@ pub invariant_of-self : goal.invariant_of-self
 invariant_of-self c =
     let rows = c.self.inside.frames in
     let listed = is_listed_at c.self.inside.listings in
-    c.touch.ensures listed listed (content_at rows) (content_at c.trade.new.self) (λ at other there. there)
+    c.touch.ensures.covers listed listed (content_at rows) (content_at c.trade.new.self) (λ at other there. there)
     (λ at other. rw c.trade.ensures.rows (content_elsewhere rows c.args.frame _ at other)) c.self.invariant

@@ -7,5 +7,5 @@ pub invariant_of-self : goal.invariant_of-self
 invariant_of-self c =
     let listings = c.self.inside.listings in
     let content = content_at c.self.inside.frames in
-    c.touch.ensures (is_listed_at listings) (is_listed_at c.trade.new.self) content content
+    c.touch.ensures.covers (is_listed_at listings) (is_listed_at c.trade.new.self) content content
     (λ at other there. sym (rw c.trade.ensures.listings (listed_elsewhere listings c.args.frame _ at other)) ∙ there) (λ at other. refl) c.self.invariant
