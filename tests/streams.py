@@ -163,6 +163,30 @@ def each_size(draw, page):
     yield "sum"
 
 
+def leaving(draw):
+    """Pages that leave beside others that stand under keys: few or many of them, alike, unlike, and alike or unlike again after
+    a write, an undo or a return."""
+    page, pages, listed = draw.choice([256, 272, 400, 4096]), draw.choice([8, 30, 120]), draw.choice([0.02, 0.1, 0.3])
+    few = Contents(draw, page)
+    yield site(2 * pages + 4, page, 2 * pages, 75, (50, 50, 50, 1))
+    yield from opened([(1, pages, 1, 1000, 0)] * 2)
+    for vm in (0, 1):
+        yield from [f"write {vm} {number} {draw.choice([few.whole(), f'{page - 4} {draw.getrandbits(32):08x}'])}"
+                    for number in range(pages)]
+    yield "rebalance"
+    for _ in range(draw.choice([100, 400])):
+        vm, number, chance = draw.randrange(2), draw.randrange(pages), draw.random()
+        if chance < 0.5:
+            yield f"swapout {vm} {word(draw)}"
+        elif chance < 0.5 + listed:
+            yield f"scan {vm} {number}"
+        elif chance < 0.9:
+            yield draw.choice([f"write {vm} {number} {few.part()}", f"read {vm} {number} 0 1", f"write {vm} {number} {few.whole()}"])
+        else:
+            yield from moves(draw, 4 + pages, draw.choice([f"page {vm} {number}", "table", "sum"]))
+    yield from [f"read {vm} {number} 0 {page}" for vm in (0, 1) for number in range(pages)]
+
+
 def many_contents(draw, count):
     """More contents than the program notes, each on one page, and then some of them again."""
     page = draw.choice([384, 400])

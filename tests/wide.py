@@ -21,8 +21,8 @@ from program import Told, Wrong, ask, expect, file_of
 
 SEED = 20021212
 PARTS = 4
-COUNTS = {"contents": 120, "shorts": 60, "paging": 12, "replacing": 16, "samples": 40, "targets": 40, "prunes": 40, "digits": 6,
-          "mixed": 80}
+COUNTS = {"contents": 120, "shorts": 60, "leaving": 24, "paging": 12, "replacing": 16, "samples": 40, "targets": 40, "prunes": 40,
+          "digits": 6, "mixed": 80}
 SUM = re.compile(rb"overhead (\d+) private (\d+) shared (\d+) free (\d+) (?:high|soft|hard|low)\n")
 
 

@@ -55,6 +55,16 @@ impl Console {
         Console::over(alloc, config, Vec::new(alloc))
     }
 
+    /// Takes room for so many calls to come, so that neither the log nor the tree of events moves while they are made.
+    /// Where it is refused, each takes its own as it comes.
+    pub fn make_room(&mut self, calls: usize)
+        ensures { self.new ≡ self.old }
+    {
+        if self.log.reserve(calls).is_ok() {
+            self.journal.make_room(calls);
+        }
+    }
+
     /// The lines so far, the oldest first.
     pub fn log(&self) -> &[Line]
         ensures lines { result.now ≡ self.now.log }

@@ -68,6 +68,14 @@ impl Journal {
         })
     }
 
+    /// Takes room for so many events to come, or for as many as can be made. Where it is refused, each takes its own as
+    /// it comes.
+    pub fn make_room(&mut self, events: usize)
+        ensures { self.new ≡ self.old }
+    {
+        self.rows.make_room(events.min(self.nodes as usize));
+    }
+
     /// Makes an event, and gives its answer twice, once for a log.
     ///
     /// The event becomes a child of the cursor's node, and the cursor goes there. `Full` comes where all

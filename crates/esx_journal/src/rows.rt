@@ -75,6 +75,15 @@ impl Rows {
         })
     }
 
+    /// Takes room for so many more rows. Where it is refused, each takes its own as it comes.
+    pub fn make_room(&mut self, more: usize)
+        ensures { self.new ≡ self.old }
+    {
+        if self.links.reserve(more).is_ok() {
+            let _ = self.records.reserve(more);
+        }
+    }
+
     pub fn len(&self) -> usize
         ensures { result ≡ length self.now }
     {

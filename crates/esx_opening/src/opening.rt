@@ -86,7 +86,16 @@ fn start_all(console: &mut Console, guests: &[&Guest]) -> Result<(), SiteFault>
     Ok(())
 }
 
-/// Opens the site of a scenario. As caller 0 it admits each machine, in the order of their numbers, and then takes
+/// How many calls the traces make at least, each in its turns.
+fn calls_of_traces(guests: &[Guest], turns: u32) -> usize {
+    let mut calls = 0usize;
+    for guest in guests {
+        calls = calls.saturating_add(guest.trace.len().min(turns as usize));
+    }
+    calls
+}
+
+/// Opens the site of a scenario, with room for the calls of its traces. As caller 0 it admits each machine, in the order of their numbers, and then takes
 /// each one's overhead frames, with the last of which it runs. The first refusal of these calls ends it.
 pub fn open_site(alloc: Global, scenario: &Scenario) -> Result<Console, SiteFault>
     ensures ok { IfOk result (λ console. AreAccepted (opening_events scenario.now.guests) (opened_session scenario.now.site) console) }
@@ -98,5 +107,6 @@ pub fn open_site(alloc: Global, scenario: &Scenario) -> Result<Console, SiteFaul
     let guests = in_order(alloc, scenario.guests())?;
     admit_all(&mut console, &guests)?;
     start_all(&mut console, &guests)?;
+    console.make_room(calls_of_traces(scenario.guests(), scenario.settings().turns));
     Ok(console)
 }

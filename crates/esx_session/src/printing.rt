@@ -218,6 +218,18 @@ pub fn write_session<W: Sink>(
     write_held(sink, held)
 }
 
+/// How many bytes a call and its reply have at least, in most sessions.
+const CALL_BYTES: usize = 32;
+
+/// No bytes, with room for so many calls and their replies where that is not refused.
+fn with_room(alloc: Global, calls: usize) -> Vec<u8>
+    ensures { result.items ≡ [] }
+{
+    let mut bytes = Vec::new(alloc);
+    let _ = bytes.reserve(calls.saturating_mul(CALL_BYTES));
+    bytes
+}
+
 /// The session of a site and a log, by a count of the writes.
 fn session_bytes<L: Ledger>(
     alloc: Global,
@@ -232,7 +244,7 @@ fn session_bytes<L: Ledger>(
     ensures utf8 { IfOk result (λ bytes. IsUtf8 bytes.items) }
 {
     let mut held = AnswerBuffer::new(alloc)?;
-    let mut sink = MemorySink::<L>::new(Vec::new(alloc), blank);
+    let mut sink = MemorySink::<L>::new(with_room(alloc, log.len()), blank);
     match write_session(&mut sink, &mut held, site, log) {
         Ok(()) => Ok(sink.into_bytes()),
         Err(SinkFailed) => Err(AllocError),
