@@ -65,10 +65,10 @@ vm_sync : IsSync VmTable.the_row
 vm_sync = search (sendable, below.crosses) depth 60 fits 8000
 
 tables_send : IsSend SiteTables.the_row
-tables_send = search (index_send, frames_send, slots_send, prints_send, vm_send, sendable, below.crosses) depth 60 fits 8000
+tables_send = search (frames_send, slots_send, prints_send, vm_send, sendable, below.crosses) depth 60 fits 8000
 
 tables_sync : IsSync SiteTables.the_row
-tables_sync = search (index_sync, frames_sync, slots_sync, prints_sync, vm_sync, sendable, below.crosses) depth 60 fits 8000
+tables_sync = search (frames_sync, slots_sync, prints_sync, vm_sync, sendable, below.crosses) depth 60 fits 8000
 
 change_send : IsSend Change.the_row
 change_send = search (vm_send, sendable, below.crosses) depth 60 fits 8000
