@@ -45,5 +45,5 @@ returns-clause-ok c =
     let again : map (λ (g : Bor Guest). g.now) later ≡ gs = ap (λ (l : List (Bor Guest)). map (λ (g : Bor Guest). g.now) l) c.deref-2.ensures.value ∙ (c.in_ok-guests.ensures.items ∙ ap in_order c.guests.ensures.same) in
     let admitted : AreAccepted (flat_map admit_of gs) (opened_session c.args.scenario.now.site) c.admit_all.new.console =
     subst (λ (s : Session). AreAccepted (flat_map admit_of gs) s c.admit_all.new.console) opened (subst (λ (l : List Event). AreAccepted l c.in-Ok.console c.admit_all.new.console) (behind admit_of refs gs order) c.in_ok-admit_all.ensures.ok) in
-    accepted_on (flat_map admit_of gs) (flat_map starts_of gs) (opened_session c.args.scenario.now.site) c.admit_all.new.console c.start_all.new.console admitted
-    (subst (λ (l : List Event). AreAccepted l c.admit_all.new.console c.start_all.new.console) (behind starts_of later gs again) c.in_ok-start_all.ensures.ok)
+    rw c.make_room.ensures (accepted_on (flat_map admit_of gs) (flat_map starts_of gs) (opened_session c.args.scenario.now.site) c.admit_all.new.console c.start_all.new.console admitted
+    (subst (λ (l : List Event). AreAccepted l c.admit_all.new.console c.start_all.new.console) (behind starts_of later gs again) c.in_ok-start_all.ensures.ok))
