@@ -1,4 +1,5 @@
-use Rattle.std.proofs.Common.{inl, inr, ◌≡◌, ◌∷◌, [], ◌++◌, sym, ◌∙◌, ap, refl, rules, append_assoc, ◌+◌, arith}
+use Rattle.std.proofs.lemmas.List.{nil_from_length}
+use Rattle.std.proofs.Common.{inl, inr, ◌≡◌, ◌∷◌, [], ◌++◌, sym, ◌∙◌, ap, refl, rules, append-nil, append_assoc, ◌+◌, arith}
 use Rattle.esx_check.specs.Again.{made}
 use Rattle.esx_check.specs.Wants.{NextWantsMemory}
 use Rattle.esx_check.proofs.AgainLemmas.{first_again, again_more, again_nothing}
@@ -71,3 +72,11 @@ returns-in_err-has_same_reply-clause-some g c =
 
 pub returns-then-not-branch-clause-gate : goal.returns-then-not-branch-clause-gate
 returns-then-not-branch-clause-gate g c = passed_more _ _ _ _ _ c.loop-entry.invariant.gate c.in_ok-has_same_reply.ensures.gate
+
+pub returns-clause-ok : goal.returns-clause-ok
+returns-clause-ok g c =
+    let so_far = c.loop-entry.invariant in
+    let done = c.loop-entry.yielded in
+    let none : c.loop-entry.entry-iterator.rest.items ≡ [] = nil_from_length _ (sym c.loop-entry.entry-iterator.rest.ok.0 ∙ c.in-None.ensures.steps.0) in
+    let all : c.args.entries.items ≡ done = so_far.split ∙ ap (λ v. done ++ v) none ∙ append-nil done in
+    rw all (so_far.count, so_far.same)

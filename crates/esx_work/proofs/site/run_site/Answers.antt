@@ -30,6 +30,9 @@ returns-in_err-console-clause-refused g c = handed_on c.from_residual.result c.i
 no_refusal : (e : Refusal) → faults.OutOfMemory ≡ faults.Refused e → ⊥
 no_refusal e is = cc
 
+pub returns-in_err-guests-clause-refused : goal.returns-in_err-guests-clause-refused
+returns-in_err-guests-clause-refused g c = handed_on c.from_residual-in_err-guests.result faults.OutOfMemory _ c.from_residual-in_err-guests.ensures.1 (λ e is. absurd (no_refusal e is))
+
 pub returns-in_err-machines-clause-refused : goal.returns-in_err-machines-clause-refused
 returns-in_err-machines-clause-refused g c = handed_on c.from_residual-in_err-machines.result faults.OutOfMemory _ c.from_residual-in_err-machines.ensures.1 (λ e is. absurd (no_refusal e is))
 
