@@ -1,5 +1,8 @@
 use Rattle.std.proofs.Common.{inr, ℕ, sym, ◌∙◌, subst, ◌++◌, ◌∷◌, []}
 use Rattle.std.proofs.lemmas.Result.{err_from_is_err_and}
+use Rattle.std.specs.Prelude.{Err}
+use Rattle.std.specs.Result.{IsErrOf}
+use Rattle.esx_reading.specs.declared.fault.TextFault.{TextFault}
 use Rattle.esx_session.specs.Reading.{Follows}
 use Rattle.esx_check.specs.Again.{made}
 use Rattle.esx_check.specs.Gates.{PassedFor}
@@ -80,12 +83,16 @@ pub returns-then-not-same-clause-gate : goal.returns-then-not-same-clause-gate
 returns-then-not-same-clause-gate g c =
     passed_as _ _ _ _ _ (c.from-call.ensures ∙ c.count.ensures ∙ c.in-Ok.ensures.count) (passed_more _ _ _ _ _ c.loop-calls.invariant.gate c.in-Ok.ensures.gate)
 
+-- the same fault, of whatever comes where there is none
+told_again : {A B : Type 0} (x y : TextFault) → IsErrOf {T = A} (Err x) y → IsErrOf {T = B} (Err x) y
+told_again x y same = cc
+
 pub returns-in_err-entry-clause-bad : goal.returns-in_err-entry-clause-bad
 returns-in_err-entry-clause-bad g c = λ text site line follows past is.
     let kept = c.loop-calls.invariant.so_far text site follows past in
     let p = err_from_is_err_and c.from_residual.result c.from_residual.ensures.1 in
     let bad = rw (p.1, p.2) at is in
-    let near = c.in_err-entry.ensures.near line (cc) in
+    let near = c.in_err-entry.ensures.near line (told_again _ _ bad) in
     some_of _ _ _ _ _ (inr (stops_behind_last text _ _ _ _ (so_far text _ _ kept) near)) c.loop-calls.invariant.gate
 
 pub returns-in_err-read_on-clause-bad : goal.returns-in_err-read_on-clause-bad
