@@ -68,8 +68,8 @@ impl Journal {
         })
     }
 
-    /// Takes room for so many events to come, or for as many as can be made. Where it is refused, each takes its own as
-    /// it comes.
+    /// Takes room for so many events to come, or for as many as a journal of its limit may have. Where it is refused, each
+    /// takes its own as it comes.
     pub fn make_room(&mut self, events: usize)
         ensures { self.new ≡ self.old }
     {

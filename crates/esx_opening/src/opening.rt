@@ -86,7 +86,7 @@ fn start_all(console: &mut Console, guests: &[&Guest]) -> Result<(), SiteFault>
     Ok(())
 }
 
-/// How many calls the traces make at least, each in its turns.
+/// How many lines the traces have, of each guest no more than it has turns.
 fn calls_of_traces(guests: &[Guest], turns: u32) -> usize {
     let mut calls = 0usize;
     for guest in guests {
@@ -95,8 +95,9 @@ fn calls_of_traces(guests: &[Guest], turns: u32) -> usize {
     calls
 }
 
-/// Opens the site of a scenario, with room for the calls of its traces. As caller 0 it admits each machine, in the order of their numbers, and then takes
-/// each one's overhead frames, with the last of which it runs. The first refusal of these calls ends it.
+/// Opens the site of a scenario, with room for the calls of its traces. As caller 0 it admits each machine, in the order
+/// of their numbers, and then takes each one's overhead frames, with the last of which it runs. The first refusal of
+/// these calls ends it.
 pub fn open_site(alloc: Global, scenario: &Scenario) -> Result<Console, SiteFault>
     ensures ok { IfOk result (λ console. AreAccepted (opening_events scenario.now.guests) (opened_session scenario.now.site) console) }
     ensures refused { IfErr result (λ fault. (e : Refusal) → fault ≡ SiteFault.Refused e → IsRefusedAt (opening_events scenario.now.guests) (opened_session scenario.now.site) e) }

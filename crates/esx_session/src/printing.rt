@@ -218,7 +218,7 @@ pub fn write_session<W: Sink>(
     write_held(sink, held)
 }
 
-/// How many bytes a call and its reply have at least, in most sessions.
+/// Room for a call and its reply in a text, which most of them fill.
 const CALL_BYTES: usize = 32;
 
 /// No bytes, with room for so many calls and their replies where that is not refused.

@@ -49,7 +49,7 @@ fn may_be_listed(
     prints.has(bytes_in(frames, frame))
 }
 
-/// Notes the content of each listed frame that waits. Does none wait then?
+/// Notes the contents of listed frames that wait, as far as the looks last. Yes only where none waits then.
 fn note_waiting(prints: &mut Prints, frames: &FrameTable, listings: &Listings) -> bool
     requires { AreNoted frames.now listings.now prints.old }
     ensures noted { AreNoted frames.now listings.now prints.new }

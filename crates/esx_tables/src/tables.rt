@@ -27,9 +27,9 @@ use std::marker::Model;
 
 /// Every table of a site, and the idle memory tax.
 ///
-/// No change takes memory but `learn_key`, `make_key_room` and `may_be_listed`, which go on without it; the first one of a high row also
-/// writes the rows below it that were never written. A reading of one row, of a count or of the least free frame or slot
-/// takes the same time whatever the size of the site.
+/// No change takes memory but `learn_key`, `make_key_room` and `may_be_listed`, which go on without it; the first one of
+/// a high row also writes the rows below it that were never written. A reading of one row, of a count or of the least
+/// free frame or slot takes the same time whatever the size of the site.
 #[derive(Drop)]
 pub struct SiteTables {
     pub(crate) frames: FrameTable,
